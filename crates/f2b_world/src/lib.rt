@@ -1,0 +1,24 @@
+//! The outside of the server: its calls, what they answer, and the history that they make.
+//!
+//! Each call is a method of a small trait by concern. All traits share one parent, `Outside`, through which a contract sees what a
+//! world has told: the list of its calls with their answers, and how often each kind of fault came. Patterns are built here too,
+//! since building one is a call on the outside: whether a pattern is too big is known to the library alone.
+#![tactic(auto)]
+
+mod answer;
+mod event;
+mod faults;
+mod outside;
+mod pattern;
+
+pub use answer::{
+    Accept, GateRead, GateWrite, Len, Listen, Look, MakeAnswer, NamesAnswer, Piece, PollAnswer,
+    Said, StartAnswer, StoreAnswer, Synced, Wrote,
+};
+pub use event::Event;
+pub use faults::{Faults, raised};
+pub use outside::{
+    Children, Configuration, Directories, Disk, Gate, Logs, Outside, Patterns, Sink, Store, Time,
+    World,
+};
+pub use pattern::{Made, Pattern, build_pattern};

@@ -1,0 +1,54 @@
+//! Patterns, which contracts see as their texts.
+ghost use Rattle.f2b_world.specs.Reading.{IsMadeOf};
+
+use regex::{Error, Regex};
+use std::alloc::Global;
+use std::fmt;
+use std::marker::Model;
+
+/// A pattern that was built. Its text has a reading.
+#[derive(Drop)]
+pub struct Pattern {
+    regex: Regex,
+}
+
+impl Model for Pattern {
+    ghost use Rattle.std.specs.Prelude.{◌≡◌, ℕ, List};
+    ghost use Rattle.regex.specs.Strings.{regex_source, regex_config, IsReadFromSource};
+    ghost use Rattle.regex.specs.Patterns.{default_config};
+
+    ghost Value = { List ℕ };
+
+    ghost view = { λ p. regex_source p.regex };
+
+    ghost invariant = { λ p. (regex_config p.regex ≡ default_config) × IsReadFromSource p.regex };
+}
+
+impl fmt::Debug for Pattern {
+    fn fmt<W: fmt::Write>(&self, f: &mut fmt::Formatter<W>) -> fmt::Result {
+        write!(f, "Pattern")
+    }
+}
+
+/// What the building of a pattern gave.
+#[derive(Debug, Drop)]
+pub enum Made {
+    Built(Pattern),
+    /// The text has no reading, or nests deeper than 250.
+    Syntax,
+    TooBig,
+    NoMemory,
+}
+
+/// Builds the pattern of a text.
+pub fn build_pattern(alloc: Global, text: &str) -> Made
+    ensures { IsMadeOf text.now result }
+{
+    match Regex::new(alloc, text) {
+        Ok(regex) => Made::Built(Pattern { regex }),
+        Err(Error::Syntax(_)) => Made::Syntax,
+        Err(Error::CompiledTooBig) => Made::TooBig,
+        Err(Error::Internal) => Made::TooBig,
+        Err(Error::OutOfMemory) => Made::NoMemory,
+    }
+}
