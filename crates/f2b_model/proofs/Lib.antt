@@ -12,3 +12,4 @@ pub mod NumberLemmas
 pub mod WindowLemmas
 pub mod StandLemmas
 pub mod PartLemmas
+pub mod Rows

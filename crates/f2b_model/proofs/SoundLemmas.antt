@@ -14,7 +14,7 @@ use Rattle.f2b_model.specs.Nows.{jail_now}
 use Rattle.f2b_model.specs.Moves.{counts, counted, begun, found, banned, limited, is_banned, is_near, is_stale, new_ban, kept}
 use Rattle.f2b_base.specs.declared.ban.Span.{Span}
 use Rattle.f2b_base.specs.declared.ban.Span.TheVariants.{Secs, Never as Endless}
-use Rattle.f2b_model.specs.Span.{span_of}
+use Rattle.f2b_base.specs.Span.{span_of}
 use Rattle.f2b_model.specs.Until.{last_moment, until_after, until_of}
 use Rattle.f2b_model.specs.Lists.{in_order}
 use Rattle.f2b_model.specs.Steps.{moves, moves_now, is_due, own_end, ends_before, is_meant}

@@ -1,6 +1,5 @@
 pub mod Lists
 pub mod Full
-pub mod Span
 pub mod Until
 pub mod State
 pub mod Nows

@@ -5,7 +5,7 @@ use Rattle.f2b_base.specs.declared.ban.Span.{Span}
 use Rattle.f2b_base.specs.declared.ban.Span.TheVariants.{Secs, Never as Endless}
 use Rattle.f2b_base.specs.declared.ban.Until.{Until}
 use Rattle.f2b_base.specs.declared.ban.Until.TheVariants.{Never, At}
-use Rattle.f2b_model.specs.Span.{span_of}
+use Rattle.f2b_base.specs.Span.{span_of}
 
 -- the last second that a moment can be
 abbrev pub last_moment : ℕ

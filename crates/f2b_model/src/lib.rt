@@ -7,7 +7,7 @@
 //! This cut speaks of failures and bans alone. Jobs of actions, lanes, followed logs, the lists of addresses that are never banned
 //! and stopping are no part of the state yet: inputs that speak of them leave it as it is.
 //!
-//! No function here does anything.
+//! But for copies and comparisons, no function here does anything.
 #![tactic(auto)]
 
 mod happening;
