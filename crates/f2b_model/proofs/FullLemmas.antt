@@ -1,10 +1,10 @@
 -- When an address is full: the rule in its own words, the test, and what may be left out.
 use Rattle.std.proofs.Common.{◌≡◌, ℕ, suc, ◌+◌, ◌<◌, ◌≤◌, Bool, true, false, ◌&&◌, nat_lt, nat_le, List, [], ◌∷◌, ◌++◌, length, inl, inr, refl, sym, ◌∙◌, ap, arith, ◌↔◌, length-append, pred, ◌==◌}
-use Rattle.std.specs.List.{filter}
+use Rattle.std.specs.List.{filter, list_any}
 use Rattle.std.proofs.lemmas.Bool.Decides.{nat_tests}
 use Rattle.f2b_base.specs.declared.addr.Addr.{Addr}
 use Rattle.f2b_base.specs.declared.ban.Failure.{Failure}
-use Rattle.f2b_model.specs.Lists.{some_of, in_order, IsOrder, IsIn}
+use Rattle.f2b_model.specs.Lists.{in_order, IsOrder, IsIn}
 use Rattle.f2b_model.specs.Full.{is_of, in_span, how_many, IsFull, is_full, IsChoice, IsFullByChoice, is_late}
 use Rattle.f2b_model.specs.Full.IsChoice.{none, left, taken}
 use Rattle.f2b_model.proofs.ListLemmas.{by_test, filter-append, filter_both, in_order_filter, length_in_order, filter_swap}
@@ -126,24 +126,24 @@ full_in_order less order findtime maxretry addr fs = (
 )
 
 -- the test
-some_of_true : {A : Type 0} (p : A → Bool) (xs : List A) → some_of p xs ≡ true → (x : A) × IsIn x xs × (p x ≡ true)
-some_of_true p [] h = absurd (let e : false ≡ true = h in cc)
-some_of_true p (x ∷ xs) h =
+any_true : {A : Type 0} (p : A → Bool) (xs : List A) → list_any p xs ≡ true → (x : A) × IsIn x xs × (p x ≡ true)
+any_true p [] h = absurd (let e : false ≡ true = h in cc)
+any_true p (x ∷ xs) h =
     by_test (p x) _
     (λ e. (x, inl refl, e))
-    (λ e. let h2 : some_of p xs ≡ true = rw e at h in let r = some_of_true p xs h2 in (r.0, inr r.1, r.2))
+    (λ e. let h2 : list_any p xs ≡ true = rw e at h in let r = any_true p xs h2 in (r.0, inr r.1, r.2))
 
-true_some_of : {A : Type 0} (p : A → Bool) (xs : List A) (x : A) → IsIn x xs → p x ≡ true → some_of p xs ≡ true
-true_some_of p [] x i h = absurd i
-true_some_of p (y ∷ ys) x i h =
+true_any : {A : Type 0} (p : A → Bool) (xs : List A) (x : A) → IsIn x xs → p x ≡ true → list_any p xs ≡ true
+true_any p [] x i h = absurd i
+true_any p (y ∷ ys) x i h =
     elim i [
       | inl e ↦ let d : p y ≡ true = ap p (sym e) ∙ h in rw d refl
-      | inr j ↦ by_test (p y) _ (λ d. rw d refl) (λ d. rw d (true_some_of p ys x j h))
+      | inr j ↦ by_test (p y) _ (λ d. rw d refl) (λ d. rw d (true_any p ys x j h))
     ]
 
 pub full_of_test : (findtime maxretry : ℕ) (addr : Addr) (fs : List Failure) → is_full findtime maxretry addr fs ≡ true → IsFull findtime maxretry addr fs
 full_of_test findtime maxretry addr fs h =
-    let r = some_of_true _ fs h in
+    let r = any_true _ fs h in
     record { start = r.0.time; many = le_true _ _ r.2 }
 
 -- the earliest of those that pass
@@ -208,7 +208,7 @@ pub test_of_full : (findtime maxretry : ℕ) (addr : Addr) (fs : List Failure) �
 test_of_full findtime maxretry addr fs positive full =
     let many = full.many in
     let r = earliest (in_span addr full.start findtime) fs (omega arith) in
-    true_some_of _ fs r.f r.within (true_le _ _ (
+    true_any _ fs r.f r.within (true_le _ _ (
     let fewer = filter_fewer (in_span addr full.start findtime) (in_span addr r.f.time findtime) fs
     (λ g i q. let s = stands addr full.start findtime g q in
     let t = stands addr full.start findtime r.f r.passes in

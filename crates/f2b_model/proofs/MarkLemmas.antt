@@ -63,14 +63,14 @@ pub kept_of-all : (ps : List Past) → kept_of (map (λ (p : Past). record { pas
 kept_of-all [] = refl
 kept_of-all (p ∷ ps) = ap (λ r. p ∷ r) (kept_of-all ps)
 
-addr_not_both : (a b : Addr) → addr_before a b ≡ true → addr_before b a ≡ false
+pub addr_not_both : (a b : Addr) → addr_before a b ≡ true → addr_before b a ≡ false
 addr_not_both (V4 a) (V4 b) h = grind (arith, nat_tests)
 addr_not_both (V4 a) (V6 b) h = refl
 addr_not_both (V6 a) (V4 b) h = absurd (let e : false ≡ true = h in cc)
 addr_not_both (V6 a) (V6 b) h = grind (arith, nat_tests)
 
 -- a < b and b ≤ c
-addr_onward : (a b c : Addr) → addr_before a b ≡ true → addr_before c b ≡ false → addr_before a c ≡ true
+pub addr_onward : (a b c : Addr) → addr_before a b ≡ true → addr_before c b ≡ false → addr_before a c ≡ true
 addr_onward (V4 a) (V4 b) (V4 c) h g = grind (arith, nat_tests)
 addr_onward (V4 a) (V4 b) (V6 c) h g = refl
 addr_onward (V4 a) (V6 b) (V4 c) h g = absurd (let e : true ≡ false = g in cc)
@@ -80,7 +80,7 @@ addr_onward (V6 a) (V6 b) (V4 c) h g = absurd (let e : true ≡ false = g in cc)
 addr_onward (V6 a) (V6 b) (V6 c) h g = grind (arith, nat_tests)
 
 -- a ≤ b and b < c
-addr_across : (a b c : Addr) → addr_before b a ≡ false → addr_before b c ≡ true → addr_before a c ≡ true
+pub addr_across : (a b c : Addr) → addr_before b a ≡ false → addr_before b c ≡ true → addr_before a c ≡ true
 addr_across (V4 a) (V4 b) (V4 c) h g = grind (arith, nat_tests)
 addr_across (V4 a) (V4 b) (V6 c) h g = refl
 addr_across (V4 a) (V6 b) (V4 c) h g = absurd (let e : false ≡ true = g in cc)
@@ -90,7 +90,7 @@ addr_across (V6 a) (V6 b) (V4 c) h g = absurd (let e : false ≡ true = g in cc)
 addr_across (V6 a) (V6 b) (V6 c) h g = grind (arith, nat_tests)
 
 -- a ≤ b and b ≤ c
-addr_up : (a b c : Addr) → addr_before b a ≡ false → addr_before c b ≡ false → addr_before c a ≡ false
+pub addr_up : (a b c : Addr) → addr_before b a ≡ false → addr_before c b ≡ false → addr_before c a ≡ false
 addr_up a b c h g = by_test (addr_before c a) _ (λ e. absurd (let d = addr_onward c a b e h in let k : true ≡ false = sym d ∙ g in cc)) (λ e. e)
 
 -- what the order of failures says

@@ -1,9 +1,10 @@
 -- When an address has failed too often.
 use Rattle.std.specs.Prelude.{◌≡◌, ℕ, ◌+◌, ◌*◌, ◌<◌, ◌≤◌, Bool, false, ◌&&◌, ◌==◌, nat_lt, nat_le, List, [], ◌∷◌, length, filter}
+use Rattle.std.specs.List.{list_any}
 use Rattle.f2b_base.specs.declared.addr.Addr.{Addr}
 use Rattle.f2b_base.specs.declared.addr.Addr.TheVariants.{V4, V6}
 use Rattle.f2b_base.specs.declared.ban.Failure.{Failure}
-use Rattle.f2b_model.specs.Lists.{some_of, IsIn}
+use Rattle.f2b_model.specs.Lists.{IsIn}
 
 -- whether two addresses are one
 abbrev pub same_addr : Addr → Addr → Bool
@@ -31,7 +32,7 @@ pub record IsFull (findtime maxretry : ℕ) (addr : Addr) (fs : List Failure) : 
 
 -- the same by a test: some failure begins such a span
 abbrev pub is_full : ℕ → ℕ → Addr → List Failure → Bool
-is_full findtime maxretry addr fs = some_of (λ f. nat_le maxretry (how_many addr f.time findtime fs)) fs
+is_full findtime maxretry addr fs = list_any (λ f. nat_le maxretry (how_many addr f.time findtime fs)) fs
 
 -- a choice of a list: some of its elements, each at most once
 pub data IsChoice {A : Type 0} : List A → List A → Type 0 where

@@ -1,11 +1,11 @@
 -- The moves of a step on one jail with whole lists.
 use Rattle.std.specs.Prelude.{ℕ, suc, ◌+◌, ◌-◌, ◌^◌, min, Bool, true, false, cond, not, ◌&&◌, ◌==◌, nat_lt, nat_le, List, [], ◌∷◌, ◌++◌, length, filter, ℤ}
+use Rattle.std.specs.List.{list_any}
 use Rattle.f2b_base.specs.declared.addr.Addr.{Addr}
 use Rattle.f2b_base.specs.declared.ban.Ban.{Ban}
 use Rattle.f2b_base.specs.declared.ban.Failure.{Failure}
 use Rattle.f2b_base.specs.declared.jail.JailDef.{JailDef}
 use Rattle.f2b_base.specs.declared.ban.Past.{Past}
-use Rattle.f2b_model.specs.Lists.{some_of}
 use Rattle.f2b_model.specs.Full.{same_addr, is_of, is_full}
 use Rattle.f2b_model.specs.Until.{until_of}
 use Rattle.f2b_model.specs.State.{Jail, open_of, active_of, kept_of, forget, stop, drop_ends}
@@ -28,7 +28,7 @@ past_of addr p = same_addr p.addr addr
 
 -- whether some of the bans is the address's
 abbrev pub is_banned : Addr → List Ban → Bool
-is_banned addr bans = some_of (ban_of addr) bans
+is_banned addr bans = list_any (ban_of addr) bans
 
 -- whether a failure of the address is less than `findtime` from a time, before or after
 abbrev pub is_near_to : Addr → ℕ → ℕ → Failure → Bool

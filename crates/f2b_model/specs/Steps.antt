@@ -1,5 +1,6 @@
 -- The step, over any kind of jail: once over jails with whole lists, and once over their middle states, which is what code does.
 use Rattle.std.specs.Prelude.{ℕ, ◌^◌, max, Bool, true, false, cond, nat_lt, nat_le, List, [], ◌∷◌, filter, map, ℤ, bytes_eq, Option, Some, None}
+use Rattle.std.specs.List.{list_any}
 use Rattle.f2b_base.specs.declared.addr.Addr.{Addr}
 use Rattle.f2b_base.specs.declared.ban.Ban.{Ban}
 use Rattle.f2b_base.specs.declared.ban.Failure.{Failure}
@@ -10,7 +11,7 @@ use Rattle.f2b_base.specs.declared.ban.Until.{Until}
 use Rattle.f2b_base.specs.declared.ban.Until.TheVariants.{Never, At}
 use Rattle.f2b_base.specs.declared.input.What.{What}
 use Rattle.f2b_base.specs.declared.input.What.TheVariants.{Tick, Read, Ended, Config, Stop, Ban as BanThese, Unban, Attempt, Ignore, Findtime, Bantime, Maxretry, Idle}
-use Rattle.f2b_model.specs.Lists.{in_order, some_of}
+use Rattle.f2b_model.specs.Lists.{in_order}
 use Rattle.f2b_model.specs.Full.{same_addr}
 use Rattle.f2b_model.specs.State.{Jail, World, State, active_of}
 use Rattle.f2b_model.specs.declared.jail_now.JailNow.{JailNow}
@@ -94,7 +95,7 @@ ends_before a b = nat_lt (own_end a) (own_end b)
 -- whether a ban is one of those that a command names
 abbrev pub is_meant : Option (List Addr) → Ban → Bool
 is_meant None b = true
-is_meant (Some addrs) b = some_of (λ addr. same_addr b.addr addr) addrs
+is_meant (Some addrs) b = list_any (λ addr. same_addr b.addr addr) addrs
 
 -- whether a jail is one of those that a command names
 abbrev pub is_meant_jail : Option (List ℕ) → JailDef → Bool
@@ -209,7 +210,7 @@ module _ {J : Type 0} (m : Moves J) where
 
   -- whether some active ban's end has come
   abbrev pub is_ban_due : ℕ → World J → Bool
-  is_ban_due at w = some_of (λ j. some_of (is_due at) (m.active j)) w.jails
+  is_ban_due at w = list_any (λ j. list_any (is_due at) (m.active j)) w.jails
 
 -- the step of a state
 abbrev pub step : State → Input → State
