@@ -15,6 +15,7 @@ mod memory;
 mod outside;
 mod plain;
 mod seq;
+mod spans;
 mod text;
 mod view;
 
@@ -28,5 +29,6 @@ pub use memory::NoMemory;
 pub use outside::{FileLook, Reading, Tree, TreeAnswer, TreeFile};
 pub use plain::Plain;
 pub use seq::Seq;
+pub use spans::ban_span;
 pub use text::Text;
 pub use view::{JailView, View, WatchView};

@@ -1,0 +1,15 @@
+pub mod ListLemmas
+pub mod FullLemmas
+pub mod MarkLemmas
+pub mod MoveLemmas
+pub mod StepLemmas
+pub mod OrderlyLemmas
+pub mod EndLemmas
+pub mod SoundLemmas
+pub mod LawLemmas
+pub mod ToldLemmas
+pub mod NumberLemmas
+pub mod WindowLemmas
+pub mod StandLemmas
+pub mod PartLemmas
+pub mod Rows

@@ -1,0 +1,264 @@
+-- Where each move on a jail is seen as a move on its picture, a step is seen as the step of the picture.
+use Rattle.std.proofs.Common.{◌≡◌, ℕ, ◌≤◌, max, Bool, cond, List, [], ◌∷◌, map, refl, ◌∙◌, ap, ap₂, arith, ℤ}
+use Rattle.std.specs.Prelude.{bytes_eq, Option}
+use Rattle.std.specs.List.{filter}
+use Rattle.f2b_base.specs.declared.addr.Addr.{Addr}
+use Rattle.f2b_base.specs.declared.ban.Ban.{Ban}
+use Rattle.f2b_base.specs.declared.ban.Failure.{Failure}
+use Rattle.f2b_base.specs.declared.input.Input.{Input}
+use Rattle.f2b_base.specs.declared.jail.JailDef.{JailDef}
+use Rattle.f2b_base.specs.declared.input.What.{What}
+use Rattle.f2b_base.specs.declared.input.What.TheVariants.{Tick, Read, Ended, Config, Stop, Ban as BanThese, Unban, Attempt, Ignore, Findtime, Bantime, Maxretry, Idle}
+use Rattle.f2b_model.specs.Lists.{AllOf, in_order}
+use Rattle.f2b_model.specs.State.{World, world_map}
+use Rattle.f2b_model.specs.Moves.{Out}
+use Rattle.f2b_model.specs.Steps.{Moves, Outs, with_outs, is_spent, is_due, own_end, ends_before, is_meant, is_meant_jail, end_all, ended_by_time, unbanned, in_jail, find_jail, kept_or_fresh, configured, at_jail, alone, found_all, ban_all, done, each_jail, raised, step_by}
+use Rattle.f2b_model.specs.Until.{last_moment}
+use Rattle.f2b_model.specs.Sound.{IsFitWhat, IsFit}
+use Rattle.f2b_model.proofs.ListLemmas.{by_test}
+
+abbrev pub out_map : {J K : Type 0} → (J → K) → Out J → Out K
+out_map h o = record { jail = h o.jail; next = o.next }
+
+abbrev pub outs_map : {J K : Type 0} → (J → K) → Outs J → Outs K
+outs_map h o = record { jails = map h o.jails; next = o.next }
+
+-- h shows the moves m as the moves k, on jails that are good at a moment; and the moves keep them so. Calm is what
+-- holds right after the bans have ended by time
+pub record Shows {J K : Type 0} (m : Moves J) (k : Moves K) (h : J → K) (Good Calm : ℕ → J → Type 0) : Type 0 where
+  pub definition : (j : J) → k.definition (h j) ≡ m.definition j
+  pub active : (j : J) → k.active (h j) ≡ m.active j
+  pub found : (at word n : ℕ) (f : Failure) (j : J) → Good at j → out_map h (m.found at word n f j) ≡ k.found at word n f (h j)
+  pub banned : (at word n : ℕ) (addr : Addr) (j : J) → out_map h (m.banned at word n addr j) ≡ k.banned at word n addr (h j)
+  pub ended : (addr : Addr) (moment : ℕ) (j : J) → h (m.ended addr moment j) ≡ k.ended addr moment (h j)
+  pub dropped : (at purge : ℕ) (j : J) → h (m.dropped at purge j) ≡ k.dropped at purge (h j)
+  pub limited : (findtime maxretry : ℕ) (j : J) → h (m.limited findtime maxretry j) ≡ k.limited findtime maxretry (h j)
+  pub spanned : (secs : ℤ) (j : J) → h (m.spanned secs j) ≡ k.spanned secs (h j)
+  pub idle : (idle : Bool) (j : J) → h (m.idle idle j) ≡ k.idle idle (h j)
+  pub good_later : (at later : ℕ) (j : J) → at ≤ later → Good at j → Good later j
+  pub calm_good : (at : ℕ) (j : J) → Calm at j → Good at j
+  pub good_by_time : (at : ℕ) (j : J) → Good at j → Calm at (ended_by_time m at j)
+  pub good_unbanned : (at : ℕ) (addrs : Option (List Addr)) (j : J) → Calm at j → Good at (unbanned m at addrs j)
+  pub good_found : (at word n : ℕ) (f : Failure) (j : J) → at ≤ last_moment → Good at j → Good at (m.found at word n f j).jail
+  pub good_banned : (at word n : ℕ) (addr : Addr) (j : J) → at ≤ last_moment → Good at j → Good at (m.banned at word n addr j).jail
+  pub good_dropped : (at purge : ℕ) (j : J) → Good at j → Good at (m.dropped at purge j)
+  pub good_limited : (at findtime maxretry : ℕ) (j : J) → 1 ≤ maxretry → Good at j → Good at (m.limited findtime maxretry j)
+  pub good_spanned : (at : ℕ) (secs : ℤ) (j : J) → Good at j → Good at (m.spanned secs j)
+  pub good_idle : (at : ℕ) (idle : Bool) (j : J) → Good at j → Good at (m.idle idle j)
+  pub kept : (d : JailDef) (j : J) → h (m.kept d j) ≡ k.kept d (h j)
+  pub fresh : (d : JailDef) → h (m.fresh d) ≡ k.fresh d
+  pub good_kept : (at : ℕ) (d : JailDef) (j : J) → 1 ≤ d.maxretry → Good at j → Good at (m.kept d j)
+  pub good_fresh : (at : ℕ) (d : JailDef) → 1 ≤ d.maxretry → Good at (m.fresh d)
+  pub positive : (at : ℕ) (j : J) → Good at j → 1 ≤ (m.definition j).maxretry
+
+pub all_of-map : {A B : Type 0} (P : A → Type 0) (Q : B → Type 0) (f : A → B) → ((x : A) → P x → Q (f x)) → (xs : List A) → AllOf P xs → AllOf Q (map f xs)
+all_of-map P Q f h [] a = tt
+all_of-map P Q f h (x ∷ xs) a = (h x a.0, all_of-map P Q f h xs a.1)
+
+pub all_of-more : {A : Type 0} (P Q : A → Type 0) → ((x : A) → P x → Q x) → (xs : List A) → AllOf P xs → AllOf Q xs
+all_of-more P Q h [] a = tt
+all_of-more P Q h (x ∷ xs) a = (h x a.0, all_of-more P Q h xs a.1)
+
+pub map_both : {A B : Type 0} (P : A → Type 0) (h : A → B) (f : A → A) (g : B → B) → ((x : A) → P x → h (f x) ≡ g (h x)) → (xs : List A) → AllOf P xs → map h (map f xs) ≡ map g (map h xs)
+map_both P h f g e [] a = refl
+map_both P h f g e (x ∷ xs) a = ap₂ (λ y ys. y ∷ ys) (e x a.0) (map_both P h f g e xs a.1)
+
+at_most : (a b : ℕ) → a ≤ last_moment → b ≤ last_moment → max a b ≤ last_moment
+at_most a b h g = omega arith
+
+module _ {J K : Type 0} (m : Moves J) (k : Moves K) (h : J → K) (Good Calm : ℕ → J → Type 0) (shows : Shows m k h Good Calm) where
+  abbrev pub GoodWorld : World J → Type 0
+  GoodWorld w = (w.at ≤ last_moment) × AllOf (Good w.at) w.jails
+
+  abbrev pub CalmWorld : World J → Type 0
+  CalmWorld w = (w.at ≤ last_moment) × AllOf (Calm w.at) w.jails
+
+  pub calm_world : (w : World J) → CalmWorld w → GoodWorld w
+  calm_world w a = (a.0, all_of-more (Calm w.at) (Good w.at) (shows.calm_good w.at) w.jails a.1)
+
+  end_all_shows : (moment : Ban → ℕ) (bs : List Ban) (j : J) → h (end_all m moment bs j) ≡ end_all k moment bs (h j)
+  end_all_shows moment [] j = refl
+  end_all_shows moment (b ∷ bs) j =
+      end_all_shows moment bs (m.ended b.addr (moment b) j) ∙ ap (λ r. end_all k moment bs r) (shows.ended b.addr (moment b) j)
+
+  pub by_time_shows : (at : ℕ) (j : J) → h (ended_by_time m at j) ≡ ended_by_time k at (h j)
+  by_time_shows at j = rw (shows.active j) (end_all_shows own_end (in_order ends_before (filter (is_due at) (m.active j))) j)
+
+  unbanned_shows : (at : ℕ) (addrs : Option (List Addr)) (j : J) → h (unbanned m at addrs j) ≡ unbanned k at addrs (h j)
+  unbanned_shows at addrs j = rw (shows.active j) (end_all_shows (λ b. at) (filter (is_meant addrs) (m.active j)) j)
+
+  in_jail_shows : (at : ℕ) (name : List ℕ) (f : ℕ → J → Out J) (g : ℕ → K → Out K)
+      → ((n : ℕ) (j : J) → Good at j → out_map h (f n j) ≡ g n (h j))
+      → (n : ℕ) (js : List J) → AllOf (Good at) js → outs_map h (in_jail m name f n js) ≡ in_jail k name g n (map h js)
+  in_jail_shows at name f g e n [] a = refl
+  in_jail_shows at name f g e n (j ∷ js) a =
+      let d = shows.definition j in
+      let same = e n j a.0 in
+      by_test (bytes_eq (m.definition j).name name) _
+      (λ t. rw (d, t) (ap (λ (o : Out K). record { jails = o.jail ∷ map h js; next = o.next }) same))
+      (λ t. rw (d, t) (ap (λ (o : Outs K). record { jails = h j ∷ o.jails; next = o.next }) (in_jail_shows at name f g e n js a.1)))
+
+  in_jail_good : (at : ℕ) (name : List ℕ) (f : ℕ → J → Out J) → ((n : ℕ) (j : J) → Good at j → Good at (f n j).jail)
+      → (n : ℕ) (js : List J) → AllOf (Good at) js → AllOf (Good at) (in_jail m name f n js).jails
+  in_jail_good at name f e n [] a = tt
+  in_jail_good at name f e n (j ∷ js) a =
+      by_test (bytes_eq (m.definition j).name name) _
+      (λ t. rw t (e n j a.0, a.1))
+      (λ t. rw t (a.0, in_jail_good at name f e n js a.1))
+
+  pub at_jail_shows : (name : List ℕ) (f : ℕ → J → Out J) (g : ℕ → K → Out K) (w : World J)
+      → ((n : ℕ) (j : J) → Good w.at j → out_map h (f n j) ≡ g n (h j)) → GoodWorld w
+      → world_map h (at_jail m name f w) ≡ at_jail k name g (world_map h w)
+  at_jail_shows name f g w e a = ap (λ (o : Outs K). with_outs (world_map h w) o) (in_jail_shows w.at name f g e w.next_ban w.jails a.1)
+
+  found_all_shows : (word : ℕ) (name : List ℕ) (fs : List Failure) (w : World J) → GoodWorld w
+      → world_map h (found_all m word name fs w) ≡ found_all k word name fs (world_map h w)
+  found_all_shows word name [] w a = refl
+  found_all_shows word name (f ∷ fs) w a =
+      found_all_shows word name fs (at_jail m name (λ n j. m.found w.at word n f j) w)
+      (a.0, in_jail_good w.at name (λ n j. m.found w.at word n f j) (λ n j. shows.good_found w.at word n f j a.0) w.next_ban w.jails a.1)
+      ∙ ap (λ r. found_all k word name fs r)
+      (at_jail_shows name (λ n j. m.found w.at word n f j) (λ n j. k.found w.at word n f j) w (λ n j. shows.found w.at word n f j) a)
+
+  found_all_good : (word : ℕ) (name : List ℕ) (fs : List Failure) (w : World J) → GoodWorld w → GoodWorld (found_all m word name fs w)
+  found_all_good word name [] w a = a
+  found_all_good word name (f ∷ fs) w a =
+      found_all_good word name fs (at_jail m name (λ n j. m.found w.at word n f j) w)
+      (a.0, in_jail_good w.at name (λ n j. m.found w.at word n f j) (λ n j. shows.good_found w.at word n f j a.0) w.next_ban w.jails a.1)
+
+  ban_all_shows : (word : ℕ) (name : List ℕ) (addrs : List Addr) (w : World J) → GoodWorld w
+      → world_map h (ban_all m word name addrs w) ≡ ban_all k word name addrs (world_map h w)
+  ban_all_shows word name [] w a = refl
+  ban_all_shows word name (f ∷ fs) w a =
+      ban_all_shows word name fs (at_jail m name (λ n j. m.banned w.at word n f j) w)
+      (a.0, in_jail_good w.at name (λ n j. m.banned w.at word n f j) (λ n j. shows.good_banned w.at word n f j a.0) w.next_ban w.jails a.1)
+      ∙ ap (λ r. ban_all k word name fs r)
+      (at_jail_shows name (λ n j. m.banned w.at word n f j) (λ n j. k.banned w.at word n f j) w (λ n j good. shows.banned w.at word n f j) a)
+
+  ban_all_good : (word : ℕ) (name : List ℕ) (addrs : List Addr) (w : World J) → GoodWorld w → GoodWorld (ban_all m word name addrs w)
+  ban_all_good word name [] w a = a
+  ban_all_good word name (f ∷ fs) w a =
+      ban_all_good word name fs (at_jail m name (λ n j. m.banned w.at word n f j) w)
+      (a.0, in_jail_good w.at name (λ n j. m.banned w.at word n f j) (λ n j. shows.good_banned w.at word n f j a.0) w.next_ban w.jails a.1)
+
+  alone_shows : (at : ℕ) (f : J → J) (g : K → K) → ((j : J) → Good at j → h (f j) ≡ g (h j)) → (n : ℕ) (j : J) → Good at j
+      → out_map h (alone m f n j) ≡ alone k g n (h j)
+  alone_shows at f g e n j good = ap (λ (r : K). record { jail = r; next = n }) (e j good)
+
+  pub each_shows : (f : J → J) (g : K → K) (w : World J) → ((j : J) → Good w.at j → h (f j) ≡ g (h j)) → GoodWorld w
+      → world_map h (each_jail m f w) ≡ each_jail k g (world_map h w)
+  each_shows f g w e a = ap (λ (js : List K). record (world_map h w) { jails = js }) (map_both (Good w.at) h f g e w.jails a.1)
+
+  configured_shows : (ds : List JailDef) (js : List J) → map h (configured m ds js) ≡ configured k ds (map h js)
+  configured_shows [] js = refl
+  configured_shows (d ∷ ds) js = ap₂ (λ y ys. y ∷ ys) (one js) (configured_shows ds js)
+    where
+      one : (js : List J) → h (kept_or_fresh m d (find_jail m d.name js)) ≡ kept_or_fresh k d (find_jail k d.name (map h js))
+      one [] = shows.fresh d
+      one (j ∷ js) =
+          let e = shows.definition j in
+          by_test (bytes_eq (m.definition j).name d.name) _ (λ t. rw (e, t) (shows.kept d j)) (λ t. rw (e, t) (one js))
+
+  configured_good : (at : ℕ) (ds : List JailDef) (js : List J) → AllOf (λ (d : JailDef). 1 ≤ d.maxretry) ds → AllOf (Good at) js → AllOf (Good at) (configured m ds js)
+  configured_good at [] js fit a = tt
+  configured_good at (d ∷ ds) js fit a = (one js a, configured_good at ds js fit.1 a)
+    where
+      one : (js : List J) → AllOf (Good at) js → Good at (kept_or_fresh m d (find_jail m d.name js))
+      one [] a = shows.good_fresh at d fit.0
+      one (j ∷ js) a = by_test (bytes_eq (m.definition j).name d.name) _ (λ t. rw t (shows.good_kept at d j fit.0 a.0)) (λ t. rw t (one js a.1))
+
+  pub done_shows : (word : ℕ) (what : What) (w : World J) → GoodWorld w → world_map h (done m word what w) ≡ done k word what (world_map h w)
+  done_shows word Tick w a = refl
+  done_shows word (Read jail path place fs) w a = found_all_shows word jail fs w a
+  done_shows word (BanThese jail addrs) w a = ban_all_shows word jail addrs w a
+  done_shows word (Unban jail addrs) w a =
+      each_shows (λ j. cond (is_meant_jail jail (m.definition j)) (unbanned m w.at addrs j) j) (λ j. cond (is_meant_jail jail (k.definition j)) (unbanned k w.at addrs j) j) w
+      (λ j good. let d = shows.definition j in
+      by_test (is_meant_jail jail (m.definition j)) _ (λ t. rw (d, t) (unbanned_shows w.at addrs j)) (λ t. rw (d, t) refl))
+      a
+  done_shows word (Attempt jail addr) w a = found_all_shows word jail (record { addr = addr; time = w.at; line = [] } ∷ []) w a
+  done_shows word (Findtime jail secs) w a =
+      at_jail_shows jail (alone m (λ j. m.limited secs (m.definition j).maxretry j)) (alone k (λ j. k.limited secs (k.definition j).maxretry j)) w
+      (alone_shows w.at (λ j. m.limited secs (m.definition j).maxretry j) (λ j. k.limited secs (k.definition j).maxretry j)
+      (λ j good. let d = shows.definition j in rw d (shows.limited secs (m.definition j).maxretry j)))
+      a
+  done_shows word (Bantime jail secs) w a =
+      at_jail_shows jail (alone m (m.spanned secs)) (alone k (k.spanned secs)) w
+      (alone_shows w.at (m.spanned secs) (k.spanned secs) (λ j good. shows.spanned secs j)) a
+  done_shows word (Maxretry jail number) w a =
+      at_jail_shows jail (alone m (λ j. m.limited (m.definition j).findtime number j)) (alone k (λ j. k.limited (k.definition j).findtime number j)) w
+      (alone_shows w.at (λ j. m.limited (m.definition j).findtime number j) (λ j. k.limited (k.definition j).findtime number j)
+      (λ j good. let d = shows.definition j in rw d (shows.limited (m.definition j).findtime number j)))
+      a
+  done_shows word (Idle jail idle) w a =
+      at_jail_shows jail (alone m (m.idle idle)) (alone k (k.idle idle)) w
+      (alone_shows w.at (m.idle idle) (k.idle idle) (λ j good. shows.idle idle j)) a
+  done_shows word (Config defs) w a = ap (λ (js : List K). record (world_map h w) { purge = defs.purge; jails = js }) (configured_shows defs.jails w.jails)
+  done_shows word (Ended job outcome) w a = refl
+  done_shows word Stop w a = refl
+  done_shows word (Ignore jail cidr add) w a = refl
+
+  pub in_good : (name : List ℕ) (f : ℕ → J → Out J) (w : World J) → GoodWorld w → ((n : ℕ) (j : J) → Good w.at j → Good w.at (f n j).jail) → GoodWorld (at_jail m name f w)
+  in_good name f w a e = (a.0, in_jail_good w.at name f e w.next_ban w.jails a.1)
+
+  pub done_good : (word : ℕ) (what : What) (w : World J) → IsFitWhat what → CalmWorld w → GoodWorld (done m word what w)
+  done_good word Tick w fit a = calm_world w a
+  done_good word (Read jail path place fs) w fit a = found_all_good word jail fs w (calm_world w a)
+  done_good word (BanThese jail addrs) w fit a = ban_all_good word jail addrs w (calm_world w a)
+  done_good word (Unban jail addrs) w fit a = (
+    a.0,
+    all_of-map (Calm w.at) (Good w.at) (λ j. cond (is_meant_jail jail (m.definition j)) (unbanned m w.at addrs j) j)
+        (λ j calm. by_test (is_meant_jail jail (m.definition j)) _
+        (λ t. rw t (shows.good_unbanned w.at addrs j calm)) (λ t. rw t (shows.calm_good w.at j calm)))
+        w.jails a.1,
+  )
+  done_good word (Attempt jail addr) w fit a = found_all_good word jail (record { addr = addr; time = w.at; line = [] } ∷ []) w (calm_world w a)
+  done_good word (Findtime jail secs) w fit a =
+      in_good jail (alone m (λ j. m.limited secs (m.definition j).maxretry j)) w (calm_world w a)
+      (λ n j good. shows.good_limited w.at secs (m.definition j).maxretry j (shows.positive w.at j good) good)
+  done_good word (Bantime jail secs) w fit a = in_good jail (alone m (m.spanned secs)) w (calm_world w a) (λ n j good. shows.good_spanned w.at secs j good)
+  done_good word (Maxretry jail number) w fit a =
+      in_good jail (alone m (λ j. m.limited (m.definition j).findtime number j)) w (calm_world w a)
+      (λ n j good. shows.good_limited w.at (m.definition j).findtime number j fit good)
+  done_good word (Idle jail idle) w fit a = in_good jail (alone m (m.idle idle)) w (calm_world w a) (λ n j good. shows.good_idle w.at idle j good)
+  done_good word (Config defs) w fit a = (a.0, configured_good w.at defs.jails w.jails fit (calm_world w a).1)
+  done_good word (Ended job outcome) w fit a = calm_world w a
+  done_good word Stop w fit a = calm_world w a
+  done_good word (Ignore jail cidr add) w fit a = calm_world w a
+
+  pub raised_good : (secs : ℕ) (w : World J) → secs ≤ last_moment → GoodWorld w → GoodWorld (raised m secs w)
+  raised_good secs w h a =
+      (at_most w.at secs a.0 h, all_of-more (Good w.at) (Good (max w.at secs)) (λ j. shows.good_later w.at (max w.at secs) j (omega arith)) w.jails a.1)
+
+  pub ended_good : (w : World J) → GoodWorld w → CalmWorld (each_jail m (ended_by_time m w.at) w)
+  ended_good w a = (a.0, all_of-map (Good w.at) (Calm w.at) (ended_by_time m w.at) (shows.good_by_time w.at) w.jails a.1)
+
+  -- a step is seen as the step of the picture
+  pub step_shows : (w : World J) (input : Input) → IsFit input → GoodWorld w → world_map h (step_by m w input) ≡ step_by k (world_map h w) input
+  step_shows w input fit a =
+      by_test (is_spent w) _
+      (λ t. rw t refl)
+      (λ t.
+      let now = raised m input.secs w in
+      let now_good = raised_good input.secs w fit.secs a in
+      let ended = each_jail m (ended_by_time m now.at) now in
+      let ended_is = ended_good now now_good in
+      let after = done m input.word input.what ended in
+      let after_is = done_good input.word input.what ended fit.what ended_is in
+      let e1 : world_map h (each_jail m (m.dropped after.at after.purge) after) ≡ each_jail k (k.dropped after.at after.purge) (world_map h after) =
+      each_shows (m.dropped after.at after.purge) (k.dropped after.at after.purge) after (λ j good. shows.dropped after.at after.purge j) after_is in
+      let e2 : world_map h after ≡ done k input.word input.what (world_map h ended) = done_shows input.word input.what ended (calm_world ended ended_is) in
+      let e3 : world_map h ended ≡ each_jail k (ended_by_time k now.at) (world_map h now) =
+      each_shows (ended_by_time m now.at) (ended_by_time k now.at) now (λ j good. by_time_shows now.at j) now_good in
+      rw t (e1 ∙ ap (λ (r : World K). each_jail k (k.dropped r.at r.purge) r) (e2 ∙ ap (λ r. done k input.word input.what r) e3)))
+
+  pub step_good : (w : World J) (input : Input) → IsFit input → GoodWorld w → GoodWorld (step_by m w input)
+  step_good w input fit a =
+      by_test (is_spent w) _
+      (λ t. rw t a)
+      (λ t.
+      let now = raised m input.secs w in
+      let ended = each_jail m (ended_by_time m now.at) now in
+      let after = done m input.word input.what ended in
+      let after_is = done_good input.word input.what ended fit.what (ended_good now (raised_good input.secs w fit.secs a)) in
+      rw t (after_is.0, all_of-map (Good after.at) (Good after.at) (m.dropped after.at after.purge) (λ j good. shows.good_dropped after.at after.purge j good) after.jails after_is.1))

@@ -1,0 +1,13 @@
+pub mod Lists
+pub mod Full
+pub mod Until
+pub mod State
+pub mod Nows
+pub mod Moves
+pub mod NowMoves
+pub mod Steps
+pub mod Told
+pub mod Sound
+pub mod Windows
+pub mod Stands
+pub mod Laws

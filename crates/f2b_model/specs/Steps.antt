@@ -1,0 +1,239 @@
+-- The step, over any kind of jail: once over jails with whole lists, and once over their middle states, which is what code does.
+use Rattle.std.specs.Prelude.{ℕ, ◌^◌, max, Bool, true, false, cond, nat_lt, nat_le, List, [], ◌∷◌, filter, map, ℤ, bytes_eq, Option, Some, None}
+use Rattle.std.specs.List.{list_any}
+use Rattle.f2b_base.specs.declared.addr.Addr.{Addr}
+use Rattle.f2b_base.specs.declared.ban.Ban.{Ban}
+use Rattle.f2b_base.specs.declared.ban.Failure.{Failure}
+use Rattle.f2b_base.specs.declared.input.Input.{Input}
+use Rattle.f2b_base.specs.declared.jail.Defs.{Defs}
+use Rattle.f2b_base.specs.declared.jail.JailDef.{JailDef}
+use Rattle.f2b_base.specs.declared.ban.Until.{Until}
+use Rattle.f2b_base.specs.declared.ban.Until.TheVariants.{Never, At}
+use Rattle.f2b_base.specs.declared.input.What.{What}
+use Rattle.f2b_base.specs.declared.input.What.TheVariants.{Tick, Read, Ended, Config, Stop, Ban as BanThese, Unban, Attempt, Ignore, Findtime, Bantime, Maxretry, Idle}
+use Rattle.f2b_model.specs.Lists.{in_order}
+use Rattle.f2b_model.specs.Full.{same_addr}
+use Rattle.f2b_model.specs.State.{Jail, World, State, active_of}
+use Rattle.f2b_model.specs.declared.jail_now.JailNow.{JailNow}
+use Rattle.f2b_model.specs.Nows.{Now}
+use Rattle.f2b_model.specs.Moves.{Out, found, banned, ended, dropped, limited, spanned, kept, fresh}
+use Rattle.f2b_model.specs.NowMoves.{found_now, banned_now, ended_now, dropped_now, limited_now, kept_now, fresh_now}
+
+-- the moves on one kind of jail
+pub record Moves (J : Type 0) : Type 0 where
+  pub definition : J → JailDef
+  pub active : J → List Ban
+  -- at, word, next serial
+  pub found : ℕ → ℕ → ℕ → Failure → J → Out J
+  pub banned : ℕ → ℕ → ℕ → Addr → J → Out J
+  -- the end of an address's ban at a moment
+  pub ended : Addr → ℕ → J → J
+  -- at, purge
+  pub dropped : ℕ → ℕ → J → J
+  -- findtime, maxretry
+  pub limited : ℕ → ℕ → J → J
+  pub spanned : ℤ → J → J
+  pub idle : Bool → J → J
+  -- a jail that a configuration keeps, and one that it adds
+  pub kept : JailDef → J → J
+  pub fresh : JailDef → J
+
+-- the moves on jails with whole lists
+abbrev pub moves : Moves Jail
+moves = record {
+  definition = λ j. j.definition;
+  active = λ j. active_of j.bans;
+  found = found;
+  banned = banned;
+  ended = ended;
+  dropped = dropped;
+  limited = limited;
+  spanned = λ secs j. record j { definition = spanned secs j.definition };
+  idle = λ idle j. record j { idle = idle };
+  kept = kept;
+  fresh = fresh;
+}
+
+-- the moves on their middle states
+abbrev pub moves_now : Moves JailNow
+moves_now = record {
+  definition = λ j. j.definition;
+  active = λ j. j.bans;
+  found = found_now;
+  banned = banned_now;
+  ended = ended_now;
+  dropped = dropped_now;
+  limited = limited_now;
+  spanned = λ secs j. record j { definition = spanned secs j.definition };
+  idle = λ idle j. record j { idle = idle };
+  kept = kept_now;
+  fresh = fresh_now;
+}
+
+-- whether an end has come
+abbrev pub is_due_by : ℕ → Until → Bool
+is_due_by at Never = false
+is_due_by at (At end) = nat_le end at
+
+-- whether a ban is to end by time
+abbrev pub is_due : ℕ → Ban → Bool
+is_due at b = is_due_by at b.until
+
+-- the moment of an end, 0 where there is none
+abbrev pub end_of : Until → ℕ
+end_of Never = 0
+end_of (At end) = end
+
+-- the moment at which a ban ends
+abbrev pub own_end : Ban → ℕ
+own_end b = end_of b.until
+
+-- by end
+abbrev pub ends_before : Ban → Ban → Bool
+ends_before a b = nat_lt (own_end a) (own_end b)
+
+-- whether a ban is one of those that a command names
+abbrev pub is_meant : Option (List Addr) → Ban → Bool
+is_meant None b = true
+is_meant (Some addrs) b = list_any (λ addr. same_addr b.addr addr) addrs
+
+-- whether a jail is one of those that a command names
+abbrev pub is_meant_jail : Option (List ℕ) → JailDef → Bool
+is_meant_jail None d = true
+is_meant_jail (Some name) d = bytes_eq d.name name
+
+-- jails and the next serial
+pub record Outs (J : Type 0) : Type 0 where
+  pub jails : List J
+  pub next : ℕ
+
+-- a world with these
+abbrev pub with_outs : {J : Type 0} → World J → Outs J → World J
+with_outs w o = record w { jails = o.jails; next_ban = o.next }
+
+-- whether the serials are used up: nothing happens any more
+abbrev pub is_spent : {J : Type 0} → World J → Bool
+is_spent w = nat_lt (2 ^ 62) w.next_ban
+
+module _ {J : Type 0} (m : Moves J) where
+  -- ends these bans, each at the moment that is given for it
+  abbrev pub end_all : (Ban → ℕ) → List Ban → J → J
+  end_all moment [] j = j
+  end_all moment (b ∷ bs) j = end_all moment bs (m.ended b.addr (moment b) j)
+
+  -- each active ban whose end is at most `at` ends at its end, by end and serial
+  abbrev pub ended_by_time : ℕ → J → J
+  ended_by_time at j = end_all own_end (in_order ends_before (filter (is_due at) (m.active j))) j
+
+  -- an unban ends its bans by serial, each at `at`
+  abbrev pub unbanned : ℕ → Option (List Addr) → J → J
+  unbanned at addrs j = end_all (λ b. at) (filter (is_meant addrs) (m.active j)) j
+
+  -- the jails after a move on the first one of that name, if there is one
+  abbrev pub in_jail : List ℕ → (ℕ → J → Out J) → ℕ → List J → Outs J
+  in_jail name f n [] = record { jails = []; next = n }
+  in_jail name f n (j ∷ js) =
+      let rest = in_jail name f n js in
+      cond (bytes_eq (m.definition j).name name)
+      (record { jails = (f n j).jail ∷ js; next = (f n j).next })
+      (record { jails = j ∷ rest.jails; next = rest.next })
+
+  -- a world after a move on the jail of a name
+  abbrev pub at_jail : List ℕ → (ℕ → J → Out J) → World J → World J
+  at_jail name f w = with_outs w (in_jail name f w.next_ban w.jails)
+
+  -- a move that takes no serial
+  abbrev pub alone : (J → J) → ℕ → J → Out J
+  alone f n j = record { jail = f j; next = n }
+
+  -- failures that were found in a jail, in their order
+  abbrev pub found_all : ℕ → List ℕ → List Failure → World J → World J
+  found_all word name [] w = w
+  found_all word name (f ∷ fs) w = found_all word name fs (at_jail name (λ n j. m.found w.at word n f j) w)
+
+  -- bans by command in a jail, in their order
+  abbrev pub ban_all : ℕ → List ℕ → List Addr → World J → World J
+  ban_all word name [] w = w
+  ban_all word name (addr ∷ addrs) w = ban_all word name addrs (at_jail name (λ n j. m.banned w.at word n addr j) w)
+
+  -- the first jail of a name
+  abbrev pub find_jail : List ℕ → List J → Option J
+  find_jail name [] = None
+  find_jail name (j ∷ js) = cond (bytes_eq (m.definition j).name name) (Some j) (find_jail name js)
+
+  -- the jail of a definition, from the one that was there
+  abbrev pub kept_or_fresh : JailDef → Option J → J
+  kept_or_fresh d None = m.fresh d
+  kept_or_fresh d (Some j) = m.kept d j
+
+  -- the jails of a configuration, in its order
+  abbrev pub configured : List JailDef → List J → List J
+  configured ds js = map (λ (d : JailDef). kept_or_fresh d (find_jail d.name js)) ds
+
+  -- What happened is done. An attempt is one failure now. The inputs that follow at the end speak of jobs, of stopping and of
+  -- addresses that are never banned, which are no part of this state, as the path and the place of a Read are none.
+  abbrev pub done : ℕ → What → World J → World J
+  done word Tick w = w
+  done word (Read jail path place fs) w = found_all word jail fs w
+  done word (BanThese jail addrs) w = ban_all word jail addrs w
+  done word (Unban jail addrs) w = record w { jails = map (λ j. cond (is_meant_jail jail (m.definition j)) (unbanned w.at addrs j) j) w.jails }
+  done word (Attempt jail addr) w = found_all word jail (record { addr = addr; time = w.at; line = [] } ∷ []) w
+  done word (Findtime jail secs) w = at_jail jail (alone (λ j. m.limited secs (m.definition j).maxretry j)) w
+  done word (Bantime jail secs) w = at_jail jail (alone (m.spanned secs)) w
+  done word (Maxretry jail number) w = at_jail jail (alone (λ j. m.limited (m.definition j).findtime number j)) w
+  done word (Idle jail idle) w = at_jail jail (alone (m.idle idle)) w
+  done word (Config defs) w = record w { purge = defs.purge; jails = configured defs.jails w.jails }
+  done word (Ended job outcome) w = w
+  done word Stop w = w
+  done word (Ignore jail cidr add) w = w
+
+  -- a world with each jail changed
+  abbrev pub each_jail : (J → J) → World J → World J
+  each_jail f w = record w { jails = map f w.jails }
+
+  -- a world at a reading: its moment never falls
+  abbrev pub raised : ℕ → World J → World J
+  raised secs w = record w { at = max w.at secs }
+
+  -- The step: the moment is raised, due bans end, what happened is done, and what is over for long is dropped.
+  abbrev pub step_by : World J → Input → World J
+  step_by w input =
+      cond (is_spent w) w (
+      let now = raised input.secs w in
+      let ended = each_jail (ended_by_time now.at) now in
+      let after = done input.word input.what ended in
+      each_jail (m.dropped after.at after.purge) after)
+
+  -- the world of a first configuration: nothing happened yet
+  abbrev pub first : Defs → World J
+  first defs = record { at = 0; purge = defs.purge; jails = map m.fresh defs.jails; next_ban = 0 }
+
+  -- whether some active ban's end has come
+  abbrev pub is_ban_due : ℕ → World J → Bool
+  is_ban_due at w = list_any (λ j. list_any (is_due at) (m.active j)) w.jails
+
+-- the step of a state
+abbrev pub step : State → Input → State
+step = step_by moves
+
+-- the steps of inputs, in their order
+abbrev pub steps : State → List Input → State
+steps s [] = s
+steps s (input ∷ inputs) = steps (step s input) inputs
+
+-- the step of a middle state
+abbrev pub step_now : Now → Input → Now
+step_now = step_by moves_now
+
+-- the steps of inputs, in their order
+abbrev pub steps_now : Now → List Input → Now
+steps_now n [] = n
+steps_now n (input ∷ inputs) = steps_now (step_now n input) inputs
+
+-- the state of a first configuration
+abbrev pub first_state : Defs → State
+first_state = first moves
+
+-- its middle state
+abbrev pub first_now : Defs → Now
+first_now = first moves_now
