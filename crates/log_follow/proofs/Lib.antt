@@ -1,0 +1,5 @@
+pub mod CarryLemmas
+pub mod CutLemmas
+pub mod FollowLemmas
+pub mod LineLemmas
+pub mod PieceLemmas
