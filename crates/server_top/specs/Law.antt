@@ -1,0 +1,293 @@
+-- What a run does: the one call that comes next, and where each event leaves the run.
+use Rattle.std.specs.Prelude.{ℕ, zero, suc, ◌≡◌, ◌+◌, ◌-◌, ◌^◌, ◌++◌, max, min, length, map, slice_get, IsSome, Bool, true, false, List, [], ◌∷◌, Option, Some, None, if◌then◌else◌}
+use Rattle.f2b_base.specs.declared.ban.Failure.{Failure}
+use Rattle.f2b_base.specs.declared.input.Input.{Input}
+use Rattle.f2b_base.specs.declared.input.What.{What}
+use Rattle.f2b_base.specs.declared.input.What.TheVariants.{Tick, Read}
+use Rattle.f2b_base.specs.declared.jail.JailDef.{JailDef}
+use Rattle.f2b_base.specs.declared.jail.Place.TheVariants.{Tail}
+use Rattle.f2b_base.specs.declared.jail.WatchDef.{WatchDef}
+use Rattle.f2b_base.specs.declared.outside.Reading.{Reading}
+use Rattle.f2b_base.specs.declared.outside.TreeAnswer.{TreeAnswer}
+use Rattle.f2b_base.specs.declared.outside.TreeAnswer.TheVariants.{Tree, Failed as TreeFailed, TooLarge as TreeTooLarge, NoMemory as TreeNoMemory}
+use Rattle.f2b_model.specs.State.{State}
+use Rattle.f2b_model.specs.Steps.{moves, step, first_state, is_ban_due}
+use Rattle.f2b_model.specs.Told.{told}
+use Rattle.f2b_world.specs.Reading.{reading}
+use Rattle.f2b_world.specs.Told.{History}
+use Rattle.f2b_world.specs.Walks.{Walks}
+use Rattle.f2b_world.specs.declared.answer.Look.{Look}
+use Rattle.f2b_world.specs.declared.answer.Look.TheVariants.{File, Absent, Failed as LookFailed, NoMemory as LookNoMemory}
+use Rattle.f2b_world.specs.declared.answer.MakeAnswer.{MakeAnswer}
+use Rattle.f2b_world.specs.declared.answer.MakeAnswer.TheVariants.{Built, Syntax as WasSyntax, TooBig as WasTooBig}
+use Rattle.f2b_world.specs.declared.answer.Said.TheVariants.{Done, Failed as SayFailed}
+use Rattle.f2b_world.specs.declared.event.Event.{Event}
+use Rattle.f2b_world.specs.declared.event.Event.TheVariants.{Say, Make, Clock, Config, Look as LookAt, Pause}
+use Rattle.filter_regex.specs.Findings.{finding, rules_of, texts_of}
+use Rattle.filter_regex.specs.declared.BuildKind.{BuildKind}
+use Rattle.filter_regex.specs.declared.BuildKind.TheVariants.{Syntax, TooBig}
+use Rattle.filter_regex.specs.declared.Finding.{Finding}
+use Rattle.filter_regex.specs.declared.Finding.TheVariants.{Failure as Failed}
+use Rattle.filter_regex.specs.declared.PatternPlace.{PatternPlace}
+use Rattle.filter_regex.specs.declared.PatternPlace.TheVariants.{Date, Fail}
+use Rattle.log_follow.specs.Lines.{new_lines}
+use Rattle.log_follow.specs.declared.line.Line.{Line}
+use Rattle.log_follow.specs.declared.line.Line.TheVariants.{Whole}
+use Rattle.server_top.specs.Flat.{flat_jail}
+use Rattle.server_top.specs.Refusals.{refusal_line}
+use Rattle.server_top.specs.Said.{line_of, ready_line}
+use Rattle.server_top.specs.Words.{plan_of}
+use Rattle.server_top.specs.declared.status.Status.{Status}
+use Rattle.server_top.specs.declared.status.Status.TheVariants.{TurnsSpent, Usage, ConfFault, SinkFault, NotBuilt, PatternRefused, NoMemory}
+use Rattle.server_top.specs.declared.words.Plan.{Plan}
+
+-- what a run that follows its log has come to
+pub record Following : Type 0 where
+  pub definition : JailDef
+  pub state : State
+  -- the greatest reading so far, and the last reading's word
+  pub now : ℕ
+  pub word : ℕ
+  -- all bytes that the log gave
+  pub seen : List ℕ
+  -- the turns that are left
+  pub left : ℕ
+
+-- where a run stands
+pub data Point : Type 0 where
+  AtConfig : Point
+  -- at the pattern of that number, from 0
+  AtMake : JailDef → ℕ → Point
+  -- at the first reading of the clock
+  AtStart : JailDef → Point
+  AtClock : Following → Point
+  AtLook : Following → Point
+  AtPause : Following → Point
+  Over : Status → Point
+
+pub record Run : Type 0 where
+  pub plan : Plan
+  pub point : Point
+  -- all lines that the events so far tell, in order
+  pub lines : List (List ℕ)
+  -- how many of them were said
+  pub said : ℕ
+
+-- The call that comes next.
+
+-- a call with its arguments
+pub data Call : Type 0 where
+  AskSay : List ℕ → Call
+  AskConfig : List ℕ → Call
+  AskMake : List ℕ → Call
+  AskClock : Call
+  AskLook : List ℕ → ℕ → ℕ → ℕ → Call
+  AskPause : ℕ → Call
+
+-- the path of the log
+abbrev pub path_of : List WatchDef → List ℕ
+path_of [] = []
+path_of (watch ∷ watches) = watch.path
+
+abbrev pub make_call : Option (List ℕ) → Option Call
+make_call None = None
+make_call (Some text) = Some (AskMake text)
+
+-- a log is looked at with 64 bytes of its head, from behind what was seen, for at most 65,536 bytes; a pause has 250 milliseconds
+abbrev pub call_at : Plan → Point → Option Call
+call_at plan AtConfig = Some (AskConfig plan.root)
+call_at plan (AtMake definition k) = make_call (slice_get (texts_of definition) k)
+call_at plan (AtStart definition) = Some AskClock
+call_at plan (AtClock f) = Some AskClock
+call_at plan (AtLook f) = Some (AskLook (path_of f.definition.watches) 64 (length f.seen) 65536)
+call_at plan (AtPause f) = Some (AskPause 250)
+call_at plan (Over status) = None
+
+-- a line that is not said yet comes first
+abbrev pub call_for : Plan → Point → Option (List ℕ) → Option Call
+call_for plan point (Some line) = Some (AskSay line)
+call_for plan point None = call_at plan point
+
+abbrev pub call_of : Plan → Point → Option (List ℕ) → Option Call
+call_of plan (Over SinkFault) unsaid = None
+call_of plan point unsaid = call_for plan point unsaid
+
+-- the one call that comes next, or none where the run ends
+abbrev pub next_call : Run → Option Call
+next_call r = call_of r.plan r.point (slice_get r.lines r.said)
+
+-- the event is this call, with some answer
+abbrev pub Makes : Call → Event → Type 0
+Makes (AskSay line) (Say bytes answer) = bytes ≡ line
+Makes (AskConfig root) (Config there answer) = there ≡ root
+Makes (AskMake text) (Make made answer) = made ≡ text
+Makes AskClock (Clock answer) = Unit {0}
+Makes (AskLook path head from max) (LookAt there first begin most answer) = (there ≡ path) × (first ≡ head) × (begin ≡ from) × (most ≡ max)
+Makes (AskPause ms) (Pause waited) = waited ≡ ms
+Makes _ _ = ⊥
+
+abbrev pub IsNext : Option Call → Event → Type 0
+IsNext (Some call) event = Makes call event
+IsNext None event = ⊥
+
+-- a pattern is refused for its syntax where its text has no reading, and built only where it has one
+abbrev pub IsRight : Event → Type 0
+IsRight (Make text WasSyntax) = reading text ≡ None
+IsRight (Make text Built) = IsSome (reading text)
+IsRight _ = Unit {0}
+
+abbrev pub MayCome : Run → Event → Type 0
+MayCome r event = IsNext (next_call r) event × IsRight event
+
+-- Where an event leaves the run.
+
+-- a reading above this counts as it
+abbrev pub latest : ℕ
+latest = 250000000000
+
+-- a refusal ends the run, once its line is said
+abbrev pub refused : Status → Run → Run
+refused status r = record r { point = Over status; lines = r.lines ++ refusal_line status ∷ [] }
+
+-- an input is taken: its step, and the lines of what the step tells
+abbrev pub taken : What → Following → Following
+taken what f = record f { state = step f.state (record { secs = f.now; word = f.word; what = what }) }
+
+abbrev pub told_lines : What → Following → List (List ℕ)
+told_lines what f = map (line_of f.now) (told moves f.state (record { secs = f.now; word = f.word; what = what }))
+
+abbrev pub takes : What → (Following → Point) → Following → Run → Run
+takes what point f r = record r { point = point (taken what f); lines = r.lines ++ told_lines what f }
+
+-- the flat form alone is built
+abbrev pub configured : Option JailDef → Run → Run
+configured None r = refused NotBuilt r
+configured (Some definition) r = record r { point = AtMake definition 0 }
+
+abbrev pub config_read : TreeAnswer → Run → Run
+config_read (Tree tree) r = configured (flat_jail tree) r
+config_read TreeFailed r = refused ConfFault r
+config_read TreeTooLarge r = refused NotBuilt r
+config_read TreeNoMemory r = r
+
+-- the place of the pattern of that number
+abbrev pub place_at : ℕ → PatternPlace
+place_at zero = Date
+place_at (suc n) = Fail (suc n)
+
+abbrev pub after_make : JailDef → ℕ → Option (List ℕ) → Point
+after_make definition k None = AtStart definition
+after_make definition k (Some text) = AtMake definition k
+
+abbrev pub made : JailDef → ℕ → MakeAnswer → Run → Run
+made definition k Built r = record r { point = after_make definition (k + 1) (slice_get (texts_of definition) (k + 1)) }
+made definition k WasSyntax r = refused (PatternRefused definition.name (place_at k) Syntax) r
+made definition k WasTooBig r = refused (PatternRefused definition.name (place_at k) TooBig) r
+
+-- now never goes back
+abbrev pub read_at : Reading → Following → Following
+read_at answer f = record f { now = max f.now (min answer.secs latest); word = answer.word }
+
+abbrev pub begun : JailDef → ℕ → Reading → Following
+begun definition turns answer = record {
+  definition = definition;
+  state = first_state (record { purge = 86400; jails = definition ∷ [] });
+  now = min answer.secs latest;
+  word = answer.word;
+  seen = [];
+  left = turns;
+}
+
+abbrev pub started : Following → Run → Run
+started f r = record r { point = AtClock f; lines = r.lines ++ ready_line f.now ∷ [] }
+
+-- a tick is taken where a ban is due
+abbrev pub ticked : Bool → Following → Run → Run
+ticked true f r = takes Tick AtLook f r
+ticked false f r = record r { point = AtLook f }
+
+abbrev pub clocked : Following → Run → Run
+clocked f r = ticked (is_ban_due moves f.now f.state) f r
+
+-- the failures among the findings of the lines
+abbrev pub failure_in : Finding → List Failure
+failure_in (Failed addr time index) = record { addr = addr; time = time; line = [] } ∷ []
+failure_in _ = []
+
+abbrev pub failures_in : JailDef → ℕ → List Line → List Failure
+failures_in definition now [] = []
+failures_in definition now (Whole text ∷ lines) = failure_in (finding (rules_of definition) now definition.findtime text) ++ failures_in definition now lines
+failures_in definition now (_ ∷ lines) = failures_in definition now lines
+
+-- what was found in these lines. The place in the log is not kept yet
+abbrev pub read_of : Following → List Line → What
+read_of f lines = Read f.definition.name (path_of f.definition.watches) Tail (failures_in f.definition f.now lines)
+
+-- a read is taken where a line has become whole
+abbrev pub lines_read : List Line → Following → Run → Run
+lines_read [] f r = record r { point = AtPause f }
+lines_read (line ∷ lines) f r = takes (read_of f (line ∷ lines)) AtPause f r
+
+abbrev pub seen_more : List ℕ → Following → Following
+seen_more bytes f = record f { seen = f.seen ++ bytes }
+
+abbrev pub looked : Look → Following → Run → Run
+looked (File file) f r = lines_read (new_lines f.seen file.bytes) (seen_more file.bytes f) r
+looked _ f r = record r { point = AtPause f }
+
+abbrev pub turned : ℕ → Following → Point
+turned zero f = Over TurnsSpent
+turned (suc n) f = AtClock (record f { left = suc n })
+
+-- where each event leads from each point
+abbrev pub moved : Point → Event → Run → Run
+moved AtConfig (Config root answer) r = config_read answer r
+moved (AtMake definition k) (Make text answer) r = made definition k answer r
+moved (AtStart definition) (Clock answer) r = started (begun definition r.plan.turns answer) r
+moved (AtClock f) (Clock answer) r = clocked (read_at answer f) r
+moved (AtLook f) (LookAt path head from max answer) r = looked answer f r
+moved (AtPause f) (Pause ms) r = record r { point = turned (f.left - 1) f }
+moved _ _ r = r
+
+-- a line is said, or the sink is broken
+abbrev pub feed : Run → Event → Run
+feed r (Say bytes Done) = record r { said = r.said + 1 }
+feed r (Say bytes SayFailed) = record r { point = Over SinkFault }
+feed r event = moved r.point event r
+
+-- nothing more is asked of the points
+abbrev pub Free : Run → History → Type 0
+Free r g = Unit {0}
+
+-- from one point of a run to another
+abbrev pub Goes : Option History → Option History → Run → Run → Type 0
+Goes old new r s = Walks feed MayCome Free old new r s
+
+-- Where a run begins and ends.
+
+abbrev pub opening : Plan → Run
+opening plan = record { plan = plan; point = AtConfig; lines = []; said = 0 }
+
+-- words outside the table are refused
+abbrev pub begin_with : Option Plan → Run
+begin_with (Some plan) = opening plan
+begin_with None = refused Usage (opening (record { root = []; turns = 0 }))
+
+abbrev pub begin : List (List ℕ) → Run
+begin words = begin_with (plan_of words)
+
+-- the run is over with that status, and no call is left
+pub record IsOver (status : Status) (r : Run) : Type 0 where
+  pub point : r.point ≡ Over status
+  pub none : next_call r ≡ None
+
+-- a run may end with this status here; want of memory may end it anywhere
+abbrev pub Ends : Status → Run → Type 0
+Ends NoMemory r = Unit {0}
+Ends status r = IsOver status r
+
+-- from here the run ends with this status
+pub record Halts (old new : Option History) (r : Run) (status : Status) : Type 0 where
+  pub last : Run
+  pub goes : Goes old new r last
+  pub ends : Ends status last

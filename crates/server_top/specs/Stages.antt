@@ -1,0 +1,72 @@
+-- The stages of a run: what a function of the server has done when it returns.
+use Rattle.std.specs.Prelude.{ℕ, ◌≡◌, ◌+◌, ◌-◌, ◌≤◌, ◌++◌, length, List, [], ◌∷◌}
+use Rattle.f2b_model.specs.Nows.{now_of}
+use Rattle.f2b_model.specs.Sound.{IsSound}
+use Rattle.f2b_world.specs.Told.{Fault, OfSink, OfConfiguration, OfPatterns, Standing, Rose}
+use Rattle.filter_regex.specs.declared.BuildKind.TheVariants.{Syntax, TooBig}
+use Rattle.log_follow.specs.Followed.{StandsFor}
+use Rattle.server_top.specs.Law.{Following, Point, Over, Run, Goes, Halts}
+use Rattle.server_top.specs.declared.follow.Follow.{Follow}
+use Rattle.server_top.specs.declared.status.Status.{Status}
+use Rattle.server_top.specs.declared.status.Status.TheVariants.{TurnsSpent, Usage, ConfFault, SinkFault, NotBuilt, PatternRefused, NoMemory}
+
+-- no count of faults fell
+pub record IsSteady (old new : Standing) : Type 0 where
+  pub counts : (kind : Fault) → old.faults kind ≤ new.faults kind
+
+-- a fault of the outside has its cause in a count that rose
+abbrev pub HasCause : Standing → Standing → Status → Type 0
+HasCause old new SinkFault = Rose (old.faults OfSink) (new.faults OfSink)
+HasCause old new ConfFault = Rose (old.faults OfConfiguration) (new.faults OfConfiguration)
+HasCause old new (PatternRefused jail place TooBig) = Rose (old.faults OfPatterns) (new.faults OfPatterns)
+HasCause old new _ = Unit {0}
+
+-- lines may still be said
+abbrev pub IsSaying : Point → Type 0
+IsSaying (Over SinkFault) = ⊥
+IsSaying _ = Unit {0}
+
+-- the run has said the first lines, and these come next
+pub record Owes (r : Run) (front owed later : List (List ℕ)) : Type 0 where
+  pub lines : r.lines ≡ front ++ (owed ++ later)
+  pub said : r.said ≡ length front
+  pub saying : IsSaying r.point
+
+-- these lines were said
+pub record Says (old new : Standing) (owed : List (List ℕ)) : Type 0 where
+  pub runs : (r : Run) (front later : List (List ℕ)) → Owes r front owed later → Goes old.told new.told r (record r { said = length front + length owed })
+
+-- the run ended while these lines were owed
+pub record SayFails (old new : Standing) (owed : List (List ℕ)) (status : Status) : Type 0 where
+  pub runs : (r : Run) (front later : List (List ℕ)) → Owes r front owed later → Halts old.told new.told r status
+
+-- the run stands at a point, with all its lines said
+pub record IsAt (r : Run) (point : Point) : Type 0 where
+  pub point : r.point ≡ point
+  pub paid : r.said ≡ length r.lines
+
+-- what the code keeps is what the run has come to
+pub record Keeps (f : Following) (kept : Follow) : Type 0 where
+  pub definition : kept.definition ≡ f.definition
+  pub now : kept.now ≡ f.now
+  pub word : kept.word ≡ f.word
+  pub core : kept.core ≡ now_of f.state
+  pub sound : IsSound f.state
+  pub seen : StandsFor kept.follower f.seen
+
+-- the run goes from one point to another, of which the code knows all that it needs
+pub record Reaches (old new : Standing) (r : Run) (point : Following → Point) (left : ℕ) (kept : Follow) : Type 0 where
+  pub to : Run
+  pub following : Following
+  pub goes : Goes old.told new.told r to
+  pub at : IsAt to (point following)
+  pub left_is : following.left ≡ left
+  pub keeps : Keeps following kept
+
+-- from one point of a turn to the next
+pub record Moves (old new : Standing) (from to : Following → Point) (before after : Follow) : Type 0 where
+  pub runs : (r : Run) (f : Following) → IsAt r (from f) → Keeps f before → Reaches old new r to f.left after
+
+-- the run ends on the way
+pub record MoveFails (old new : Standing) (from : Following → Point) (before : Follow) (status : Status) : Type 0 where
+  pub runs : (r : Run) (f : Following) → IsAt r (from f) → Keeps f before → Halts old.told new.told r status

@@ -1,0 +1,9 @@
+//! The server's run.
+#![tactic(auto)]
+
+mod flat;
+mod status;
+mod words;
+
+pub use status::Status;
+pub use words::Plan;
