@@ -14,7 +14,7 @@ use Rattle.f2b_model.proofs.OrderlyLemmas.{same_addr_sym}
 use Rattle.f2b_model.proofs.EndLemmas.{same_addr_same}
 use Rattle.f2b_model.proofs.SoundLemmas.{same_addr_true}
 
-addr_total : (a b : Addr) → same_addr a b ≡ false → addr_before a b ≡ false → addr_before b a ≡ true
+pub addr_total : (a b : Addr) → same_addr a b ≡ false → addr_before a b ≡ false → addr_before b a ≡ true
 addr_total (V4 a) (V4 b) h g = grind (arith, nat_tests)
 addr_total (V4 a) (V6 b) h g = absurd (let k : true ≡ false = g in cc)
 addr_total (V6 a) (V4 b) h g = refl
