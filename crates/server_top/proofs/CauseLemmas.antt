@@ -1,0 +1,34 @@
+-- Counts of faults over several calls.
+use Rattle.std.proofs.Common.{ℕ, ◌≡◌, ◌<◌, ◌≤◌, ◌⊎◌, inl, inr, arith}
+use Rattle.f2b_world.specs.Told.{Fault, OfSink, OfConfiguration, OfPatterns, Standing, Rose, Called}
+use Rattle.f2b_world.specs.declared.event.Event.{Event}
+use Rattle.filter_regex.specs.declared.BuildKind.TheVariants.{Syntax, TooBig}
+use Rattle.server_top.specs.Stages.{HasCause, IsSteady}
+use Rattle.server_top.specs.declared.status.Status.{Status}
+use Rattle.server_top.specs.declared.status.Status.TheVariants.{TurnsSpent, Usage, ConfFault, SinkFault, NotBuilt, PatternRefused, NoMemory}
+
+pub steady_refl : (s : Standing) → IsSteady s s
+steady_refl s = record { counts = λ kind. omega arith }
+
+pub steady_on : (old mid new : Standing) → IsSteady old mid → IsSteady mid new → IsSteady old new
+steady_on old mid new p q = record { counts = λ kind. omega (arith, p.counts kind, q.counts kind) }
+
+pub steady_call : (old new : Standing) (event : Event) → Called old event new → IsSteady old new
+steady_call old new event call = record { counts = call.steady }
+
+rose_later : (a b c : ℕ) → a ≤ b → Rose b c → Rose a c
+rose_later a b c le (inl lt) = inl (omega arith)
+rose_later a b c le (inr top) = inr top
+
+-- what was counted since a later moment was counted since an earlier one
+pub cause_later : (old mid new : Standing) (status : Status) → IsSteady old mid → HasCause mid new status → HasCause old new status
+cause_later old mid new TurnsSpent steady cause = tt
+cause_later old mid new Usage steady cause = tt
+cause_later old mid new ConfFault steady cause = rose_later _ _ _ (steady.counts OfConfiguration) cause
+cause_later old mid new SinkFault steady cause = rose_later _ _ _ (steady.counts OfSink) cause
+cause_later old mid new NotBuilt steady cause = tt
+cause_later old mid new (PatternRefused jail place Syntax) steady cause = tt
+cause_later old mid new (PatternRefused jail place TooBig) steady cause = rose_later _ _ _ (steady.counts OfPatterns) cause
+cause_later old mid new NoMemory steady cause = tt
+
+pub ruleset counting = (steady_refl, steady_on, steady_call, cause_later)
