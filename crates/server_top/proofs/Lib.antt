@@ -1,3 +1,4 @@
 pub mod CauseLemmas
 pub mod WalkLemmas
 pub mod ToldLemmas
+pub mod TakeLemmas

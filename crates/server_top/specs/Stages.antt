@@ -1,11 +1,15 @@
 -- The stages of a run: what a function of the server has done when it returns.
 use Rattle.std.specs.Prelude.{ℕ, ◌≡◌, ◌⊎◌, ◌+◌, ◌-◌, ◌≤◌, ◌++◌, length, List, [], ◌∷◌}
+use Rattle.f2b_base.specs.declared.input.What.{What}
 use Rattle.f2b_model.specs.Nows.{now_of}
 use Rattle.f2b_model.specs.Sound.{IsSound}
+use Rattle.f2b_model.specs.Steps.{moves_now, step_now}
+use Rattle.f2b_model.specs.Told.{told}
+use Rattle.f2b_model.specs.declared.happening.Happening.{Happening}
 use Rattle.f2b_world.specs.Told.{Fault, OfSink, OfConfiguration, OfPatterns, Standing, Rose}
 use Rattle.filter_regex.specs.declared.BuildKind.TheVariants.{Syntax, TooBig}
 use Rattle.log_follow.specs.Followed.{StandsFor}
-use Rattle.server_top.specs.Law.{Following, Point, Over, Run, Goes, Halts, refused}
+use Rattle.server_top.specs.Law.{Following, Point, Over, Run, Goes, Halts, refused, taken, told_lines}
 use Rattle.server_top.specs.declared.follow.Follow.{Follow}
 use Rattle.server_top.specs.declared.status.Status.{Status}
 use Rattle.server_top.specs.declared.status.Status.TheVariants.{TurnsSpent, Usage, ConfFault, SinkFault, NotBuilt, PatternRefused, NoMemory}
@@ -86,3 +90,22 @@ pub record Refuses (old new : Standing) (refusal status : Status) : Type 0 where
 -- with the refusal, or with a fault of the sink or want of memory while it was said
 pub record IsRefusedAs (old new : Standing) (refusal status : Status) : Type 0 where
   pub same : (status ≡ refusal) ⊎ ((status ≡ NoMemory) ⊎ ((status ≡ SinkFault) × Rose (old.faults OfSink) (new.faults OfSink)))
+
+-- the step of an input, and what it tells
+pub record StepsTo (before : Follow) (what : What) (after : Follow) (news : List Happening) : Type 0 where
+  pub definition : after.definition ≡ before.definition
+  pub follower : after.follower ≡ before.follower
+  pub now : after.now ≡ before.now
+  pub word : after.word ≡ before.word
+  pub core : after.core ≡ step_now before.core (record { secs = before.now; word = before.word; what = what })
+  pub tells : news ≡ told moves_now before.core (record { secs = before.now; word = before.word; what = what })
+
+-- an input was taken, and the lines that it tells were said
+pub record Takes (old new : Standing) (what : What) (before after : Follow) : Type 0 where
+  pub runs : (r : Run) (f : Following) (front : List (List ℕ)) → Keeps f before → Owes r front (told_lines what f) []
+      → Goes old.told new.told r (record r { said = length front + length (told_lines what f) })
+  pub keeps : (f : Following) → Keeps f before → Keeps (taken what f) after
+
+-- the run ended while the lines of an input were owed
+pub record TakeFails (old new : Standing) (what : What) (before : Follow) (status : Status) : Type 0 where
+  pub runs : (r : Run) (f : Following) (front : List (List ℕ)) → Keeps f before → Owes r front (told_lines what f) [] → Halts old.told new.told r status

@@ -6,6 +6,7 @@ mod follow;
 mod line;
 mod say;
 mod status;
+mod take;
 mod words;
 
 pub use status::Status;

@@ -1,0 +1,90 @@
+-- An input is taken.
+use Rattle.std.proofs.Common.{ℕ, ◌≡◌, ◌≤◌, ◌^◌, ◌-◌, List, [], length, map, refl, sym, ap, ◌∙◌, subst, arith}
+use Rattle.f2b_base.specs.declared.input.Input.{Input}
+use Rattle.f2b_base.specs.declared.input.What.{What}
+use Rattle.f2b_base.specs.declared.input.What.TheVariants.{Tick, Read, Ended, Config, Stop, Ban, Unban, Attempt, Ignore, Findtime, Bantime, Maxretry, Idle}
+use Rattle.f2b_model.specs.Nows.{Now, now_of}
+use Rattle.f2b_model.specs.Sound.{IsFit, IsFitWhat, IsSound}
+use Rattle.f2b_model.specs.State.{State}
+use Rattle.f2b_model.specs.Steps.{moves, moves_now, step, step_now}
+use Rattle.f2b_model.specs.Told.{told}
+use Rattle.f2b_model.specs.declared.happening.Happening.{Happening}
+use Rattle.f2b_model.proofs.LawLemmas.{now_step, sound_step}
+use Rattle.f2b_model.proofs.ToldLemmas.{told_by_now}
+use Rattle.f2b_world.specs.Told.{Standing}
+use Rattle.jail_core.specs.Kept.{IsTaken}
+use Rattle.log_follow.specs.Followed.{StandsFor}
+use Rattle.log_follow.specs.declared.follower.Follower.{Follower}
+use Rattle.server_top.specs.Law.{Following, Run, Goes, taken, told_lines}
+use Rattle.server_top.specs.Said.{line_of}
+use Rattle.server_top.specs.Stages.{Keeps, Owes, Says, SayFails, StepsTo, Takes, TakeFails}
+use Rattle.server_top.specs.declared.follow.Follow.{Follow}
+use Rattle.server_top.specs.declared.status.Status.{Status}
+use Rattle.server_top.specs.declared.status.Status.TheVariants.{NoMemory}
+use Rattle.server_top.proofs.WalkLemmas.{halts_here}
+
+fit_what : (what : What) → IsTaken what → IsFitWhat what
+fit_what Tick is = tt
+fit_what (Read jail path place found) is = tt
+fit_what (Ended job outcome) is = absurd is
+fit_what (Config defs) is = absurd is
+fit_what Stop is = absurd is
+fit_what (Ban jail addrs) is = absurd is
+fit_what (Unban jail addrs) is = absurd is
+fit_what (Attempt jail addr) is = absurd is
+fit_what (Ignore jail cidr add) is = absurd is
+fit_what (Findtime jail secs) is = absurd is
+fit_what (Bantime jail secs) is = absurd is
+fit_what (Maxretry jail number) is = absurd is
+fit_what (Idle jail idle) is = absurd is
+
+-- the input that the code hands in
+abbrev input_of : Follow → What → Input
+input_of before what = record { secs = before.now; word = before.word; what = what }
+
+module _ (before after : Follow) (what : What) (news : List Happening) (steps : StepsTo before what after news) (is : IsTaken what) (early : before.now ≤ 250000000000) where
+  same_input : (f : Following) → Keeps f before → input_of before what ≡ record { secs = f.now; word = f.word; what = what }
+  same_input f keeps = λ i. record { secs = keeps.now i; word = keeps.word i; what = what }
+
+  fits : IsFit (input_of before what)
+  fits = record { secs = omega arith; what = fit_what what is }
+
+  same_lines : (f : Following) → Keeps f before → map (line_of after.now) news ≡ told_lines what f
+  same_lines f keeps =
+      let input = input_of before what in
+      let now_told : news ≡ told moves f.state input = steps.tells ∙ ap (λ (n : Now). told moves_now n input) keeps.core ∙ sym (told_by_now f.state input fits keeps.sound) in
+      let now_is : after.now ≡ f.now = steps.now ∙ keeps.now in
+      rw now_is (ap (map (line_of f.now)) (now_told ∙ ap (told moves f.state) (same_input f keeps)))
+
+  same_core : (f : Following) → Keeps f before → after.core ≡ now_of (taken what f).state
+  same_core f keeps =
+      let input = input_of before what in
+      steps.core ∙ ap (λ (n : Now). step_now n input) keeps.core ∙ sym (now_step f.state input fits keeps.sound) ∙ ap (λ (i : Input). now_of (step f.state i)) (same_input f keeps)
+
+  still_sound : (f : Following) → Keeps f before → IsSound (taken what f).state
+  still_sound f keeps = let P : Input → Type 0 = λ i. IsSound (step f.state i) in subst P (same_input f keeps) (sound_step f.state (input_of before what) fits keeps.sound)
+
+  pub takes : (old new : Standing) → Says old new (map (line_of after.now) news) → Takes old new what before after
+  takes old new says = record {
+    runs = λ r f front keeps owes.
+        let says2 : Says old new (told_lines what f) = let P : List (List ℕ) → Type 0 = λ x. Says old new x in subst P (same_lines f keeps) says in
+        says2.runs r front [] owes;
+    keeps = λ f keeps. record {
+      definition = steps.definition ∙ keeps.definition;
+      now = steps.now ∙ keeps.now;
+      word = steps.word ∙ keeps.word;
+      core = same_core f keeps;
+      sound = still_sound f keeps;
+      seen = (let P : Follower → Type 0 = λ x. StandsFor x f.seen in subst P (sym steps.follower) keeps.seen);
+    };
+  }
+
+  pub take_fails : (old new : Standing) (status : Status) → SayFails old new (map (line_of after.now) news) status → TakeFails old new what before status
+  take_fails old new status fails = record { runs = λ r f front keeps owes.
+      let fails2 : SayFails old new (told_lines what f) status = let P : List (List ℕ) → Type 0 = λ x. SayFails old new x status in subst P (same_lines f keeps) fails in
+      fails2.runs r front [] owes }
+
+pub take_memory : (s : Standing) (what : What) (before : Follow) → TakeFails s s what before NoMemory
+take_memory s what before = record { runs = λ r f front keeps owes. halts_here s.told r }
+
+pub ruleset taking = (takes, take_fails, take_memory)
