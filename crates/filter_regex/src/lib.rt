@@ -1,7 +1,8 @@
 //! Stand-in.
 #![tactic(auto)]
 
-use f2b_base::{Addr, Text};
+use f2b_base::{Addr, Seq, Text};
+use std::marker::Model;
 
 #[derive(Clone, Copy, Debug, PartialEq, Eq)]
 pub enum Finding {
@@ -26,4 +27,17 @@ pub enum PatternPlace {
 pub enum BuildKind {
     Syntax,
     TooBig,
+}
+
+#[derive(Drop)]
+pub struct Filter {
+    fail: Seq<Text>,
+}
+
+impl Model for Filter {
+    ghost use Rattle.filter_regex.specs.Findings.{Rules};
+
+    ghost Value = { Rules };
+
+    ghost view = { λ f. record { fail = f.fail } };
 }

@@ -23,7 +23,7 @@ use Rattle.f2b_world.specs.declared.answer.MakeAnswer.TheVariants.{Built, Syntax
 use Rattle.f2b_world.specs.declared.answer.Said.TheVariants.{Done, Failed as SayFailed}
 use Rattle.f2b_world.specs.declared.event.Event.{Event}
 use Rattle.f2b_world.specs.declared.event.Event.TheVariants.{Say, Make, Clock, Config, Look as LookAt, Pause}
-use Rattle.filter_regex.specs.Findings.{finding, rules_of, texts_of}
+use Rattle.filter_regex.specs.Findings.{Rules, finding, rules_of, texts_of}
 use Rattle.filter_regex.specs.declared.BuildKind.{BuildKind}
 use Rattle.filter_regex.specs.declared.BuildKind.TheVariants.{Syntax, TooBig}
 use Rattle.filter_regex.specs.declared.Finding.{Finding}
@@ -214,14 +214,14 @@ abbrev pub failure_in : Finding → List Failure
 failure_in (Failed addr time index) = record { addr = addr; time = time; line = [] } ∷ []
 failure_in _ = []
 
-abbrev pub failures_in : JailDef → ℕ → List Line → List Failure
-failures_in definition now [] = []
-failures_in definition now (Whole text ∷ lines) = failure_in (finding (rules_of definition) now definition.findtime text) ++ failures_in definition now lines
-failures_in definition now (_ ∷ lines) = failures_in definition now lines
+abbrev pub failures_in : Rules → ℕ → ℕ → List Line → List Failure
+failures_in rules now findtime [] = []
+failures_in rules now findtime (Whole text ∷ lines) = failure_in (finding rules now findtime text) ++ failures_in rules now findtime lines
+failures_in rules now findtime (_ ∷ lines) = failures_in rules now findtime lines
 
 -- what was found in these lines. The place in the log is not kept yet
 abbrev pub read_of : Following → List Line → What
-read_of f lines = Read f.definition.name (path_of f.definition.watches) Tail (failures_in f.definition f.now lines)
+read_of f lines = Read f.definition.name (path_of f.definition.watches) Tail (failures_in (rules_of f.definition) f.now f.definition.findtime lines)
 
 -- a read is taken where a line has become whole
 abbrev pub lines_read : List Line → Following → Run → Run

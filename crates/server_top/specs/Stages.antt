@@ -1,15 +1,25 @@
 -- The stages of a run: what a function of the server has done when it returns.
-use Rattle.std.specs.Prelude.{ℕ, ◌≡◌, ◌⊎◌, ◌+◌, ◌-◌, ◌≤◌, ◌++◌, length, List, [], ◌∷◌}
+use Rattle.std.specs.Prelude.{ℕ, max, min, ◌^◌, ◌<◌, Option, Some, None, IfSome, ◌≡◌, ◌⊎◌, ◌+◌, ◌-◌, ◌≤◌, ◌++◌, length, List, [], ◌∷◌}
 use Rattle.f2b_base.specs.declared.input.What.{What}
+use Rattle.f2b_base.specs.declared.input.What.TheVariants.{Read}
+use Rattle.f2b_base.specs.declared.jail.Place.TheVariants.{Tail}
+use Rattle.f2b_base.specs.declared.outside.Reading.{Reading}
 use Rattle.f2b_model.specs.Nows.{now_of}
 use Rattle.f2b_model.specs.Sound.{IsSound}
 use Rattle.f2b_model.specs.Steps.{moves_now, step_now}
 use Rattle.f2b_model.specs.Told.{told}
 use Rattle.f2b_model.specs.declared.happening.Happening.{Happening}
-use Rattle.f2b_world.specs.Told.{Fault, OfSink, OfConfiguration, OfPatterns, Standing, Rose}
+use Rattle.f2b_world.specs.Told.{Fault, OfSink, OfConfiguration, OfPatterns, Standing, Rose, Called}
+use Rattle.f2b_world.specs.declared.answer.Look.{Look}
+use Rattle.f2b_world.specs.declared.answer.Look.TheVariants.{File}
+use Rattle.f2b_world.specs.declared.event.Event.TheVariants.{Look as LookAt}
+use Rattle.f2b_base.specs.declared.jail.JailDef.{JailDef}
+use Rattle.filter_regex.specs.Findings.{Rules}
 use Rattle.filter_regex.specs.declared.BuildKind.TheVariants.{Syntax, TooBig}
 use Rattle.log_follow.specs.Followed.{StandsFor}
-use Rattle.server_top.specs.Law.{Following, Point, Over, Run, Goes, Halts, refused, taken, told_lines}
+use Rattle.log_follow.specs.Lines.{new_lines}
+use Rattle.log_follow.specs.declared.line.Line.{Line}
+use Rattle.server_top.specs.Law.{Following, Point, Over, Run, Goes, Halts, refused, taken, told_lines, latest, read_of, seen_more, turned, path_of, failures_in}
 use Rattle.server_top.specs.declared.follow.Follow.{Follow}
 use Rattle.server_top.specs.declared.status.Status.{Status}
 use Rattle.server_top.specs.declared.status.Status.TheVariants.{TurnsSpent, Usage, ConfFault, SinkFault, NotBuilt, PatternRefused, NoMemory}
@@ -109,3 +119,41 @@ pub record Takes (old new : Standing) (what : What) (before after : Follow) : Ty
 -- the run ended while the lines of an input were owed
 pub record TakeFails (old new : Standing) (what : What) (before : Follow) (status : Status) : Type 0 where
   pub runs : (r : Run) (f : Following) (front : List (List ℕ)) → Keeps f before → Owes r front (told_lines what f) [] → Halts old.told new.told r status
+
+-- the clock was read
+pub record ReadsAt (before : Follow) (answer : Reading) (after : Follow) : Type 0 where
+  pub definition : after.definition ≡ before.definition
+  pub follower : after.follower ≡ before.follower
+  pub core : after.core ≡ before.core
+  pub now : after.now ≡ max before.now (min answer.secs latest)
+  pub word : after.word ≡ answer.word
+
+-- what a look brought, or none where it could not read the log
+abbrev pub brought : Look → Option (List ℕ)
+brought (File file) = Some file.bytes
+brought _ = None
+
+-- the log was looked at from this offset on
+pub record Looked (old new : Standing) (path : List ℕ) (from : ℕ) (bytes : Option (List ℕ)) : Type 0 where
+  pub answer : Look
+  pub called : Called old (LookAt path 64 from 65536 answer) new
+  pub bytes_are : bytes ≡ brought answer
+  pub fits : IfSome bytes (λ bs. from + length bs < 2 ^ 64)
+
+-- what is taken of these lines
+abbrev pub read_what : Following → List Line → Option What
+read_what f [] = None
+read_what f (line ∷ lines) = Some (read_of f (line ∷ lines))
+
+-- what is taken of these lines, by a definition and the rules of its patterns
+abbrev pub read_by : JailDef → Rules → ℕ → List Line → What
+read_by definition rules now lines = Read definition.name (path_of definition.watches) Tail (failures_in rules now definition.findtime lines)
+
+-- bytes of the log were cut into lines, and the lines searched
+pub record ReadsLines (before : Follow) (bytes : List ℕ) (after : Follow) (what : Option What) : Type 0 where
+  pub keeps : (f : Following) → Keeps f before → Keeps (seen_more bytes f) after
+  pub what_is : (f : Following) → Keeps f before → what ≡ read_what (seen_more bytes f) (new_lines f.seen bytes)
+
+-- where a turn leaves the run
+abbrev pub turn_end : Following → Point
+turn_end f = turned (f.left - 1) f

@@ -1,7 +1,9 @@
 //! What a run that follows its log keeps.
-ghost use Rattle.std.specs.Prelude.{◌≤◌};
+ghost use Rattle.std.specs.Prelude.{◌≡◌, ◌≤◌};
+ghost use Rattle.filter_regex.specs.Findings.{rules_of};
 
 use f2b_base::JailDef;
+use filter_regex::Filter;
 use jail_core::Core;
 use log_follow::Follower;
 
@@ -9,6 +11,8 @@ use log_follow::Follower;
 #[derive(Drop)]
 pub struct Follow {
     pub definition: JailDef,
+    /// The patterns of the definition, built.
+    pub filter: Filter,
     pub core: Core,
     pub follower: Follower,
     /// The greatest reading so far, in seconds since 1970, at most 250,000,000,000.
@@ -16,4 +20,5 @@ pub struct Follow {
     /// The last reading's word.
     pub word: u64,
     ghost timely: { now ≤ 250000000000 },
+    ghost built: { filter ≡ rules_of definition },
 }

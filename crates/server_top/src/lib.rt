@@ -1,12 +1,14 @@
 //! The server's run.
 #![tactic(auto)]
 
+mod find;
 mod flat;
 mod follow;
 mod line;
 mod say;
 mod status;
 mod take;
+mod turn;
 mod words;
 
 pub use status::Status;

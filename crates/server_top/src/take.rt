@@ -22,6 +22,7 @@ fn step(
 {
     let Follow {
         definition,
+        filter,
         core,
         follower,
         now,
@@ -35,6 +36,7 @@ fn step(
     let (core, told) = core.take(alloc, &input)?;
     let follow = Follow {
         definition,
+        filter,
         core,
         follower,
         now,

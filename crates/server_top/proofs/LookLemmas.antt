@@ -1,0 +1,167 @@
+-- The look of a turn, and its pause.
+use Rattle.std.proofs.Common.{ℕ, suc, ◌≡◌, ◌==◌, true, false, ◌+◌, ◌-◌, ◌++◌, ◌<◌, ◌^◌, List, [], ◌∷◌, length, Option, Some, None, IfSome, refl, sym, ap, ap₂, ◌∙◌, subst, arith, eqb-true}
+use Rattle.f2b_base.specs.declared.input.What.{What}
+use Rattle.f2b_base.specs.declared.input.What.TheVariants.{Read}
+use Rattle.f2b_base.specs.declared.jail.Place.TheVariants.{Tail}
+use Rattle.filter_regex.specs.Findings.{rules_of}
+use Rattle.f2b_world.specs.Told.{Standing, Called}
+use Rattle.f2b_world.specs.declared.answer.Look.{Look}
+use Rattle.f2b_world.specs.declared.answer.Look.TheVariants.{File, Absent, Failed as LookFailed, NoMemory as LookNoMemory}
+use Rattle.f2b_world.specs.declared.event.Event.TheVariants.{Look as LookAt, Pause}
+use Rattle.log_follow.specs.Followed.{StandsFor, place_of}
+use Rattle.log_follow.specs.Lines.{new_lines}
+use Rattle.log_follow.specs.declared.line.Line.{Line}
+use Rattle.server_top.specs.Law.{Following, Point, AtClock, AtLook, AtPause, Run, IsNext, call_of, Halts, takes, looked, lines_read, seen_more, read_of, path_of, turned, failures_in}
+use Rattle.server_top.specs.Stages.{IsAt, Keeps, Looked, Moves, MoveFails, Reaches, ReadsLines, Takes, TakeFails, brought, read_by, read_what, turn_end}
+use Rattle.server_top.specs.declared.follow.Follow.{Follow}
+use Rattle.server_top.specs.declared.status.Status.{Status}
+use Rattle.server_top.specs.declared.status.Status.TheVariants.{NoMemory}
+use Rattle.server_top.specs.declared.words.Plan.{Plan}
+use Rattle.server_top.proofs.WalkLemmas.{goes_trans, goes_call, halts_after, halts_here}
+use Rattle.server_top.proofs.TurnLemmas.{standing, at_standing, may_come, reaches_taken, halts_taking, reaches_next, halts_next}
+
+-- Lines are cut and searched.
+
+read_some : (lines : List Line) (g : Following) → (length lines == 0) ≡ false → read_what g lines ≡ Some (read_of g lines)
+read_some [] g some = absurd (cc)
+read_some (line ∷ lines) g some = refl
+
+read_none : (lines : List Line) (g : Following) → (length lines == 0) ≡ true → read_what g lines ≡ None
+read_none [] g none = refl
+read_none (line ∷ lines) g none = absurd (let e : length (line ∷ lines) ≡ 0 = eqb-true (length (line ∷ lines)) 0 none in omega arith)
+
+module _ (before after : Follow) (bytes : List ℕ) (lines : List Line) (built : before.filter ≡ rules_of before.definition)
+    (definition_is : after.definition ≡ before.definition) (filter_is : after.filter ≡ before.filter) (core_is : after.core ≡ before.core) (now_is : after.now ≡ before.now) (word_is : after.word ≡ before.word)
+    (cut : (seen : List ℕ) → StandsFor before.follower seen → lines ≡ new_lines seen bytes)
+    (stands : (seen : List ℕ) → StandsFor before.follower seen → StandsFor after.follower (seen ++ bytes)) where
+  still_keeps : (f : Following) → Keeps f before → Keeps (seen_more bytes f) after
+  still_keeps f keeps = record {
+    definition = definition_is ∙ keeps.definition;
+    now = now_is ∙ keeps.now;
+    word = word_is ∙ keeps.word;
+    core = core_is ∙ keeps.core;
+    sound = keeps.sound;
+    seen = stands f.seen keeps.seen;
+  }
+
+  by_code : (f : Following) → Keeps f before → read_by after.definition after.filter after.now lines ≡ read_of (seen_more bytes f) lines
+  by_code f keeps =
+      let d : after.definition ≡ f.definition = definition_is ∙ keeps.definition in
+      let r : after.filter ≡ rules_of f.definition = filter_is ∙ built ∙ ap rules_of keeps.definition in
+      let n : after.now ≡ f.now = now_is ∙ keeps.now in
+      λ i. Read (d i).name (path_of (d i).watches) Tail (failures_in (r i) (n i) (d i).findtime lines)
+
+  pub reads_some : (what : What) → what ≡ read_by after.definition after.filter after.now lines → (length lines == 0) ≡ false → ReadsLines before bytes after (Some what)
+  reads_some what what_is some = record {
+    keeps = still_keeps;
+    what_is = λ f keeps.
+        ap Some (what_is ∙ by_code f keeps) ∙ sym (read_some lines (seen_more bytes f) some) ∙ ap (read_what (seen_more bytes f)) (cut f.seen keeps.seen);
+  }
+
+  pub reads_none : (length lines == 0) ≡ true → ReadsLines before bytes after None
+  reads_none none = record {
+    keeps = still_keeps;
+    what_is = λ f keeps. sym (read_none lines (seen_more bytes f) none) ∙ ap (read_what (seen_more bytes f)) (cut f.seen keeps.seen);
+  }
+
+pub ruleset reading = (reads_some, reads_none)
+
+lines_taken : (lines : List Line) (g : Following) (r : Run) (what : What) → Some what ≡ read_what g lines → lines_read lines g r ≡ takes what AtPause g r
+lines_taken [] g r what is = absurd (cc)
+lines_taken (line ∷ lines) g r what is = let same : what ≡ read_of g (line ∷ lines) = cc in ap (λ (w : What). takes w AtPause g r) (sym same)
+
+lines_none : (lines : List Line) (g : Following) (plan : Plan) (there : Point) (said : List (List ℕ)) → None ≡ read_what g lines
+    → lines_read lines g (standing plan there said) ≡ standing plan (AtPause g) said
+lines_none [] g plan there said is = refl
+lines_none (line ∷ lines) g plan there said is = absurd (cc)
+
+looked_some : (answer : Look) (bytes : List ℕ) (f : Following) (r : Run) → Some bytes ≡ brought answer → looked answer f r ≡ lines_read (new_lines f.seen bytes) (seen_more bytes f) r
+looked_some (File file) bytes f r is = let same : bytes ≡ file.bytes = cc in ap (λ (b : List ℕ). lines_read (new_lines f.seen b) (seen_more b f) r) (sym same)
+looked_some Absent bytes f r is = absurd (cc)
+looked_some LookFailed bytes f r is = absurd (cc)
+looked_some LookNoMemory bytes f r is = absurd (cc)
+
+looked_none : (answer : Look) (f : Following) (plan : Plan) (there : Point) (lines : List (List ℕ)) → None ≡ brought answer → looked answer f (standing plan there lines) ≡ standing plan (AtPause f) lines
+looked_none (File file) f plan there lines is = absurd (cc)
+looked_none Absent f plan there lines is = refl
+looked_none LookFailed f plan there lines is = refl
+looked_none LookNoMemory f plan there lines is = refl
+
+-- the look that comes next
+module _ (path : List ℕ) (from : ℕ) (before : Follow) (path_is : path ≡ path_of before.definition.watches) (from_is : from ≡ place_of before.follower) (plan : Plan) (f : Following) (keeps : Keeps f before) where
+  next_look : (answer : Look) → IsNext (call_of plan (AtLook f) None) (LookAt path 64 from 65536 answer)
+  next_look answer = (path_is ∙ ap (λ d. path_of d.watches) keeps.definition, refl, from_is ∙ keeps.seen.place, refl)
+
+pub look_takes : (a b c : Standing) (path bytes : List ℕ) (from : ℕ) (before mid after : Follow) (what : What) → path ≡ path_of before.definition.watches → from ≡ place_of before.follower
+    → Looked a b path from (Some bytes) → ReadsLines before bytes mid (Some what) → Takes b c what mid after → Moves a c AtLook AtPause before after
+look_takes a b c path bytes from before mid after what path_is from_is looks reads took = record { runs = λ r f at keeps.
+    at_standing (λ x. Reaches a c x AtPause f.left after) r (AtLook f) at (
+      let s = standing r.plan (AtLook f) r.lines in
+      let g = seen_more bytes f in
+      let fed : looked looks.answer f s ≡ takes what AtPause g s = looked_some looks.answer bytes f s looks.bytes_are ∙ lines_taken (new_lines f.seen bytes) g s what (reads.what_is f keeps) in
+      reaches_taken a b (LookAt path 64 from 65536 looks.answer) looks.called r.plan (AtLook f) r.lines (next_look path from before path_is from_is r.plan f keeps looks.answer) tt
+          c what AtPause g mid after fed tt (reads.keeps f keeps) took) }
+
+pub look_fails : (a b c : Standing) (path bytes : List ℕ) (from : ℕ) (before mid : Follow) (what : What) (status : Status) → path ≡ path_of before.definition.watches → from ≡ place_of before.follower
+    → Looked a b path from (Some bytes) → ReadsLines before bytes mid (Some what) → TakeFails b c what mid status → MoveFails a c AtLook before status
+look_fails a b c path bytes from before mid what status path_is from_is looks reads fails = record { runs = λ r f at keeps.
+    at_standing (λ x. Halts a.told c.told x status) r (AtLook f) at (
+      let s = standing r.plan (AtLook f) r.lines in
+      let g = seen_more bytes f in
+      let fed : looked looks.answer f s ≡ takes what AtPause g s = looked_some looks.answer bytes f s looks.bytes_are ∙ lines_taken (new_lines f.seen bytes) g s what (reads.what_is f keeps) in
+      halts_taking a b (LookAt path 64 from 65536 looks.answer) looks.called r.plan (AtLook f) r.lines (next_look path from before path_is from_is r.plan f keeps looks.answer) tt
+          c what AtPause g mid status fed tt (reads.keeps f keeps) fails) }
+
+pub look_no_line : (a b : Standing) (path bytes : List ℕ) (from : ℕ) (before after : Follow) → path ≡ path_of before.definition.watches → from ≡ place_of before.follower
+    → Looked a b path from (Some bytes) → ReadsLines before bytes after None → Moves a b AtLook AtPause before after
+look_no_line a b path bytes from before after path_is from_is looks reads = record { runs = λ r f at keeps.
+    at_standing (λ x. Reaches a b x AtPause f.left after) r (AtLook f) at (
+      let s = standing r.plan (AtLook f) r.lines in
+      let g = seen_more bytes f in
+      let fed : looked looks.answer f s ≡ standing r.plan (AtPause g) r.lines =
+      looked_some looks.answer bytes f s looks.bytes_are ∙ lines_none (new_lines f.seen bytes) g r.plan (AtLook f) r.lines (reads.what_is f keeps) in
+      reaches_next a b (LookAt path 64 from 65536 looks.answer) looks.called r.plan (AtLook f) r.lines (next_look path from before path_is from_is r.plan f keeps looks.answer) tt
+          AtPause g after fed (reads.keeps f keeps)) }
+
+pub look_nothing : (a b : Standing) (path : List ℕ) (from : ℕ) (before : Follow) → path ≡ path_of before.definition.watches → from ≡ place_of before.follower
+    → Looked a b path from None → Moves a b AtLook AtPause before before
+look_nothing a b path from before path_is from_is looks = record { runs = λ r f at keeps.
+    at_standing (λ x. Reaches a b x AtPause f.left before) r (AtLook f) at (
+      let s = standing r.plan (AtLook f) r.lines in
+      let fed : looked looks.answer f s ≡ standing r.plan (AtPause f) r.lines = looked_none looks.answer f r.plan (AtLook f) r.lines looks.bytes_are in
+      reaches_next a b (LookAt path 64 from 65536 looks.answer) looks.called r.plan (AtLook f) r.lines (next_look path from before path_is from_is r.plan f keeps looks.answer) tt
+          AtPause f before fed keeps) }
+
+pub look_memory : (a b : Standing) (path : List ℕ) (from : ℕ) (bytes : Option (List ℕ)) (before : Follow) → path ≡ path_of before.definition.watches → from ≡ place_of before.follower
+    → Looked a b path from bytes → MoveFails a b AtLook before NoMemory
+look_memory a b path from bytes before path_is from_is looks = record { runs = λ r f at keeps.
+    at_standing (λ x. Halts a.told b.told x NoMemory) r (AtLook f) at (
+      halts_next a b (LookAt path 64 from 65536 looks.answer) looks.called r.plan (AtLook f) r.lines (next_look path from before path_is from_is r.plan f keeps looks.answer) tt) }
+
+pub look_refused : (a b : Standing) (before : Follow) (status : Status) → (status ≡ NoMemory) × (b ≡ a) → MoveFails a b AtLook before status
+look_refused a b before status is = rw (is.0, is.1) (record { runs = λ r f at keeps. halts_here a.told r })
+
+pub ruleset looking = (look_takes, look_fails, look_no_line, look_nothing, look_memory, look_refused)
+
+-- A whole turn.
+
+pub move_fails_on : (a b c : Standing) (p q : Following → Point) (x y : Follow) (status : Status) → Moves a b p q x y → MoveFails b c q y status → MoveFails a c p x status
+move_fails_on a b c p q x y status moves fails = record { runs = λ r f at keeps.
+    let first = moves.runs r f at keeps in
+    halts_after a.told b.told c.told r first.to status first.goes (fails.runs first.to first.following first.at first.keeps) }
+
+pub move_on : (a b c : Standing) (p q o : Following → Point) (x y z : Follow) → Moves a b p q x y → Moves b c q o y z → Moves a c p o x z
+move_on a b c p q o x y z first second = record { runs = λ r f at keeps.
+    let m = first.runs r f at keeps in
+    let n = second.runs m.to m.following m.at m.keeps in
+    record { to = n.to; following = n.following; goes = goes_trans a.told b.told c.told r m.to n.to m.goes n.goes; at = n.at; left_is = n.left_is ∙ m.left_is; keeps = n.keeps } }
+
+pub pause_done : (a b : Standing) (x : Follow) → Called a (Pause 250) b → Moves a b AtPause turn_end x x
+pause_done a b x call = record { runs = λ r f at keeps.
+    at_standing (λ s. Reaches a b s turn_end f.left x) r (AtPause f) at (
+      reaches_next a b (Pause 250) call r.plan (AtPause f) r.lines refl tt turn_end f x refl keeps) }
+
+pub turn_done : (a b c d : Standing) (x y z : Follow) → Moves a b AtClock AtLook x y → Moves b c AtLook AtPause y z → Called c (Pause 250) d → Moves a d AtClock turn_end x z
+turn_done a b c d x y z clock look pause = move_on a b d AtClock AtLook turn_end x y z clock (move_on b c d AtLook AtPause turn_end y z z look (pause_done c d z pause))
+
+pub ruleset turning = (turn_done, move_fails_on)

@@ -1,0 +1,144 @@
+//! The stages of a turn.
+ghost use Rattle.std.specs.Prelude.{◌≡◌, ◌≢◌, ◌+◌, ◌<◌, ◌^◌, length, IfErr, IfOk, IfSome, OnErr, OnOk};
+ghost use Rattle.server_top.specs.Law.{AtClock, AtLook, AtPause, path_of};
+ghost use Rattle.server_top.specs.Stages.{HasCause, IsSteady, Moves, MoveFails, ReadsAt, ReadsLines, Looked, brought, read_by, turn_end};
+ghost use Rattle.jail_core.specs.Kept.{IsTaken};
+ghost use Rattle.log_follow.specs.Followed.{place_of};
+ghost use Rattle.f2b_world.specs.declared.answer.Look.TheVariants.{NoMemory as LookNoMemory};
+ghost use Rattle.server_top.specs.declared.status.Status.TheVariants.{NoMemory as NoMemoryStatus};
+
+use crate::follow::Follow;
+use crate::status::Status;
+use crate::take::take;
+use crate::find::find;
+use f2b_base::{Bytes, JailDef, NoMemory, Place, Plain, Reading, Text, What};
+use f2b_world::{Look, World};
+use log_follow::Line;
+use std::alloc::Global;
+
+/// A reading above this, in seconds since 1970, counts as it.
+const LATEST: u64 = 250_000_000_000;
+
+// Takes over a reading of the clock. Now never goes back.
+fn at_reading(follow: Follow, reading: Reading) -> Follow
+    ensures { ReadsAt follow reading result }
+{
+    let mut follow = follow;
+    follow.now = follow.now.max(reading.secs.min(LATEST));
+    follow.word = reading.word;
+    follow
+}
+
+/// Reads the clock, and ends the bans that are due.
+#[tactic(auto, using(crate::proofs::TurnLemmas::ticking, crate::proofs::CauseLemmas::counting))]
+pub fn tick<W: World>(alloc: Global, world: &mut W, follow: Follow) -> Result<Follow, Status>
+    ensures ok { IfOk result (Moves (W.stands world.old) (W.stands world.new) AtClock AtLook follow) }
+    ensures err { IfErr result (MoveFails (W.stands world.old) (W.stands world.new) AtClock follow) }
+    ensures cause { IfErr result (HasCause (W.stands world.old) (W.stands world.new)) }
+    ensures steady { IsSteady (W.stands world.old) (W.stands world.new) }
+{
+    let reading = world.clock();
+    let follow = at_reading(follow, reading);
+    if follow.core.ban_due(follow.now) {
+        return take(alloc, world, follow, What::Tick);
+    }
+    Ok(follow)
+}
+
+fn path(definition: &JailDef) -> &str
+    ensures { result.now ≡ path_of definition.now.watches }
+{
+    match definition.watches.as_slice() {
+        [watch, ..] => watch.path.as_str(),
+        [] => "",
+    }
+}
+
+// What a look brought, or none where it could not read the log.
+fn bytes_of(look: Look) -> Result<Option<Bytes>, NoMemory>
+    ensures ok { IfOk result (λ bytes. bytes ≡ brought look) }
+    ensures only { OnErr result (look ≡ LookNoMemory) }
+    ensures some { OnOk result (look ≢ LookNoMemory) }
+{
+    match look {
+        Look::File(file) => Ok(Some(file.bytes)),
+        Look::Absent | Look::Failed => Ok(None),
+        Look::NoMemory => Err(NoMemory),
+    }
+}
+
+// Looks at the log from an offset on.
+fn look<W: World>(world: &mut W, path: &str, from: u64) -> Result<Option<Bytes>, Status>
+    ensures ok { IfOk result (Looked (W.stands world.old) (W.stands world.new) path.now from) }
+    ensures err { IfErr result (λ status. (status ≡ NoMemoryStatus) × (W.stands world.new ≡ W.stands world.old)) }
+{
+    let answer = world.look(path, 64, from, 65_536);
+    Ok(bytes_of(answer)?)
+}
+
+// What is taken of lines that have become whole.
+fn what_read(alloc: Global, follow: &Follow, lines: &[Line]) -> Result<What, NoMemory>
+    ensures { IfOk result (λ what. what ≡ (let kept = follow.entry.now in read_by kept.definition kept.filter kept.now lines.now)) }
+{
+    let findtime = follow.definition.findtime;
+    let found = find(alloc, &follow.filter, lines, follow.now, findtime)?;
+    Ok(What::Read {
+        jail: follow.definition.name.copy()?,
+        path: Text::from_str(alloc, path(&follow.definition))?,
+        place: Place::Tail,
+        found,
+    })
+}
+
+// Cuts bytes of the log into lines, and searches the lines.
+#[tactic(auto, using(crate::proofs::LookLemmas::reading))]
+fn read_lines(
+    alloc: Global,
+    follow: Follow,
+    bytes: &[u8],
+) -> Result<(Follow, Option<What>), NoMemory>
+    requires { place_of follow.follower + length bytes.now < 2 ^ 64 }
+    ensures reads { IfOk result (λ r. ReadsLines follow bytes.now r.0 r.1) }
+    ensures taken { IfOk result (λ r. IfSome r.1 IsTaken) }
+{
+    let mut follow = follow;
+    let lines = follow.follower.take(alloc, bytes)?;
+    if lines.is_empty() {
+        return Ok((follow, None));
+    }
+    let what = what_read(alloc, &follow, lines.as_slice())?;
+    Ok((follow, Some(what)))
+}
+
+/// Looks at the log, and takes what is found in the lines that have become whole.
+#[tactic(auto, using(crate::proofs::LookLemmas::looking, crate::proofs::CauseLemmas::counting))]
+pub fn read<W: World>(alloc: Global, world: &mut W, follow: Follow) -> Result<Follow, Status>
+    ensures ok { IfOk result (Moves (W.stands world.old) (W.stands world.new) AtLook AtPause follow) }
+    ensures err { IfErr result (MoveFails (W.stands world.old) (W.stands world.new) AtLook follow) }
+    ensures cause { IfErr result (HasCause (W.stands world.old) (W.stands world.new)) }
+    ensures steady { IsSteady (W.stands world.old) (W.stands world.new) }
+{
+    let from = follow.follower.ask().from;
+    let Some(bytes) = look(world, path(&follow.definition), from)? else {
+        return Ok(follow);
+    };
+    let (follow, what) = read_lines(alloc, follow, bytes.as_slice())?;
+    match what {
+        Some(what) => take(alloc, world, follow, what),
+        None => Ok(follow),
+    }
+}
+
+/// One turn: the clock, the log, a pause.
+#[tactic(auto, using(crate::proofs::LookLemmas::turning, crate::proofs::CauseLemmas::counting))]
+pub fn turn<W: World>(alloc: Global, world: &mut W, follow: Follow) -> Result<Follow, Status>
+    ensures ok { IfOk result (Moves (W.stands world.old) (W.stands world.new) AtClock turn_end follow) }
+    ensures err { IfErr result (MoveFails (W.stands world.old) (W.stands world.new) AtClock follow) }
+    ensures cause { IfErr result (HasCause (W.stands world.old) (W.stands world.new)) }
+    ensures steady { IsSteady (W.stands world.old) (W.stands world.new) }
+{
+    let follow = tick(alloc, world, follow)?;
+    let follow = read(alloc, world, follow)?;
+    world.pause(250);
+    Ok(follow)
+}
