@@ -1,0 +1,3 @@
+pub mod AddsLemmas
+pub mod BuildsLemmas
+pub mod FindingLemmas

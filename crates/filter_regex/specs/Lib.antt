@@ -1,1 +1,4 @@
+pub mod Dates
+pub mod Rules
 pub mod Findings
+pub mod Builds

@@ -1,43 +1,20 @@
-//! Stand-in.
+//! The filter of a jail: what a line of a log says of a host.
+//!
+//! A filter is built once from the texts of a jail, by one call on the outside for each of its patterns. It does not search by
+//! itself. A searcher borrows it, keeps what its searches learn, and goes through many lines of one look. Nothing here knows a
+//! file, a clock or the failures so far: the caller says what time it is.
 #![tactic(auto)]
 
-use f2b_base::{Addr, Seq, Text};
-use std::marker::Model;
+mod build;
+mod date;
+mod error;
+mod finding;
+mod search;
 
-#[derive(Clone, Copy, Debug, PartialEq, Eq)]
-pub enum Finding {
-    Failure { addr: Addr, time: u64, index: u32 },
-    Ignored(u32),
-    NoDate,
-    Missed,
-    NameOnly(u32),
-    IgnoredAddr(u32),
-    TooOld(u32),
-}
+pub use build::Filter;
+pub use error::{BuildKind, PatternError, PatternPlace};
+pub use finding::Finding;
+pub use search::Searcher;
 
-#[derive(Clone, Copy, Debug, PartialEq, Eq)]
-pub enum PatternPlace {
-    Date,
-    Pref,
-    Fail(u32),
-    Ignore(u32),
-}
-
-#[derive(Clone, Copy, Debug, PartialEq, Eq)]
-pub enum BuildKind {
-    Syntax,
-    TooBig,
-}
-
-#[derive(Drop)]
-pub struct Filter {
-    fail: Seq<Text>,
-}
-
-impl Model for Filter {
-    ghost use Rattle.filter_regex.specs.Findings.{Rules};
-
-    ghost Value = { Rules };
-
-    ghost view = { λ f. record { fail = f.fail } };
-}
+#[cfg(test)]
+mod tests;

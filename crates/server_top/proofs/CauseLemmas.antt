@@ -2,7 +2,7 @@
 use Rattle.std.proofs.Common.{ℕ, ◌≡◌, ◌<◌, ◌≤◌, ◌⊎◌, inl, inr, arith}
 use Rattle.f2b_world.specs.Told.{Fault, OfSink, OfConfiguration, OfPatterns, Standing, Rose, Called}
 use Rattle.f2b_world.specs.declared.event.Event.{Event}
-use Rattle.filter_regex.specs.declared.BuildKind.TheVariants.{Syntax, TooBig}
+use Rattle.filter_regex.specs.declared.error.BuildKind.TheVariants.{Syntax, TooBig}
 use Rattle.server_top.specs.Stages.{HasCause, IsSteady}
 use Rattle.server_top.specs.declared.status.Status.{Status}
 use Rattle.server_top.specs.declared.status.Status.TheVariants.{TurnsSpent, Usage, ConfFault, SinkFault, NotBuilt, PatternRefused, NoMemory}
@@ -27,7 +27,7 @@ cause_later old mid new Usage steady cause = tt
 cause_later old mid new ConfFault steady cause = rose_later _ _ _ (steady.counts OfConfiguration) cause
 cause_later old mid new SinkFault steady cause = rose_later _ _ _ (steady.counts OfSink) cause
 cause_later old mid new NotBuilt steady cause = tt
-cause_later old mid new (PatternRefused jail place Syntax) steady cause = tt
+cause_later old mid new (PatternRefused jail place Syntax) steady cause = cause
 cause_later old mid new (PatternRefused jail place TooBig) steady cause = rose_later _ _ _ (steady.counts OfPatterns) cause
 cause_later old mid new NoMemory steady cause = tt
 

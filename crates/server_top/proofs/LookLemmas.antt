@@ -3,7 +3,7 @@ use Rattle.std.proofs.Common.{ℕ, suc, ◌≡◌, ◌==◌, true, false, ◌+�
 use Rattle.f2b_base.specs.declared.input.What.{What}
 use Rattle.f2b_base.specs.declared.input.What.TheVariants.{Read}
 use Rattle.f2b_base.specs.declared.jail.Place.TheVariants.{Tail}
-use Rattle.filter_regex.specs.Findings.{rules_of}
+use Rattle.filter_regex.specs.Rules.{rules_of}
 use Rattle.f2b_world.specs.Told.{Standing, Called}
 use Rattle.f2b_world.specs.declared.answer.Look.{Look}
 use Rattle.f2b_world.specs.declared.answer.Look.TheVariants.{File, Absent, Failed as LookFailed, NoMemory as LookNoMemory}
@@ -99,7 +99,7 @@ look_takes a b c path bytes from before mid after what path_is from_is looks rea
       let s = standing r.plan (AtLook f) r.lines in
       let g = seen_more bytes f in
       let fed : looked looks.answer f s ≡ takes what AtPause g s = looked_some looks.answer bytes f s looks.bytes_are ∙ lines_taken (new_lines f.seen bytes) g s what (reads.what_is f keeps) in
-      reaches_taken a b (LookAt path 64 from 65536 looks.answer) looks.called r.plan (AtLook f) r.lines (next_look path from before path_is from_is r.plan f keeps looks.answer) tt
+      reaches_taken a b (LookAt path 64 from 65536 looks.answer) looks.called r.plan (AtLook f) r.lines (next_look path from before path_is from_is r.plan f keeps looks.answer)
           c what AtPause g mid after fed tt (reads.keeps f keeps) took) }
 
 pub look_fails : (a b c : Standing) (path bytes : List ℕ) (from : ℕ) (before mid : Follow) (what : What) (status : Status) → path ≡ path_of before.definition.watches → from ≡ place_of before.follower
@@ -109,7 +109,7 @@ look_fails a b c path bytes from before mid what status path_is from_is looks re
       let s = standing r.plan (AtLook f) r.lines in
       let g = seen_more bytes f in
       let fed : looked looks.answer f s ≡ takes what AtPause g s = looked_some looks.answer bytes f s looks.bytes_are ∙ lines_taken (new_lines f.seen bytes) g s what (reads.what_is f keeps) in
-      halts_taking a b (LookAt path 64 from 65536 looks.answer) looks.called r.plan (AtLook f) r.lines (next_look path from before path_is from_is r.plan f keeps looks.answer) tt
+      halts_taking a b (LookAt path 64 from 65536 looks.answer) looks.called r.plan (AtLook f) r.lines (next_look path from before path_is from_is r.plan f keeps looks.answer)
           c what AtPause g mid status fed tt (reads.keeps f keeps) fails) }
 
 pub look_no_line : (a b : Standing) (path bytes : List ℕ) (from : ℕ) (before after : Follow) → path ≡ path_of before.definition.watches → from ≡ place_of before.follower
@@ -120,7 +120,7 @@ look_no_line a b path bytes from before after path_is from_is looks reads = reco
       let g = seen_more bytes f in
       let fed : looked looks.answer f s ≡ standing r.plan (AtPause g) r.lines =
       looked_some looks.answer bytes f s looks.bytes_are ∙ lines_none (new_lines f.seen bytes) g r.plan (AtLook f) r.lines (reads.what_is f keeps) in
-      reaches_next a b (LookAt path 64 from 65536 looks.answer) looks.called r.plan (AtLook f) r.lines (next_look path from before path_is from_is r.plan f keeps looks.answer) tt
+      reaches_next a b (LookAt path 64 from 65536 looks.answer) looks.called r.plan (AtLook f) r.lines (next_look path from before path_is from_is r.plan f keeps looks.answer)
           AtPause g after fed (reads.keeps f keeps)) }
 
 pub look_nothing : (a b : Standing) (path : List ℕ) (from : ℕ) (before : Follow) → path ≡ path_of before.definition.watches → from ≡ place_of before.follower
@@ -129,14 +129,14 @@ look_nothing a b path from before path_is from_is looks = record { runs = λ r f
     at_standing (λ x. Reaches a b x AtPause f.left before) r (AtLook f) at (
       let s = standing r.plan (AtLook f) r.lines in
       let fed : looked looks.answer f s ≡ standing r.plan (AtPause f) r.lines = looked_none looks.answer f r.plan (AtLook f) r.lines looks.bytes_are in
-      reaches_next a b (LookAt path 64 from 65536 looks.answer) looks.called r.plan (AtLook f) r.lines (next_look path from before path_is from_is r.plan f keeps looks.answer) tt
+      reaches_next a b (LookAt path 64 from 65536 looks.answer) looks.called r.plan (AtLook f) r.lines (next_look path from before path_is from_is r.plan f keeps looks.answer)
           AtPause f before fed keeps) }
 
 pub look_memory : (a b : Standing) (path : List ℕ) (from : ℕ) (bytes : Option (List ℕ)) (before : Follow) → path ≡ path_of before.definition.watches → from ≡ place_of before.follower
     → Looked a b path from bytes → MoveFails a b AtLook before NoMemory
 look_memory a b path from bytes before path_is from_is looks = record { runs = λ r f at keeps.
     at_standing (λ x. Halts a.told b.told x NoMemory) r (AtLook f) at (
-      halts_next a b (LookAt path 64 from 65536 looks.answer) looks.called r.plan (AtLook f) r.lines (next_look path from before path_is from_is r.plan f keeps looks.answer) tt) }
+      halts_next a b (LookAt path 64 from 65536 looks.answer) looks.called r.plan (AtLook f) r.lines (next_look path from before path_is from_is r.plan f keeps looks.answer)) }
 
 pub look_refused : (a b : Standing) (before : Follow) (status : Status) → (status ≡ NoMemory) × (b ≡ a) → MoveFails a b AtLook before status
 look_refused a b before status is = rw (is.0, is.1) (record { runs = λ r f at keeps. halts_here a.told r })
@@ -159,7 +159,7 @@ move_on a b c p q o x y z first second = record { runs = λ r f at keeps.
 pub pause_done : (a b : Standing) (x : Follow) → Called a (Pause 250) b → Moves a b AtPause turn_end x x
 pause_done a b x call = record { runs = λ r f at keeps.
     at_standing (λ s. Reaches a b s turn_end f.left x) r (AtPause f) at (
-      reaches_next a b (Pause 250) call r.plan (AtPause f) r.lines refl tt turn_end f x refl keeps) }
+      reaches_next a b (Pause 250) call r.plan (AtPause f) r.lines refl turn_end f x refl keeps) }
 
 pub turn_done : (a b c d : Standing) (x y z : Follow) → Moves a b AtClock AtLook x y → Moves b c AtLook AtPause y z → Called c (Pause 250) d → Moves a d AtClock turn_end x z
 turn_done a b c d x y z clock look pause = move_on a b d AtClock AtLook turn_end x y z clock (move_on b c d AtLook AtPause turn_end y z z look (pause_done c d z pause))

@@ -14,7 +14,7 @@ use Rattle.f2b_world.specs.declared.event.Event.{Event}
 use Rattle.f2b_world.specs.declared.event.Event.TheVariants.{Clock}
 use Rattle.log_follow.specs.Followed.{StandsFor}
 use Rattle.log_follow.specs.declared.follower.Follower.{Follower}
-use Rattle.server_top.specs.Law.{Following, Point, AtClock, AtLook, AtPause, Run, Call, call_of, next_call, IsNext, IsRight, MayCome, feed, Goes, Halts, taken, told_lines, takes, read_at, clocked, ticked, latest}
+use Rattle.server_top.specs.Law.{Following, Point, AtClock, AtLook, AtPause, Run, Call, call_of, next_call, IsNext, MayCome, feed, Goes, Halts, taken, told_lines, takes, read_at, clocked, ticked, latest}
 use Rattle.server_top.specs.Stages.{HasCause, IsAt, IsSaying, Keeps, Moves, MoveFails, Owes, Reaches, ReadsAt, Takes, TakeFails}
 use Rattle.server_top.specs.declared.follow.Follow.{Follow}
 use Rattle.server_top.specs.declared.status.Status.{Status}
@@ -37,12 +37,12 @@ pub next_standing : (plan : Plan) (point : Point) (lines : List (List ℕ)) → 
 next_standing plan point lines = ap (call_of plan point) (get_past lines)
 
 -- an event that may come there
-pub may_come : (plan : Plan) (point : Point) (lines : List (List ℕ)) (event : Event) → IsNext (call_of plan point None) event → IsRight event → MayCome (standing plan point lines) event
-may_come plan point lines event next right = let P : Option Call → Type 0 = λ c. IsNext c event in (subst P (sym (next_standing plan point lines)) next, right)
+pub may_come : (plan : Plan) (point : Point) (lines : List (List ℕ)) (event : Event) → IsNext (call_of plan point None) event → MayCome (standing plan point lines) event
+may_come plan point lines event next = let P : Option Call → Type 0 = λ c. IsNext c event in subst P (sym (next_standing plan point lines)) next
 
 -- An event whose input is taken.
 module _ (a b : Standing) (event : Event) (call : Called a event b) (plan : Plan) (there : Point) (lines : List (List ℕ))
-    (next : IsNext (call_of plan there None) event) (right : IsRight event) where
+    (next : IsNext (call_of plan there None) event) where
   came : Goes a.told b.told (standing plan there lines) (feed (standing plan there lines) event)
   came = goes_call a b event (standing plan there lines) call (may_come plan there lines event next right)
 
@@ -114,7 +114,7 @@ tick_takes a b c reading before mid after due call reads due_now is_due_now took
       let held = read_keeps before mid reading f reads keeps in
       let fed : clocked g (standing r.plan (AtClock f) r.lines) ≡ takes Tick AtLook g (standing r.plan (AtClock f) r.lines) =
       ap (λ b. ticked b g (standing r.plan (AtClock f) r.lines)) (due_is mid g due held due_now ∙ is_due_now) in
-      reaches_taken a b (Clock reading) call r.plan (AtClock f) r.lines tt tt c Tick AtLook g mid after fed tt held took) }
+      reaches_taken a b (Clock reading) call r.plan (AtClock f) r.lines tt c Tick AtLook g mid after fed tt held took) }
 
 pub tick_fails : (a b c : Standing) (reading : Reading) (before mid : Follow) (due : Bool) (status : Status) → Called a (Clock reading) b → ReadsAt before reading mid
     → due ≡ is_ban_due moves_now mid.now mid.core → due ≡ true → TakeFails b c Tick mid status → MoveFails a c AtClock before status
@@ -124,7 +124,7 @@ tick_fails a b c reading before mid due status call reads due_now is_due_now fai
       let held = read_keeps before mid reading f reads keeps in
       let fed : clocked g (standing r.plan (AtClock f) r.lines) ≡ takes Tick AtLook g (standing r.plan (AtClock f) r.lines) =
       ap (λ b. ticked b g (standing r.plan (AtClock f) r.lines)) (due_is mid g due held due_now ∙ is_due_now) in
-      halts_taking a b (Clock reading) call r.plan (AtClock f) r.lines tt tt c Tick AtLook g mid status fed tt held fails) }
+      halts_taking a b (Clock reading) call r.plan (AtClock f) r.lines tt c Tick AtLook g mid status fed tt held fails) }
 
 pub tick_none : (a b : Standing) (reading : Reading) (before mid : Follow) (due : Bool) → Called a (Clock reading) b → ReadsAt before reading mid
     → due ≡ is_ban_due moves_now mid.now mid.core → due ≡ false → Moves a b AtClock AtLook before mid
@@ -134,6 +134,6 @@ tick_none a b reading before mid due call reads due_now is_not = record { runs =
       let held = read_keeps before mid reading f reads keeps in
       let fed : clocked g (standing r.plan (AtClock f) r.lines) ≡ standing r.plan (AtLook g) r.lines =
       ap (λ b. ticked b g (standing r.plan (AtClock f) r.lines)) (due_is mid g due held due_now ∙ is_not) in
-      reaches_next a b (Clock reading) call r.plan (AtClock f) r.lines tt tt AtLook g mid fed held) }
+      reaches_next a b (Clock reading) call r.plan (AtClock f) r.lines tt AtLook g mid fed held) }
 
 pub ruleset ticking = (tick_takes, tick_fails, tick_none)

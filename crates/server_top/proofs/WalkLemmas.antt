@@ -6,7 +6,7 @@ use Rattle.f2b_world.specs.declared.event.Event.TheVariants.{Say}
 use Rattle.f2b_world.specs.declared.answer.Said.TheVariants.{Done as SayDone, Failed as SayFailed}
 use Rattle.f2b_world.specs.Told.{History, Standing, Called}
 use Rattle.f2b_world.proofs.WalkLemmas.{walks_refl, walks_trans, walks_call}
-use Rattle.server_top.specs.Law.{Run, Point, AtConfig, AtMake, AtStart, AtClock, AtLook, AtPause, Over, Call, AskSay, call_of, call_for, next_call, IsNext, IsRight, MayCome, feed, Free, Goes, Halts, Ends, IsOver, refused}
+use Rattle.server_top.specs.Law.{Run, Point, AtConfig, AtMake, AtStart, AtClock, AtLook, AtPause, Over, Call, AskSay, call_of, call_for, next_call, IsNext, MayCome, feed, Free, Goes, Halts, Ends, IsOver, refused}
 use Rattle.server_top.specs.Refusals.{refusal_line}
 use Rattle.server_top.specs.Stages.{IsRefusal, IsSaying, Owes, Refuses, Says, SayFails}
 use Rattle.server_top.specs.declared.status.Status.{Status}
@@ -65,7 +65,7 @@ says_one old new line bytes is call = record { runs = λ r front later owes.
     let P : Option Call → Type 0 = λ c. IsNext c (Say bytes SayDone) in
     let Q : ℕ → Type 0 = λ n. Goes old.told new.told r (record r { said = n }) in
     let more : r.said + 1 ≡ length front + 1 = ap (λ n. n + 1) owes.said in
-    subst Q more (goes_call old new (Say bytes SayDone) r call (subst P (sym next) is, tt)) }
+    subst Q more (goes_call old new (Say bytes SayDone) r call (subst P (sym next) is)) }
 
 pub fails_one : (old new : Standing) (line bytes : List ℕ) → bytes ≡ line → Called old (Say bytes SayFailed) new → SayFails old new (line ∷ []) SinkFault
 fails_one old new line bytes is call = record { runs = λ r front later owes.
@@ -73,7 +73,7 @@ fails_one old new line bytes is call = record { runs = λ r front later owes.
     let P : Option Call → Type 0 = λ c. IsNext c (Say bytes SayFailed) in
     record {
       last = feed r (Say bytes SayFailed);
-      goes = goes_call old new (Say bytes SayFailed) r call (subst P (sym next) is, tt);
+      goes = goes_call old new (Say bytes SayFailed) r call (subst P (sym next) is);
       ends = record { point = refl; none = refl };
     } }
 

@@ -1,5 +1,5 @@
 -- What a run does: the one call that comes next, and where each event leaves the run.
-use Rattle.std.specs.Prelude.{ℕ, zero, suc, ◌≡◌, ◌+◌, ◌-◌, ◌^◌, ◌++◌, max, min, length, map, slice_get, IsSome, Bool, true, false, List, [], ◌∷◌, Option, Some, None, if◌then◌else◌}
+use Rattle.std.specs.Prelude.{ℕ, zero, suc, ◌≡◌, ◌+◌, ◌-◌, ◌^◌, ◌++◌, max, min, length, map, slice_get, Bool, true, false, List, [], ◌∷◌, Option, Some, None, if◌then◌else◌}
 use Rattle.f2b_base.specs.declared.ban.Failure.{Failure}
 use Rattle.f2b_base.specs.declared.input.Input.{Input}
 use Rattle.f2b_base.specs.declared.input.What.{What}
@@ -13,7 +13,6 @@ use Rattle.f2b_base.specs.declared.outside.TreeAnswer.TheVariants.{Tree, Failed 
 use Rattle.f2b_model.specs.State.{State}
 use Rattle.f2b_model.specs.Steps.{moves, step, first_state, is_ban_due}
 use Rattle.f2b_model.specs.Told.{told}
-use Rattle.f2b_world.specs.Reading.{reading}
 use Rattle.f2b_world.specs.Told.{History}
 use Rattle.f2b_world.specs.Walks.{Walks}
 use Rattle.f2b_world.specs.declared.answer.Look.{Look}
@@ -23,13 +22,13 @@ use Rattle.f2b_world.specs.declared.answer.MakeAnswer.TheVariants.{Built, Syntax
 use Rattle.f2b_world.specs.declared.answer.Said.TheVariants.{Done, Failed as SayFailed}
 use Rattle.f2b_world.specs.declared.event.Event.{Event}
 use Rattle.f2b_world.specs.declared.event.Event.TheVariants.{Say, Make, Clock, Config, Look as LookAt, Pause}
-use Rattle.filter_regex.specs.Findings.{Rules, finding, rules_of, texts_of}
-use Rattle.filter_regex.specs.declared.BuildKind.{BuildKind}
-use Rattle.filter_regex.specs.declared.BuildKind.TheVariants.{Syntax, TooBig}
-use Rattle.filter_regex.specs.declared.Finding.{Finding}
-use Rattle.filter_regex.specs.declared.Finding.TheVariants.{Failure as Failed}
-use Rattle.filter_regex.specs.declared.PatternPlace.{PatternPlace}
-use Rattle.filter_regex.specs.declared.PatternPlace.TheVariants.{Date, Fail}
+use Rattle.filter_regex.specs.Findings.{finding}
+use Rattle.filter_regex.specs.Rules.{Rules, rules_of, patterns}
+use Rattle.filter_regex.specs.declared.error.BuildKind.{BuildKind}
+use Rattle.filter_regex.specs.declared.error.BuildKind.TheVariants.{Syntax, TooBig}
+use Rattle.filter_regex.specs.declared.finding.Finding.{Finding}
+use Rattle.filter_regex.specs.declared.finding.Finding.TheVariants.{Failure as Failed}
+use Rattle.filter_regex.specs.declared.error.PatternPlace.{PatternPlace}
 use Rattle.log_follow.specs.Lines.{new_lines}
 use Rattle.log_follow.specs.declared.line.Line.{Line}
 use Rattle.log_follow.specs.declared.line.Line.TheVariants.{Whole}
@@ -89,14 +88,18 @@ abbrev pub path_of : List WatchDef → List ℕ
 path_of [] = []
 path_of (watch ∷ watches) = watch.path
 
-abbrev pub make_call : Option (List ℕ) → Option Call
+-- the pattern of that number, from 0, with its place
+abbrev pub pattern_at : JailDef → ℕ → Option (PatternPlace × List ℕ)
+pattern_at definition k = slice_get (patterns (rules_of definition)) k
+
+abbrev pub make_call : Option (PatternPlace × List ℕ) → Option Call
 make_call None = None
-make_call (Some text) = Some (AskMake text)
+make_call (Some pattern) = Some (AskMake pattern.1)
 
 -- a log is looked at with 64 bytes of its head, from behind what was seen, for at most 65,536 bytes; a pause has 250 milliseconds
 abbrev pub call_at : Plan → Point → Option Call
 call_at plan AtConfig = Some (AskConfig plan.root)
-call_at plan (AtMake definition k) = make_call (slice_get (texts_of definition) k)
+call_at plan (AtMake definition k) = make_call (pattern_at definition k)
 call_at plan (AtStart definition) = Some AskClock
 call_at plan (AtClock f) = Some AskClock
 call_at plan (AtLook f) = Some (AskLook (path_of f.definition.watches) 64 (length f.seen) 65536)
@@ -130,14 +133,8 @@ abbrev pub IsNext : Option Call → Event → Type 0
 IsNext (Some call) event = Makes call event
 IsNext None event = ⊥
 
--- a pattern is refused for its syntax where its text has no reading, and built only where it has one
-abbrev pub IsRight : Event → Type 0
-IsRight (Make text WasSyntax) = reading text ≡ None
-IsRight (Make text Built) = IsSome (reading text)
-IsRight _ = Unit {0}
-
 abbrev pub MayCome : Run → Event → Type 0
-MayCome r event = IsNext (next_call r) event × IsRight event
+MayCome r event = IsNext (next_call r) event
 
 -- Where an event leaves the run.
 
@@ -159,10 +156,18 @@ told_lines what f = map (line_of f.now) (told moves f.state (record { secs = f.n
 abbrev pub takes : What → (Following → Point) → Following → Run → Run
 takes what point f r = record r { point = point (taken what f); lines = r.lines ++ told_lines what f }
 
+-- the next pattern, and the first reading of the clock behind the last
+abbrev pub after_make : JailDef → ℕ → Option (PatternPlace × List ℕ) → Point
+after_make definition k None = AtStart definition
+after_make definition k (Some pattern) = AtMake definition k
+
+abbrev pub make_point : JailDef → ℕ → Point
+make_point definition k = after_make definition k (pattern_at definition k)
+
 -- the flat form alone is built
 abbrev pub configured : Option JailDef → Run → Run
 configured None r = refused NotBuilt r
-configured (Some definition) r = record r { point = AtMake definition 0 }
+configured (Some definition) r = record r { point = make_point definition 0 }
 
 abbrev pub config_read : TreeAnswer → Run → Run
 config_read (Tree tree) r = configured (flat_jail tree) r
@@ -170,19 +175,14 @@ config_read TreeFailed r = refused ConfFault r
 config_read TreeTooLarge r = refused NotBuilt r
 config_read TreeNoMemory r = r
 
--- the place of the pattern of that number
-abbrev pub place_at : ℕ → PatternPlace
-place_at zero = Date
-place_at (suc n) = Fail (suc n)
-
-abbrev pub after_make : JailDef → ℕ → Option (List ℕ) → Point
-after_make definition k None = AtStart definition
-after_make definition k (Some text) = AtMake definition k
+abbrev pub not_made : JailDef → Option (PatternPlace × List ℕ) → BuildKind → Run → Run
+not_made definition None kind r = r
+not_made definition (Some pattern) kind r = refused (PatternRefused definition.name pattern.0 kind) r
 
 abbrev pub made : JailDef → ℕ → MakeAnswer → Run → Run
-made definition k Built r = record r { point = after_make definition (k + 1) (slice_get (texts_of definition) (k + 1)) }
-made definition k WasSyntax r = refused (PatternRefused definition.name (place_at k) Syntax) r
-made definition k WasTooBig r = refused (PatternRefused definition.name (place_at k) TooBig) r
+made definition k Built r = record r { point = make_point definition (k + 1) }
+made definition k WasSyntax r = not_made definition (pattern_at definition k) Syntax r
+made definition k WasTooBig r = not_made definition (pattern_at definition k) TooBig r
 
 -- now never goes back
 abbrev pub read_at : Reading → Following → Following

@@ -1,10 +1,10 @@
 -- The line that stands before the end of a run that was refused.
 use Rattle.std.specs.Prelude.{ℕ, ◌++◌, List, [], codes}
 use Rattle.std.specs.Fmt.{decimal}
-use Rattle.filter_regex.specs.declared.BuildKind.{BuildKind}
-use Rattle.filter_regex.specs.declared.BuildKind.TheVariants.{Syntax, TooBig}
-use Rattle.filter_regex.specs.declared.PatternPlace.{PatternPlace}
-use Rattle.filter_regex.specs.declared.PatternPlace.TheVariants.{Date, Pref, Fail, Ignore}
+use Rattle.filter_regex.specs.declared.error.BuildKind.{BuildKind}
+use Rattle.filter_regex.specs.declared.error.BuildKind.TheVariants.{Syntax, TooBig}
+use Rattle.filter_regex.specs.declared.error.PatternPlace.{PatternPlace}
+use Rattle.filter_regex.specs.declared.error.PatternPlace.TheVariants.{Date, Pref, Fail, Ignore}
 use Rattle.server_top.specs.declared.status.Status.{Status}
 use Rattle.server_top.specs.declared.status.Status.TheVariants.{TurnsSpent, Usage, ConfFault, SinkFault, NotBuilt, PatternRefused, NoMemory}
 use Rattle.server_top.specs.Said.{stamped}

@@ -1,5 +1,5 @@
 -- The stages of a run: what a function of the server has done when it returns.
-use Rattle.std.specs.Prelude.{ℕ, max, min, ◌^◌, ◌<◌, Option, Some, None, IfSome, ◌≡◌, ◌⊎◌, ◌+◌, ◌-◌, ◌≤◌, ◌++◌, length, List, [], ◌∷◌}
+use Rattle.std.specs.Prelude.{ℕ, max, min, ◌^◌, ◌<◌, Option, Some, None, IfSome, ◌≡◌, ◌⊎◌, ◌+◌, ◌-◌, ◌≤◌, ◌++◌, length, Contains, List, [], ◌∷◌}
 use Rattle.f2b_base.specs.declared.input.What.{What}
 use Rattle.f2b_base.specs.declared.input.What.TheVariants.{Read}
 use Rattle.f2b_base.specs.declared.jail.Place.TheVariants.{Tail}
@@ -14,8 +14,10 @@ use Rattle.f2b_world.specs.declared.answer.Look.{Look}
 use Rattle.f2b_world.specs.declared.answer.Look.TheVariants.{File}
 use Rattle.f2b_world.specs.declared.event.Event.TheVariants.{Look as LookAt}
 use Rattle.f2b_base.specs.declared.jail.JailDef.{JailDef}
-use Rattle.filter_regex.specs.Findings.{Rules}
-use Rattle.filter_regex.specs.declared.BuildKind.TheVariants.{Syntax, TooBig}
+use Rattle.filter_regex.specs.Rules.{Rules, patterns, rules_of}
+use Rattle.filter_regex.specs.declared.error.PatternPlace.{PatternPlace}
+use Rattle.f2b_world.specs.Reading.{reading}
+use Rattle.filter_regex.specs.declared.error.BuildKind.TheVariants.{Syntax, TooBig}
 use Rattle.log_follow.specs.Followed.{StandsFor}
 use Rattle.log_follow.specs.Lines.{new_lines}
 use Rattle.log_follow.specs.declared.line.Line.{Line}
@@ -28,10 +30,19 @@ use Rattle.server_top.specs.declared.status.Status.TheVariants.{TurnsSpent, Usag
 pub record IsSteady (old new : Standing) : Type 0 where
   pub counts : (kind : Fault) → old.faults kind ≤ new.faults kind
 
--- a fault of the outside has its cause in a count that rose
+-- a jail of the flat form has this pattern at this place, and its text has no reading
+pub record IsNoPattern (jail : List ℕ) (place : PatternPlace) : Type 0 where
+  pub definition : JailDef
+  pub name : definition.name ≡ jail
+  pub text : List ℕ
+  pub stands : Contains (patterns (rules_of definition)) (place, text)
+  pub none : reading text ≡ None
+
+-- a fault of the outside has its cause in a count that rose, and a pattern that is refused for its syntax in its text
 abbrev pub HasCause : Standing → Standing → Status → Type 0
 HasCause old new SinkFault = Rose (old.faults OfSink) (new.faults OfSink)
 HasCause old new ConfFault = Rose (old.faults OfConfiguration) (new.faults OfConfiguration)
+HasCause old new (PatternRefused jail place Syntax) = IsNoPattern jail place
 HasCause old new (PatternRefused jail place TooBig) = Rose (old.faults OfPatterns) (new.faults OfPatterns)
 HasCause old new _ = Unit {0}
 
