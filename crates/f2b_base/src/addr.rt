@@ -1,5 +1,7 @@
 //! Addresses of hosts, and masks over them.
 
+mod read;
+
 use crate::memory::NoMemory;
 use crate::plain::Plain;
 
