@@ -1,5 +1,6 @@
 //! Addresses of hosts, and masks over them.
 
+mod print;
 mod read;
 
 use crate::memory::NoMemory;
