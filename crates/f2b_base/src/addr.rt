@@ -1,5 +1,6 @@
 //! Addresses of hosts, and masks over them.
 
+mod mask;
 mod print;
 mod read;
 
