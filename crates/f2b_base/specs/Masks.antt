@@ -1,10 +1,10 @@
 -- Masks over addresses: which addresses a mask holds, and the texts that spell masks.
-use Rattle.std.specs.Prelude.{◌≡◌, ℕ, ◌+◌, ◌-◌, ◌*◌, ◌/◌, ◌%◌, ◌^◌, ◌≤◌, Bool, false, ◌==◌, ◌&&◌, nat_lt, nat_le, List, take, drop, position, decimal, bytes_eq, Option, Some, None, option_map, option_and_then, if◌then◌else◌}
+use Rattle.std.specs.Prelude.{◌≡◌, ℕ, ◌+◌, ◌-◌, ◌*◌, ◌/◌, ◌%◌, ◌^◌, ◌≤◌, Bool, false, ◌==◌, ◌&&◌, nat_lt, nat_le, ◌⊎◌, List, ◌++◌, take, drop, position, codes, decimal, bytes_eq, Option, Some, None, option_map, option_and_then, if◌then◌else◌}
 use Rattle.std.specs.Str.Parse.{digits_value}
 use Rattle.f2b_base.specs.declared.addr.Addr.{Addr}
 use Rattle.f2b_base.specs.declared.addr.Addr.TheVariants.{V4, V6}
 use Rattle.f2b_base.specs.declared.addr.Cidr.{Cidr}
-use Rattle.f2b_base.specs.Addresses.{is_mapped, written_addr, read_addr, IsAddr}
+use Rattle.f2b_base.specs.Addresses.{is_mapped, written_addr, read_addr, IsAddr, IsForm, Spells}
 
 -- ---- values
 
@@ -57,6 +57,19 @@ masked (V6 number) bits =
 abbrev pub alone : Addr → Cidr
 alone (V4 number) = record { base = V4 number; bits = 32 }
 alone (V6 number) = record { base = V6 number; bits = 128 }
+
+-- the text is a form of an address, `/` and the decimal of a number of bits, and spells the mask of those
+pub record IsMaskedForm (text : List ℕ) (cidr : Cidr) : Type 0 where
+  pub address : List ℕ
+  pub written : Addr
+  pub bits : ℕ
+  pub spelled : text ≡ address ++ codes "/" ++ decimal bits
+  pub form : IsForm address written
+  pub over : masked written bits ≡ Some cidr
+
+-- the text spells the mask: an address alone, or an address and its bits
+abbrev pub SpellsMask : List ℕ → Cidr → Type 0
+SpellsMask text cidr = ((addr : Addr) × Spells text addr × (cidr ≡ alone addr)) ⊎ IsMaskedForm text cidr
 
 -- the number below 256 whose decimal the text is
 unfoldable pub read_bits : List ℕ → Option ℕ

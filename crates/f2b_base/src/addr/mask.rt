@@ -1,6 +1,7 @@
 //! Masks over addresses: reading them, and which addresses they hold.
-ghost use Rattle.std.specs.Prelude.{◌≡◌, ◌*◌, ◌/◌, ◌^◌, ◌<◌, ◌≤◌, ◌≢◌, ◌==◌, length, position, IfSome};
-ghost use Rattle.f2b_base.specs.Masks.{masked, masked_v4, masked_v6, alone, read_bits, read_masked, read_cidr, holds, IsCidr};
+ghost use Rattle.std.specs.Prelude.{◌≡◌, ◌*◌, ◌/◌, ◌^◌, ◌<◌, ◌≤◌, ◌≢◌, ◌==◌, length, position, IfNone, IfSome};
+ghost use Rattle.f2b_base.specs.declared.addr.Cidr.{Cidr};
+ghost use Rattle.f2b_base.specs.Masks.{masked, masked_v4, masked_v6, alone, read_bits, read_masked, read_cidr, holds, IsCidr, SpellsMask};
 
 use super::{Addr, Cidr};
 use std::str;
@@ -15,7 +16,11 @@ impl Cidr {
     #[tactic(auto, unfolding(crate::specs::Masks::read_cidr))]
     pub fn read(text: &[u8]) -> Option<Cidr>
         ensures value { result ≡ read_cidr text.now }
+        ensures spelled { IfSome result (SpellsMask text.now) }
         ensures bounds { IfSome result IsCidr }
+
+        // A text without a mask spells none.
+        ensures none { IfNone result ((cidr : Cidr) → ¬ SpellsMask text.now cidr) }
     {
         match slash_place(text) {
             None => {

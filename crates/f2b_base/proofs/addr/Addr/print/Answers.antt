@@ -1,7 +1,7 @@
 -- The text that was written is the one that reads as the address.
 use Rattle.std.proofs.Common.{ap, ◌∙◌}
 use Rattle.f2b_base.specs.Addresses.{read_addr}
-use Rattle.f2b_base.proofs.AddressLemmas.{read_addr-printed}
+use Rattle.f2b_base.proofs.PrintLemmas.{read_addr-printed}
 use Rattle.f2b_base.proofs.addr.Addr.print.Goals as goal
 
 pub returns-clause-again : goal.returns-clause-again

@@ -1,7 +1,7 @@
 -- What std's parser says of a text, in the words of `written_addr`.
 use Rattle.std.proofs.Common.{sym}
 use Rattle.f2b_base.specs.declared.addr.Addr.TheVariants.{V4, V6}
-use Rattle.f2b_base.proofs.AddressLemmas.{written_addr-IsForm, written_addr_none, IsForm4-IsIpText, IsForm6-IsIpText, no_form}
+use Rattle.f2b_base.proofs.FormLemmas.{written_addr-IsForm, written_addr_none, IsForm4-IsIpText, IsForm6-IsIpText, no_form}
 use Rattle.f2b_base.proofs.addr.Addr.written.Goals as goal
 
 pub returns-in_default-clause-value : goal.returns-in_default-clause-value

@@ -1,7 +1,7 @@
 -- What `parse` gives, in the words of `read_bits`.
 use Rattle.std.proofs.Common.{◌<◌, length, get_or, sym, subst, ◌∙◌, arith}
 use Rattle.std.specs.Str.Parse.{ParsesUnsigned}
-use Rattle.f2b_base.proofs.MaskLemmas.{read_bits_not_plain, read_bits_not_utf8, read_bits-parsed}
+use Rattle.f2b_base.proofs.BitsLemmas.{read_bits_not_plain, read_bits_not_utf8, read_bits-parsed}
 use Rattle.f2b_base.proofs.addr.mask.read_bits.Goals as goal
 use Rattle.f2b_base.proofs.addr.mask.read_bits.Goals.{else-text-gt1-via-then-text-gt1+else-text-le48, else-text-gt1-via-else-text-gt1}
 

@@ -1,6 +1,6 @@
 -- The digits that are left out are leading zeros.
 use Rattle.std.proofs.Common.{◌++◌, ap, ◌∙◌, arith}
-use Rattle.f2b_base.proofs.AddressLemmas.{decimal-octet}
+use Rattle.f2b_base.proofs.PrintLemmas.{decimal-octet}
 use Rattle.f2b_base.proofs.addr.print.AddrText.push_octet.Goals as goal
 
 pub returns-clause-value : goal.returns-clause-value
