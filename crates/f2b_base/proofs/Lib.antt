@@ -1,0 +1,6 @@
+pub mod BitsLemmas
+pub mod ByteLemmas
+pub mod FormLemmas
+pub mod MaskLemmas
+pub mod PrintLemmas
+pub mod SlashLemmas

@@ -25,22 +25,35 @@ abbrev pub IsAddr : Addr → Type 0
 IsAddr (V4 number) = number < 2 ^ 32
 IsAddr (V6 number) = (number < 2 ^ 128) × (number / 2 ^ 32 ≢ 0xffff)
 
--- the four octets of an IPv4 address, the highest first
+-- the four octets of an IPv4 address, the highest first, and the number of such octets
 unfoldable pub octets : ℕ → List ℕ
 octets number = to_be_bytes w32 number
 
--- the eight groups of 16 bits of an IPv6 address, the highest first
+unfoldable pub octets_number : List ℕ → ℕ
+octets_number octets = from_be_bytes w32 octets
+
+-- the eight groups of 16 bits of an IPv6 address, the highest first, and the number of such groups
 unfoldable pub groups : ℕ → List ℕ
 groups number = segments_of (to_be_bytes w128 number)
 
+unfoldable pub groups_number : List ℕ → ℕ
+groups_number groups = from_be_bytes w128 (octets_of groups)
+
 -- ---- texts
 
--- The text is a form of the address: four decimals below 256 with no leading zeros and dots between them, or groups of one to
--- four hex digits with colons between them, of which the last two may be written as an IPv4 address, and `::` may stand for
--- one zero group or more.
+-- the text has the form of an IPv4 address: four decimals below 256 with no leading zeros, and dots between them
+abbrev pub IsForm4 : List ℕ → ℕ → Type 0
+IsForm4 text number = (octets : List ℕ) × IsDotted text octets × (number ≡ octets_number octets)
+
+-- The text has one of the forms of an IPv6 address: eight groups of one to four hex digits with colons between them, of which the
+-- last two may be written as an IPv4 address, and `::` may stand for one zero group or more.
+abbrev pub IsForm6 : List ℕ → ℕ → Type 0
+IsForm6 text number = (groups : List ℕ) × IsColonHex text groups × (number ≡ groups_number groups)
+
+-- the text is a form of the address as it is written
 abbrev pub IsForm : List ℕ → Addr → Type 0
-IsForm text (V4 number) = IsDotted text (octets number)
-IsForm text (V6 number) = IsColonHex text (groups number)
+IsForm text (V4 number) = IsForm4 text number
+IsForm text (V6 number) = IsForm6 text number
 
 -- the text spells the address of the host
 abbrev pub Spells : List ℕ → Addr → Type 0
@@ -50,8 +63,8 @@ Spells text addr = (written : Addr) × IsForm text written × (addr ≡ canonica
 unfoldable pub written_addr : List ℕ → Option Addr
 written_addr text =
     option_or
-    (option_map (λ octets. V4 (from_be_bytes w32 octets)) (whole_value (read_ipv4 text)))
-    (option_map (λ groups. V6 (from_be_bytes w128 (octets_of groups))) (whole_value (read_ipv6 text)))
+    (option_map (λ octets. V4 (octets_number octets)) (whole_value (read_ipv4 text)))
+    (option_map (λ groups. V6 (groups_number groups)) (whole_value (read_ipv6 text)))
 
 -- the address that a text reads as
 unfoldable pub read_addr : List ℕ → Option Addr

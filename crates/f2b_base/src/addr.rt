@@ -1,5 +1,9 @@
 //! Addresses of hosts, and masks over them.
 
+mod mask;
+mod print;
+mod read;
+
 use crate::memory::NoMemory;
 use crate::plain::Plain;
 

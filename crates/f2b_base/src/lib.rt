@@ -16,6 +16,8 @@ mod outside;
 mod plain;
 mod seq;
 mod spans;
+#[cfg(test)]
+mod tests;
 mod text;
 mod view;
 
