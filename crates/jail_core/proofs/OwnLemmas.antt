@@ -1,5 +1,5 @@
 -- In an ordered list the failures of an address stand side by side.
-use Rattle.std.proofs.Common.{◌≡◌, ℕ, zero, suc, ◌+◌, ◌<◌, ◌≤◌, Bool, true, false, not, ◌||◌, List, [], ◌∷◌, length, get_or, take, drop, refl, sym, ◌∙◌, ap, ap₂, arith, length-drop}
+use Rattle.std.proofs.Common.{◌≡◌, ℕ, zero, suc, ◌+◌, ◌-◌, ◌<◌, ◌≤◌, Bool, true, false, not, List, [], ◌∷◌, length, get_or, take, drop, refl, sym, ◌∙◌, ap, ap₂, arith, length-drop, subst}
 use Rattle.std.specs.List.{filter}
 use Rattle.std.specs.List.Sorted.{IsPartitionedBy, IsPartitionPoint}
 use Rattle.std.proofs.lemmas.List.{get_or-drop}
@@ -28,7 +28,7 @@ parted_after addr fs o =
     parted_by comes_before (λ (f : Failure). not (addr_before addr f.addr))
     (λ f g h e. let up = addr_up f.addr g.addr addr (addr_in_order f g h) (not_true (addr_before addr g.addr) e) in rw up refl) fs o
 
-pub in_order_drop : (fs : List Failure) (i : ℕ) → IsInOrder comes_before fs → IsInOrder comes_before (drop i fs)
+in_order_drop : (fs : List Failure) (i : ℕ) → IsInOrder comes_before fs → IsInOrder comes_before (drop i fs)
 in_order_drop fs zero o = o
 in_order_drop [] (suc i) o = o
 in_order_drop (f ∷ fs) (suc i) o = in_order_drop fs i o.1
@@ -77,7 +77,7 @@ neither addr f h g =
     (λ e. absurd (let there = addr_total f.addr addr e h in let k : true ≡ false = sym there ∙ g in cc))
 
 -- so they are what stands between the two places
-pub own_is : (addr : Addr) (fs : List Failure) (first count : ℕ) → first ≤ length fs
+own_is : (addr : Addr) (fs : List Failure) (first count : ℕ) → first ≤ length fs
     → IsPartitionPoint (λ (f : Failure). addr_before f.addr addr ≡ true) (λ (f : Failure). addr_before f.addr addr ≡ false) fs first
     → count ≤ length (drop first fs)
     → IsPartitionPoint (λ (f : Failure). not (addr_before addr f.addr) ≡ true) (λ (f : Failure). not (addr_before addr f.addr) ≡ false) (drop first fs) count
@@ -89,3 +89,29 @@ own_is addr fs first count le before within after =
     let there : addr_before (get_or (drop first fs) k d).addr addr ≡ false = rw (get_or-drop first fs k d) (let len = length-drop first fs in before.1 (first + k) d (omega arith) (omega arith)) in
     neither addr (get_or (drop first fs) k d) there (not_true _ (after.0 k d (omega arith) lt)))
     (λ k d low lt. other_after addr (get_or (drop first fs) k d) (not_false _ (after.1 k d low lt))))
+
+-- all of a list is there
+take_whole : {A : Type 0} (xs : List A) (n : ℕ) → length xs ≤ n → take n xs ≡ xs
+take_whole [] zero le = refl
+take_whole [] (suc n) le = refl
+take_whole (x ∷ xs) zero le = absurd (omega arith)
+take_whole (x ∷ xs) (suc n) le = ap (λ r. x ∷ r) (take_whole xs n (omega arith))
+
+-- the rest of a list from a place on, as a slice gives it
+pub rest_is : (fs : List Failure) (first : ℕ) → first ≤ length fs → take (length fs - first) (drop first fs) ≡ drop first fs
+rest_is fs first le = let len = length-drop first fs in take_whole (drop first fs) (length fs - first) (omega arith)
+
+-- the same of any list that is the rest
+pub own_between : (addr : Addr) (fs rest : List Failure) (first count : ℕ) → rest ≡ drop first fs → first ≤ length fs
+    → IsPartitionPoint (λ (f : Failure). addr_before f.addr addr ≡ true) (λ (f : Failure). addr_before f.addr addr ≡ false) fs first
+    → count ≤ length rest
+    → IsPartitionPoint (λ (f : Failure). not (addr_before addr f.addr) ≡ true) (λ (f : Failure). not (addr_before addr f.addr) ≡ false) rest count
+    → take count rest ≡ filter (is_of addr) fs
+own_between addr fs rest first count e le before =
+    let P : List Failure → Type 0 = λ r. count ≤ length r
+    → IsPartitionPoint (λ (f : Failure). not (addr_before addr f.addr) ≡ true) (λ (f : Failure). not (addr_before addr f.addr) ≡ false) r count
+    → take count r ≡ filter (is_of addr) fs in
+    subst P (sym e) (own_is addr fs first count le before)
+
+pub in_order_rest : (fs rest : List Failure) (first : ℕ) → rest ≡ drop first fs → IsInOrder comes_before fs → IsInOrder comes_before rest
+in_order_rest fs rest first e o = let P : List Failure → Type 0 = λ r. IsInOrder comes_before r in subst P (sym e) (in_order_drop fs first o)

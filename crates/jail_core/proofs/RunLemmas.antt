@@ -1,5 +1,5 @@
 -- An address is full where neighbours among its failures are close.
-use Rattle.std.proofs.Common.{◌≡◌, ℕ, zero, suc, ◌+◌, ◌-◌, ◌<◌, ◌≤◌, ◌↔◌, Bool, true, false, nat_lt, ◌||◌, List, [], ◌∷◌, length, get_or, map, refl, sym, ◌∙◌, ap, ap₂, arith}
+use Rattle.std.proofs.Common.{◌≡◌, ℕ, zero, suc, ◌+◌, ◌-◌, ◌<◌, ◌≤◌, ◌↔◌, Bool, true, false, nat_lt, List, [], ◌∷◌, length, get_or, refl, sym, ◌∙◌, ap, ap₂, arith}
 use Rattle.std.specs.List.{filter}
 use Rattle.std.proofs.lemmas.Bool.Decides.{nat_tests}
 use Rattle.std.proofs.lemmas.List.{length-map}
@@ -10,27 +10,27 @@ use Rattle.f2b_model.specs.Full.{IsFull, is_full, is_of}
 use Rattle.f2b_model.specs.Lists.{AllOf, IsInOrder, NoneBefore}
 use Rattle.f2b_model.specs.Moves.{is_near}
 use Rattle.f2b_model.specs.Nows.{addr_before, comes_before}
-use Rattle.f2b_model.specs.Windows.{IsRising, IsFullBy, HasRun}
-use Rattle.f2b_model.proofs.FullLemmas.{lt_true, true_lt, both_true, full_of_test, test_of_full, same_test}
-use Rattle.f2b_model.proofs.ListLemmas.{by_test, filter_both, filter_in_order}
+use Rattle.f2b_model.specs.Windows.{IsRising, HasRun}
+use Rattle.f2b_model.proofs.FullLemmas.{both_true, full_of_test, test_of_full, same_test}
+use Rattle.f2b_model.proofs.ListLemmas.{filter_both, filter_in_order}
 use Rattle.f2b_model.proofs.MarkLemmas.{failures_order}
 use Rattle.f2b_model.proofs.OrderlyLemmas.{all_of-kept}
 use Rattle.f2b_model.proofs.SoundLemmas.{same_addr_true}
 use Rattle.f2b_model.proofs.WindowLemmas.{run_iff_full, of_one}
 use Rattle.jail_core.specs.Runs.{times_of, IsRunAt}
 
-time_is : (fs : List Failure) (k : ℕ) (x : Failure) → k < length fs → x ≡ get_or fs k x → get_or (times_of fs) k 0 ≡ x.time
-time_is [] k x lt e = absurd (omega arith)
-time_is (f ∷ fs) zero x lt e = ap (λ (y : Failure). y.time) (sym e)
-time_is (f ∷ fs) (suc k) x lt e = time_is fs k x (omega arith) e
+time_is : (fs : List Failure) (k : ℕ) (x : Failure) → k < length fs → get_or (times_of fs) k 0 ≡ (get_or fs k x).time
+time_is [] k x lt = absurd (omega arith)
+time_is (f ∷ fs) zero x lt = refl
+time_is (f ∷ fs) (suc k) x lt = time_is fs k x (omega arith)
 
 -- the two times decide
-pub run_by_times : (findtime maxretry index : ℕ) (fs : List Failure) (a b : Failure) → index < length fs → 1 ≤ maxretry → maxretry ≤ length fs - index
-    → a ≡ get_or fs index a → b ≡ get_or fs (index + (maxretry - 1)) b → (b.time < a.time + findtime) ↔ IsRunAt findtime maxretry fs index
-run_by_times findtime maxretry index fs a b lt one many ea eb =
-    let ta = time_is fs index a lt ea in
+pub run_by_times : (findtime maxretry index : ℕ) (fs : List Failure) (x y : Failure) → index < length fs → 1 ≤ maxretry → maxretry ≤ length fs - index
+    → ((get_or fs (index + (maxretry - 1)) y).time < (get_or fs index x).time + findtime) ↔ IsRunAt findtime maxretry fs index
+run_by_times findtime maxretry index fs x y lt one many =
+    let ta = time_is fs index x lt in
     let same : index + (maxretry - 1) ≡ index + maxretry - 1 = omega arith in
-    let tb : get_or (times_of fs) (index + maxretry - 1) 0 ≡ b.time = rw same at (time_is fs (index + (maxretry - 1)) b (omega arith) eb) in (
+    let tb : get_or (times_of fs) (index + maxretry - 1) 0 ≡ (get_or fs (index + (maxretry - 1)) y).time = ap (λ k. get_or (times_of fs) k 0) (sym same) ∙ time_is fs (index + (maxretry - 1)) y (omega arith) in (
       λ close. (omega arith, omega arith),
       λ r. (let l = r.1 in omega arith),
     )

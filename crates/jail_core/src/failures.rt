@@ -68,16 +68,24 @@ fn counts(jail: &JailNow, at: u64, failure: &Failure) -> bool
         && at - failure.time < jail.definition.findtime
 }
 
-/// Counts a failure. What is late at the moment of the last one that counted need not be looked at again at the same moment.
+/// Keeps the failures of a jail that are late at a moment. At the moment of the last failure that counted these are all.
+fn forget_old(jail: &mut JailNow, at: u64)
+    requires { IsKept jail.old }
+    ensures { jail.new ≡ record jail.old { failures = filter (is_late at jail.old.definition.findtime) jail.old.failures } }
+{
+    if at != jail.moment {
+        prune(&mut jail.failures, at, jail.definition.findtime);
+    }
+}
+
+/// Counts a failure.
 fn count(jail: &mut JailNow, at: u64, failure: &Failure) -> Result<(), NoMemory>
     requires kept { IsKept jail.old }
     requires timely { at < failure.now.time + jail.old.definition.findtime }
     ensures jail { OnOk result (jail.new ≡ counted_now at failure.now jail.old) }
     ensures kept { OnOk result (IsKept jail.new) }
 {
-    if at != jail.moment {
-        prune(&mut jail.failures, at, jail.definition.findtime);
-    }
+    forget_old(jail, at);
     place(&mut jail.failures, failure.copy()?)?;
     jail.total_failed = jail.total_failed.saturating_add(1);
     jail.moment = at;

@@ -6,12 +6,12 @@ ghost use Rattle.f2b_model.specs.Steps.{ended_by_time, in_jail, is_due, moves_no
 ghost use Rattle.f2b_model.specs.Told.{told_each, told_ends, told_in};
 ghost use Rattle.f2b_model.specs.declared.jail_now.JailNow.{JailNow};
 ghost use Rattle.jail_core.specs.Kept.{AreKept, IsKept};
-ghost use Rattle.jail_core.specs.Reading.{found_each, jail_place, told_each_found};
+ghost use Rattle.jail_core.specs.Reading.{found_each, happened, jail_place, told_each_found, told_happened};
 
 use crate::bans::drop_past;
 use crate::ends::{end_due, is_any_due};
 use crate::failures::found;
-use f2b_base::{Failure, NoMemory, Seq, Text};
+use f2b_base::{Failure, NoMemory, Seq, Text, What};
 use f2b_model::{Happening, JailNow};
 use std::alloc::Global;
 
@@ -25,7 +25,7 @@ pub fn is_ban_due(jails: &[JailNow], at: u64) -> bool
 }
 
 /// Ends the bans of each jail that are due, and tells of them.
-pub fn end_each(
+fn end_each(
     alloc: Global,
     jails: &mut [JailNow],
     told: &mut Seq<Happening>,
@@ -40,13 +40,33 @@ pub fn end_each(
     Ok(())
 }
 
+/// Ends the bans of all jails that are due, and tells of them.
+pub fn end_jails(
+    alloc: Global,
+    jails: &mut Vec<JailNow>,
+    told: &mut Seq<Happening>,
+    at: u64,
+) -> Result<(), NoMemory>
+    ensures jails { OnOk result (jails.new.items ≡ map (ended_by_time moves_now at) jails.old.items) }
+    ensures told { OnOk result (told.new ≡ told.old ++ told_each (told_ends moves_now at) jails.old.items) }
+{
+    end_each(alloc, jails.as_mut_slice(), told, at)
+}
+
 /// Drops what is over for long in each jail.
-pub fn drop_each(jails: &mut [JailNow], at: u64, purge: u64)
+fn drop_each(jails: &mut [JailNow], at: u64, purge: u64)
     ensures { jails.new ≡ map (dropped_now at purge) jails.old }
 {
     for jail in jails.iter_mut() {
         drop_past(jail, at, purge);
     }
+}
+
+/// Drops what is over for long in all jails.
+pub fn drop_jails(jails: &mut Vec<JailNow>, at: u64, purge: u64)
+    ensures { jails.new.items ≡ map (dropped_now at purge) jails.old.items }
+{
+    drop_each(jails.as_mut_slice(), at, purge);
 }
 
 /// Whether a jail has a name.
@@ -92,7 +112,7 @@ fn read_jail(
 }
 
 /// Failures found in the jail of that name, if there is one. Gives the next serial.
-pub fn read(
+fn read(
     jails: &mut [JailNow],
     told: &mut Seq<Happening>,
     name: &Text,
@@ -109,7 +129,33 @@ pub fn read(
 {
     let place = place_of(jails, name);
     if place < jails.len() {
-        return read_jail(&mut jails[place], told, failures, at, word, serial);
+        let next = read_jail(&mut jails[place], told, failures, at, word, serial)?;
+        return Ok(next);
     }
     Ok(serial)
+}
+
+/// Does what happened, after the ends by time, and tells of it. Gives the next serial.
+pub fn do_what(
+    jails: &mut Vec<JailNow>,
+    told: &mut Seq<Happening>,
+    what: &What,
+    at: u64,
+    word: u64,
+    serial: u64,
+) -> Result<u64, NoMemory>
+    requires kept { AreKept jails.old.items }
+    requires serial { serial ≤ 2 ^ 62 }
+    ensures jails { IfOk result (λ next. happened at word what.now serial jails.old.items ≡ record { jails = jails.new.items; next = next }) }
+    ensures told { OnOk result (told.new ≡ told.old ++ told_happened at word what.now serial jails.old.items) }
+    ensures kept { OnOk result (AreKept jails.new.items) }
+{
+    match what {
+        What::Read { jail, found, .. } => {
+            let failures = found.as_slice();
+            let next = read(jails.as_mut_slice(), told, jail, failures, at, word, serial)?;
+            Ok(next)
+        }
+        _ => Ok(serial),
+    }
 }

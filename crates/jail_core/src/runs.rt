@@ -1,10 +1,17 @@
 //! The failures of one address, in order of time: whether they fill it.
-ghost use Rattle.std.specs.Prelude.{◌≡◌, ◌≤◌, ◌<◌, ◌↔◌, ℕ, true, length, filter};
+ghost use Rattle.std.specs.Prelude.{◌≡◌, ◌+◌, ◌≤◌, ◌<◌, ◌↔◌, ℕ, true, nat_lt, length, filter};
 ghost use Rattle.f2b_model.specs.Moves.{is_near_to};
 ghost use Rattle.jail_core.specs.Runs.{IsRunAt};
 
 use crate::addresses::same_addr;
 use f2b_base::{Addr, Failure};
+
+/// Whether a moment is less than `findtime` seconds after another.
+fn is_close(first: u64, last: u64, findtime: u64) -> bool
+    ensures { result ≡ nat_lt last (first + findtime) }
+{
+    last < first || last - first < findtime
+}
 
 /// Whether the `maxretry` failures from a place on are there, the last less than `findtime` seconds after the first.
 fn is_run(own: &[Failure], index: usize, findtime: u64, maxretry: usize) -> bool
@@ -17,7 +24,7 @@ fn is_run(own: &[Failure], index: usize, findtime: u64, maxretry: usize) -> bool
     }
     let first = own[index].time;
     let last = own[index + (maxretry - 1)].time;
-    last < first || last - first < findtime
+    is_close(first, last, findtime)
 }
 
 /// Whether some `maxretry` neighbours are so close.
@@ -40,8 +47,8 @@ fn is_near(addr: Addr, time: u64, findtime: u64, other: &Failure) -> bool
 {
     let there = other.time;
     same_addr(other.addr, addr)
-        && (time < there || time - there < findtime)
-        && (there < time || there - time < findtime)
+        && is_close(there, time, findtime)
+        && is_close(time, there, findtime)
 }
 
 /// How many failures are so near.

@@ -4,8 +4,8 @@ ghost use Rattle.f2b_model.specs.Steps.{first_now, is_ban_due, is_spent, moves_n
 ghost use Rattle.f2b_model.specs.Told.{told};
 ghost use Rattle.jail_core.specs.Kept.{IsBounded, IsTaken};
 
-use crate::jails::{drop_each, end_each, is_ban_due, read};
-use f2b_base::{Input, JailDef, NoMemory, Seq, What};
+use crate::jails::{do_what, drop_jails, end_jails, is_ban_due};
+use f2b_base::{Input, JailDef, NoMemory, Seq};
 use f2b_model::{Happening, JailNow};
 use std::alloc::Global;
 use std::marker::Model;
@@ -91,23 +91,12 @@ impl Core {
             at,
             purge,
             mut jails,
-            mut next_ban,
+            next_ban,
         } = self;
         let at = at.max(input.secs);
-        end_each(alloc, jails.as_mut_slice(), &mut told, at)?;
-        if let What::Read { jail, found, .. } = &input.what {
-            let failures = found.as_slice();
-            next_ban = read(
-                jails.as_mut_slice(),
-                &mut told,
-                jail,
-                failures,
-                at,
-                input.word,
-                next_ban,
-            )?;
-        }
-        drop_each(jails.as_mut_slice(), at, purge);
+        end_jails(alloc, &mut jails, &mut told, at)?;
+        let next_ban = do_what(&mut jails, &mut told, &input.what, at, input.word, next_ban)?;
+        drop_jails(&mut jails, at, purge);
         let core = Core {
             at,
             purge,
