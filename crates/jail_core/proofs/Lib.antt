@@ -1,0 +1,7 @@
+pub mod PlaceLemmas
+pub mod OwnLemmas
+pub mod RunLemmas
+pub mod KeptLemmas
+pub mod ReadLemmas
+pub mod LoopLemmas
+pub mod CoreLemmas

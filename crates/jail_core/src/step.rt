@@ -4,28 +4,11 @@ ghost use Rattle.f2b_model.specs.Steps.{first_now, is_ban_due, is_spent, moves_n
 ghost use Rattle.f2b_model.specs.Told.{told};
 ghost use Rattle.jail_core.specs.Kept.{IsBounded, IsTaken};
 
-use f2b_base::{Ban, Input, JailDef, NoMemory, Seq, Until};
+use crate::jails::{do_what, drop_jails, end_jails, is_ban_due};
+use f2b_base::{Input, JailDef, NoMemory, Seq};
 use f2b_model::{Happening, JailNow};
 use std::alloc::Global;
 use std::marker::Model;
-
-ghost use Rattle.std.specs.List.{list_any};
-ghost use Rattle.f2b_model.specs.Steps.{is_due};
-
-fn is_due(at: u64, ban: &Ban) -> bool
-    ensures { result ≡ is_due at ban.now }
-{
-    match ban.until {
-        Until::Never => false,
-        Until::At(end) => end <= at,
-    }
-}
-
-pub fn is_any_due(at: u64, bans: &[Ban]) -> bool
-    ensures { result ≡ list_any (is_due at) bans.now }
-{
-    bans.iter().any(|ban| is_due(at, ban))
-}
 
 /// The state of the server's failures and bans.
 #[derive(Drop)]
@@ -83,7 +66,7 @@ impl Core {
     pub fn ban_due(&self, now: u64) -> bool
         ensures { result ≡ is_ban_due moves_now now self.now }
     {
-        self.jails.as_slice().iter().any(|jail| is_any_due(now, jail.bans.as_slice()))
+        is_ban_due(self.jails.as_slice(), now)
     }
 
     /// Whether the serials are used up. Nothing happens any more then.
@@ -100,9 +83,26 @@ impl Core {
         ensures core { IfOk result (λ r. r.0 ≡ step_now self input.now) }
         ensures told { IfOk result (λ r. r.1 ≡ told moves_now self input.now) }
     {
-        let _ = alloc;
-        let _ = input;
-        let _ = self;
-        Err(NoMemory)
+        let mut told = Seq::new(alloc);
+        if self.spent() {
+            return Ok((self, told));
+        }
+        let Core {
+            at,
+            purge,
+            mut jails,
+            next_ban,
+        } = self;
+        let at = at.max(input.secs);
+        end_jails(alloc, &mut jails, &mut told, at)?;
+        let next_ban = do_what(&mut jails, &mut told, &input.what, at, input.word, next_ban)?;
+        drop_jails(&mut jails, at, purge);
+        let core = Core {
+            at,
+            purge,
+            jails,
+            next_ban,
+        };
+        Ok((core, told))
     }
 }
