@@ -70,13 +70,13 @@ impl Follower {
         ensures err { OnErr result (self.new ≡ self.old) }
     {
         let place = self.place + bytes.len() as u64;
+        let mut lines = Vec::new(alloc);
         let Some(end) = memchr(b'\n', bytes) else {
             self.carry.join(bytes)?;
             self.place = place;
-            return Ok(Seq::new(alloc));
+            return Ok(Seq::from(lines));
         };
         let more = &bytes[end + 1..];
-        let mut lines = Vec::new(alloc);
         lines.push(self.carry.line(alloc, &bytes[..end])?)?;
         push_lines(alloc, &mut lines, more)?;
         self.carry = Carry::of(alloc, behind_last(more))?;

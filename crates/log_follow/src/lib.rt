@@ -8,6 +8,8 @@
 mod carry;
 mod follower;
 mod line;
+#[cfg(test)]
+mod tests;
 
 pub use follower::{Ask, Follower};
 pub use line::Line;

@@ -7,7 +7,7 @@ use Rattle.log_follow.proofs.FollowLemmas.{new_lines-none, new_lines-made, stand
 use Rattle.log_follow.proofs.follower.Follower.take.Goals as goal
 
 pub returns-in_default-clause-lines : goal.returns-in_default-clause-lines
-returns-in_default-clause-lines c = λ seen stands. c.new.ensures ∙ sym (new_lines-none seen c.args.bytes.now c.in_default.ensures)
+returns-in_default-clause-lines c = λ seen stands. c.from.ensures ∙ c.new-lines.ensures.items ∙ sym (new_lines-none seen c.args.bytes.now c.in_default.ensures)
 
 pub returns-in_default-clause-stands : goal.returns-in_default-clause-stands
 returns-in_default-clause-stands c = λ seen stands. stands_none c.args.self.now _ seen c.args.bytes.now c.in_default.ensures stands refl c.in_ok-join.ensures.ok
@@ -18,9 +18,9 @@ returns-clause-lines c = λ seen stands.
     let more = take (length c.args.bytes.now - behind) (drop behind c.args.bytes.now) in
     let first : c.push.new.self.items ≡ c.in_ok-line.field-0 ∷ [] =
     c.in_ok-push.ensures.items ∙ ap (λ (lines : List Line). lines ++ c.in_ok-line.field-0 ∷ []) c.new-lines.ensures.items in
-    new_lines-made c.args.self.now seen c.args.bytes.now _ more c.in_ok-line.field-0 c.from.result c.in-Some.end c.in-Some.ensures.0 c.in-Some.ensures.1 stands
+    new_lines-made c.args.self.now seen c.args.bytes.now _ more c.in_ok-line.field-0 c.from-2.result c.in-Some.end c.in-Some.ensures.0 c.in-Some.ensures.1 stands
     c.in_ok-line.ensures refl (take-rest c.args.bytes.now behind)
-    (c.from.ensures ∙ c.in_ok-push_lines.ensures ∙ ap (λ (lines : List Line). lines ++ lines_of more) first)
+    (c.from-2.ensures ∙ c.in_ok-push_lines.ensures ∙ ap (λ (lines : List Line). lines ++ lines_of more) first)
 
 pub returns-clause-stands : goal.returns-clause-stands
 returns-clause-stands c = λ seen stands.
