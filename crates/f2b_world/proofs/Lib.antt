@@ -1,2 +1,5 @@
 pub mod WalkLemmas
 pub mod ReadingLemmas
+pub mod NameLemmas
+pub mod MatchLemmas
+pub mod Literals

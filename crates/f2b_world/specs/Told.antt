@@ -1,5 +1,5 @@
 -- The history that a world keeps, and what a call does to it.
-use Rattle.std.specs.Prelude.{ℕ, ◌≡◌, ◌==◌, ◌||◌, ◌⊎◌, Bool, true, false, if◌then◌else◌, ◌<◌, ◌≤◌, ◌^◌, ◌-◌, Option, Some, None, IfSome, List, [], ◌∷◌, ◌++◌, length, take, drop, min}
+use Rattle.std.specs.Prelude.{ℕ, ◌≡◌, ◌==◌, ◌||◌, ◌⊎◌, Bool, false, if◌then◌else◌, ◌<◌, ◌≤◌, ◌^◌, ◌-◌, Option, Some, None, IfSome, List, [], ◌∷◌, ◌++◌, length, take, drop, min}
 use Rattle.f2b_base.specs.declared.outside.TreeAnswer.{TreeAnswer}
 use Rattle.f2b_base.specs.declared.outside.TreeAnswer.TheVariants.{Tree as ConfigTree, Failed as ConfigFailed, TooLarge as ConfigTooLarge, NoMemory as ConfigNoMemory}
 use Rattle.f2b_world.specs.declared.answer.Accept.TheVariants.{Conn, Failed as AcceptFailed}

@@ -1,12 +1,17 @@
-//! Patterns, which contracts see as their texts.
+//! Patterns of lines, which contracts see as their texts.
 ghost use Rattle.f2b_world.specs.Reading.{IsMadeOf};
 
+mod matcher;
+mod spans;
+
+pub use matcher::Matcher;
 use regex::{Error, Regex};
+pub use spans::{Cut, HostSpans, NumberedSpans};
 use std::alloc::Global;
 use std::fmt;
 use std::marker::Model;
 
-/// A pattern that was built. Its text has a reading.
+/// A pattern that was built from its text. It does not search by itself: `matcher` makes what does.
 #[derive(Drop)]
 pub struct Pattern {
     regex: Regex,
@@ -26,16 +31,18 @@ impl Model for Pattern {
 
 impl fmt::Debug for Pattern {
     fn fmt<W: fmt::Write>(&self, f: &mut fmt::Formatter<W>) -> fmt::Result {
-        write!(f, "Pattern")
+        let text = self.regex.as_str();
+        write!(f, "{text:?}")
     }
 }
 
-/// What the building of a pattern gave.
+/// What comes of a text that is to be a pattern.
 #[derive(Debug, Drop)]
 pub enum Made {
     Built(Pattern),
-    /// The text has no reading, or nests deeper than 250.
+    /// The text is no pattern.
     Syntax,
+    /// The text is a pattern that would take too much room.
     TooBig,
     NoMemory,
 }
@@ -52,3 +59,6 @@ pub fn build_pattern(alloc: Global, text: &str) -> Made
         Err(Error::OutOfMemory) => Made::NoMemory,
     }
 }
+
+#[cfg(test)]
+mod tests;

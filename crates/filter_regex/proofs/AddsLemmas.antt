@@ -1,5 +1,5 @@
 -- How a history goes on, and on.
-use Rattle.std.proofs.Common.{◌≡◌, Option, Some, None, List, [], ◌∷◌, ◌++◌, refl, sym, ap, ◌∙◌, append_assoc, append-nil}
+use Rattle.std.proofs.Common.{◌≡◌, Option, Some, None, List, [], ◌++◌, refl, sym, ap, ◌∙◌, append_assoc, append-nil}
 use Rattle.f2b_world.specs.declared.event.Event.{Event}
 use Rattle.f2b_world.specs.Told.{History, Adds, grown}
 

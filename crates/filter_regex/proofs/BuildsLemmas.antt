@@ -1,14 +1,14 @@
 -- What the calls of a build with one pattern of failures come to.
-use Rattle.std.proofs.Common.{◌≡◌, ℕ, ◌+◌, ◌≤◌, List, [], ◌∷◌, ◌++◌, Result, Ok, Err, refl, sym, ap, ap₂, ◌∙◌, subst, length, Option, map, get_or, inl, inr, arith}
+use Rattle.std.proofs.Common.{◌≡◌, ℕ, ◌≤◌, List, [], ◌∷◌, ◌++◌, Ok, Err, refl, sym, ap, ap₂, ◌∙◌, subst, length, map, get_or, inl, inr, arith}
 use Rattle.f2b_world.specs.declared.event.Event.{Event}
 use Rattle.f2b_world.specs.declared.event.Event.TheVariants.{Make}
 use Rattle.f2b_world.specs.declared.answer.MakeAnswer.TheVariants.{Built as WasBuilt}
-use Rattle.f2b_world.specs.Told.{Standing, History, Fault, OfPatterns, Adds, Called, IsHonest, Rose}
-use Rattle.filter_regex.specs.Rules.{Rules, patterns, rules_of}
+use Rattle.f2b_world.specs.Told.{Standing, History, Fault, OfPatterns, Called, IsHonest}
+use Rattle.filter_regex.specs.Rules.{Rules, rules_of}
 use Rattle.f2b_base.specs.declared.jail.JailDef.{JailDef}
 use Rattle.host_ident.specs.Expanded.{expanded}
 use Rattle.filter_regex.specs.Dates.{epoch}
-use Rattle.filter_regex.specs.Builds.{answer, built, Makes, AreCalls, HasCause, IsCause, Refuses, Builds}
+use Rattle.filter_regex.specs.Builds.{answer, Makes, AreCalls, IsCause, Builds}
 use Rattle.filter_regex.specs.declared.error.PatternPlace.{PatternPlace}
 use Rattle.filter_regex.specs.declared.error.PatternPlace.TheVariants.{Date, Fail}
 use Rattle.filter_regex.specs.declared.error.BuildKind.{BuildKind}

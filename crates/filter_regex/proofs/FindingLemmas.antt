@@ -1,5 +1,5 @@
 -- What a line says, by the steps of a search with one pattern of failures.
-use Rattle.std.proofs.Common.{◌≡◌, ℕ, List, [], ◌∷◌, Option, Some, None, refl}
+use Rattle.std.proofs.Common.{◌≡◌, ℕ, List, [], ◌∷◌, Some, None, refl}
 use Rattle.f2b_world.specs.Matches.{hosts_in}
 use Rattle.f2b_world.specs.declared.pattern.spans.HostSpans.{HostSpans}
 use Rattle.host_ident.specs.Hosts.{host_of}

@@ -1,5 +1,5 @@
 -- Dates of lines, as seconds since 1970.
-use Rattle.std.specs.Prelude.{ℕ, ◌+◌, ◌*◌, ◌-◌, List, Option, Some, None, option_map, option_and_then, min, fold, codes, slice_range}
+use Rattle.std.specs.Prelude.{ℕ, ◌+◌, ◌*◌, ◌-◌, List, Option, option_map, option_and_then, min, fold, codes, slice_range}
 use Rattle.f2b_world.specs.Matches.{numbered_in}
 use Rattle.f2b_world.specs.declared.pattern.spans.Cut.{Cut}
 use Rattle.f2b_world.specs.declared.pattern.spans.NumberedSpans.{NumberedSpans}

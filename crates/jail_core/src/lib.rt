@@ -6,6 +6,14 @@
 //! command or the clock: the caller says what time it is.
 #![tactic(auto)]
 
+mod addresses;
+mod bans;
+mod ends;
+mod failures;
+mod jails;
+mod runs;
 mod step;
+#[cfg(test)]
+mod tests;
 
 pub use step::Core;

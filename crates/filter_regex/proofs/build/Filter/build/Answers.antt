@@ -1,4 +1,4 @@
-use Rattle.std.proofs.Common.{◌≡◌, get_or, [], Err, refl, ap, ap₂, ◌∙◌, rules}
+use Rattle.std.proofs.Common.{◌≡◌, get_or, [], Err, refl, ap₂, ◌∙◌, rules}
 use Rattle.host_ident.specs.Expanded.{expanded}
 use Rattle.filter_regex.specs.Dates.{epoch}
 use Rattle.filter_regex.specs.declared.error.PatternError.TheVariants.{NoMemory}

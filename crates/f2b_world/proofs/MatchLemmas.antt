@@ -1,0 +1,94 @@
+-- From what `captures` ensures to the leftmost match by the text.
+use Rattle.std.proofs.Common.{◌≡◌, ℕ, zero, suc, ◌*◌, ◌+◌, ◌<◌, true, List, get_or, Option, Some, None, option_map, refl, sym, ap, ◌∙◌, arith, codes}
+use Rattle.std.proofs.lemmas.Option.{same_Some, none-some}
+use Rattle.regex.specs.Patterns.{Re, Match, find_str, slot_of, span}
+use Rattle.regex.specs.Names.{span_at}
+use Rattle.regex.specs.Writes.{both}
+use Rattle.regex.specs.Search.{group_span}
+use Rattle.regex.specs.Strings.{IsCapturesOf, captures_names, captures_span}
+use Rattle.regex.specs.declared.string.captures.Captures.{Captures}
+use Rattle.regex.proofs.ForCallers.{found_alike, span_alike}
+use Rattle.regex_syntax.specs.Grammar.{Names}
+use Rattle.f2b_world.specs.Reading.{IsReadAs}
+use Rattle.f2b_world.specs.Matches.{cut, offsets, named, number_of, host_spans, numbered_spans, hosts_in, numbered_in}
+use Rattle.f2b_world.specs.Captured.{captured_cut, captured_hosts, captured_numbered}
+
+span_at-alike : (f g : ℕ → Option (ℕ × ℕ)) → ((n : ℕ) → f n ≡ g n) → (o : Option ℕ) → span_at f o ≡ span_at g o
+span_at-alike f g h None = refl
+span_at-alike f g h (Some n) = h n
+
+-- the captures of a match have its offsets
+captured_offsets : (line : List ℕ) (m : Match) (c : Captures) → IsCapturesOf line m c → (n : ℕ) → captures_span c n ≡ offsets m n
+unfolding offsets group_span
+captured_offsets line m c h zero = ap Some h.1.whole_is
+captured_offsets line m c h (suc n) = h.2 (suc n) (omega arith)
+
+-- two matches with one span and the same slots have the same offsets
+offsets_alike : (m n : Match) → span m ≡ span n → slot_of m ≡ slot_of n → (k : ℕ) → offsets m k ≡ offsets n k
+unfolding offsets
+offsets_alike m n whole slots zero = ap Some whole
+offsets_alike m n whole slots (suc k) = ap (λ (s : ℕ → Option ℕ). both (s (2 * suc k)) (s (2 * suc k + 1))) slots
+
+module _ (line : List ℕ) (m : Match) (c : Captures) (h : IsCapturesOf line m c)
+    (n : Match) (whole : span m ≡ span n) (slots : slot_of m ≡ slot_of n) where
+  offsets_are : (k : ℕ) → captures_span c k ≡ offsets n k
+  offsets_are k = captured_offsets line m c h k ∙ offsets_alike m n whole slots k
+
+  by_name : (names : Names) → captures_names c ≡ names → (name : List ℕ) → captured_cut c name ≡ named names n name
+  by_name names same name =
+      ap (λ given. option_map cut (span_at (captures_span c) (number_of name given))) same
+      ∙ ap (option_map cut) (span_at-alike _ _ offsets_are (number_of name names))
+
+  captured_hosts_are : (names : Names) → captures_names c ≡ names → captured_hosts c ≡ host_spans names n
+  captured_hosts_are names same = λ i. record {
+    whole = cut ((h.1.whole_is ∙ whole) i);
+    ip4 = by_name names same (codes "f2b4") i;
+    ip6 = by_name names same (codes "f2b6") i;
+    name = by_name names same (codes "f2bn") i;
+    content = by_name names same (codes "f2bc") i;
+  }
+
+  captured_numbered_are : (group : ℕ) → captured_numbered c group ≡ numbered_spans group n
+  captured_numbered_are group = λ i. record {
+    whole = cut ((h.1.whole_is ∙ whole) i);
+    group = ap (option_map cut) (offsets_are group) i;
+  }
+
+none_from : (o : Option Match) → None ≡ option_map span o → o ≡ None
+none_from None e = refl
+none_from (Some m) e = absurd (none-some _ e)
+
+module _ (text : List ℕ) (tree : Re) (names : Names) (g : IsReadAs text tree names) (line : List ℕ)
+    (bytes : (k : ℕ) → get_or line k 0 < 256) where
+  module _ (m : Match) (c : Captures) (e : find_str tree line 0 ≡ Some m) (h : IsCapturesOf line m c) where
+    -- the match by the text's own tree, with the same span and slots
+    by_text : (n : Match) × (find_str g.expression.tree line 0 ≡ Some n) × (span m ≡ span n) × (slot_of m ≡ slot_of n)
+    by_text =
+        let f = found_alike g.alike line bytes true 0 m e in
+        let whole : span m ≡ span f.0 =
+        same_Some _ _ (sym (ap (option_map span) e) ∙ span_alike g.alike line bytes true 0 ∙ ap (option_map span) f.1) in
+        (f.0, f.1, whole, sym f.2)
+
+    -- the captures that were found are those of the leftmost match by the text
+    pub found_hosts : captures_names c ≡ names → Some (captured_hosts c) ≡ hosts_in text line
+    unfolding hosts_in
+    found_hosts same =
+        let f = by_text in
+        rw (g.is, f.1) (ap Some (captured_hosts_are line m c h f.0 f.2 f.3 _ (same ∙ g.named)))
+
+    pub found_numbered : (group : ℕ) → Some (captured_numbered c group) ≡ numbered_in text group line
+    unfolding numbered_in
+    found_numbered group =
+        let f = by_text in rw (g.is, f.1) (ap Some (captured_numbered_are line m c h f.0 f.2 f.3 group))
+
+  module _ (e : find_str tree line 0 ≡ None) where
+    none_by_text : find_str g.expression.tree line 0 ≡ None
+    none_by_text = none_from _ (sym (ap (option_map span) e) ∙ span_alike g.alike line bytes true 0)
+
+    pub no_hosts : None ≡ hosts_in text line
+    unfolding hosts_in
+    no_hosts = let none = none_by_text in rw (g.is, none) refl
+
+    pub no_numbered : (group : ℕ) → None ≡ numbered_in text group line
+    unfolding numbered_in
+    no_numbered group = let none = none_by_text in rw (g.is, none) refl

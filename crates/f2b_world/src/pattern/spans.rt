@@ -1,0 +1,87 @@
+//! Where the groups of a match lie in its line.
+ghost use Rattle.std.specs.Prelude.{◌≡◌, IfSome};
+ghost use Rattle.f2b_world.specs.Captured.{captured_cut, captured_hosts, captured_numbered};
+ghost use Rattle.f2b_world.specs.Spans.{IsCut, AreHostCuts, AreNumberedCuts};
+ghost use Rattle.regex.specs.Strings.{captures_haystack, match_haystack, match_span};
+ghost use Rattle.f2b_world.specs.Matches.{cut};
+
+use regex::{Captures, Match};
+
+/// A part of a line, as offsets in bytes. A match gives only parts that begin and end between characters.
+#[derive(Clone, Copy, Debug, PartialEq, Eq)]
+pub struct Cut {
+    /// The offset of its first byte.
+    pub start: usize,
+    /// The offset behind its last byte.
+    pub end: usize,
+}
+
+/// A match, and what its groups of a host and of the content cover. A group that took no part is `None`.
+#[derive(Clone, Copy, Debug, PartialEq, Eq)]
+pub struct HostSpans {
+    pub whole: Cut,
+    /// The group `f2b4`, an IPv4 address.
+    pub ip4: Option<Cut>,
+    /// The group `f2b6`, an IPv6 address.
+    pub ip6: Option<Cut>,
+    /// The group `f2bn`, the name of a host.
+    pub name: Option<Cut>,
+    /// The group `f2bc`, the part of the line that is looked at further.
+    pub content: Option<Cut>,
+}
+
+/// A match, and what one of its groups covers, `None` where the group took no part.
+#[derive(Clone, Copy, Debug, PartialEq, Eq)]
+pub struct NumberedSpans {
+    pub whole: Cut,
+    pub group: Option<Cut>,
+}
+
+fn cut_of(found: Match<'_>) -> Cut
+    ensures value { result ≡ cut (match_span found.entry) }
+    ensures cut { IsCut (match_haystack found.entry) result }
+{
+    Cut {
+        start: found.start(),
+        end: found.end(),
+    }
+}
+
+/// What the group with that name covers.
+fn named(captures: &Captures<'_, '_>, name: &str) -> Option<Cut>
+    ensures value { result ≡ captured_cut captures.now name.now }
+    ensures cut { IfSome result (IsCut (captures_haystack captures.now)) }
+{
+    match captures.name(name) {
+        Some(found) => Some(cut_of(found)),
+        None => None,
+    }
+}
+
+/// What the groups of a host and of the content cover.
+pub(super) fn hosts_at(captures: &Captures<'_, '_>) -> HostSpans
+    ensures value { result ≡ captured_hosts captures.now }
+    ensures cuts { AreHostCuts (captures_haystack captures.now) result }
+{
+    HostSpans {
+        whole: cut_of(captures.get_match()),
+        ip4: named(captures, "f2b4"),
+        ip6: named(captures, "f2b6"),
+        name: named(captures, "f2bn"),
+        content: named(captures, "f2bc"),
+    }
+}
+
+/// What the group with that number covers.
+pub(super) fn numbered_at(captures: &Captures<'_, '_>, group: usize) -> NumberedSpans
+    ensures value { result ≡ captured_numbered captures.now group }
+    ensures cuts { AreNumberedCuts (captures_haystack captures.now) result }
+{
+    NumberedSpans {
+        whole: cut_of(captures.get_match()),
+        group: match captures.get(group) {
+            Some(found) => Some(cut_of(found)),
+            None => None,
+        },
+    }
+}

@@ -1,0 +1,37 @@
+//! What no clause says: which texts are built, and that one matcher serves many lines.
+use super::*;
+use std::test::*;
+
+#[test]
+fn texts_are_built_or_refused(rt: HostRuntime) {
+    let alloc = rt.alloc();
+    assert!(rt; matches!(build_pattern(alloc, "(?=x)y"), Made::Syntax));
+    assert!(rt; matches!(build_pattern(alloc, r"(a)\1"), Made::Syntax));
+    assert!(rt; matches!(build_pattern(alloc, "a{1000}{1000}{100}"), Made::TooBig));
+    assert!(rt;
+        matches!(
+            build_pattern(alloc, "from (?P<f2b4>[0-9]+)$"),
+            Made::Built(_)
+        )
+    );
+}
+
+#[test]
+fn groups_of_many_lines(rt: HostRuntime) -> Result<(), Fail> {
+    let text = r"from (?:(?P<f2b4>[0-9]+\.[0-9]+)|(?P<f2bn>[a-z]+))$";
+    let Made::Built(pattern) = build_pattern(rt.alloc(), text) else {
+        return Err(Fail::from("not built"));
+    };
+    let mut matcher = pattern.matcher(rt.alloc())?;
+    let address = matcher.hosts("bad from 192.7").ok_or("an address")?;
+    assert_eq!(rt; address.whole, Cut { start: 4, end: 14 });
+    assert_eq!(rt; address.ip4, Some(Cut { start: 9, end: 14 }));
+    assert_eq!(rt; address.name, None);
+    assert!(rt; matcher.hosts("bad from nowhere else").is_none());
+    let name = matcher.hosts("bad from somewhere").ok_or("a name")?;
+    assert_eq!(rt; name.ip4, None);
+    assert_eq!(rt; name.name, Some(Cut { start: 9, end: 18 }));
+    let second = matcher.numbered("bad from 192.7", 2).ok_or("a match")?;
+    assert_eq!(rt; second.group, None);
+    Ok(())
+}
