@@ -76,7 +76,10 @@ fn plain_span(rule: &BanRule, base: u64, count: u32) -> u64
 }
 
 /// How long a ban lasts, by the count of the address's past bans in the jail, the word of the last reading of the clock and the
-/// serial of the ban. A random addition comes after the cap, so a span may pass the rule's `maxtime` by `rndtime`.
+/// serial of the ban.
+///
+/// The random addition is the first word of PCG32 with the state `word` and the stream `serial`, modulo `rndtime + 1`. It comes
+/// after the cap, and a first ban has it too, so a span may pass the rule's `maxtime` by `rndtime`.
 #[tactic(auto, unfolding(crate::specs::Span::span_of))]
 pub fn ban_span(rule: &BanRule, count: u32, word: u64, serial: u64) -> Span
     requires { IsRule rule.now }

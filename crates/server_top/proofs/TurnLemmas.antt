@@ -44,7 +44,7 @@ may_come plan point lines event next = let P : Option Call → Type 0 = λ c. Is
 module _ (a b : Standing) (event : Event) (call : Called a event b) (plan : Plan) (there : Point) (lines : List (List ℕ))
     (next : IsNext (call_of plan there None) event) where
   came : Goes a.told b.told (standing plan there lines) (feed (standing plan there lines) event)
-  came = goes_call a b event (standing plan there lines) call (may_come plan there lines event next right)
+  came = goes_call a b event (standing plan there lines) call (may_come plan there lines event next)
 
   owes_told : (what : What) (point : Following → Point) (f : Following) → IsSaying (point (taken what f)) → Owes (takes what point f (standing plan there lines)) lines (told_lines what f) []
   owes_told what point f saying = record { lines = ap (λ z. lines ++ z) (sym (append-nil (told_lines what f))); said = refl; saying = saying }

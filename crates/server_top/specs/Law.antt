@@ -214,10 +214,14 @@ abbrev pub failure_in : Finding → List Failure
 failure_in (Failed addr time index) = record { addr = addr; time = time; line = [] } ∷ []
 failure_in _ = []
 
+-- a line that is too long or no text is missed
+abbrev pub failures_of : Rules → ℕ → ℕ → Line → List Failure
+failures_of rules now findtime (Whole text) = failure_in (finding rules now findtime text)
+failures_of rules now findtime _ = []
+
 abbrev pub failures_in : Rules → ℕ → ℕ → List Line → List Failure
 failures_in rules now findtime [] = []
-failures_in rules now findtime (Whole text ∷ lines) = failure_in (finding rules now findtime text) ++ failures_in rules now findtime lines
-failures_in rules now findtime (_ ∷ lines) = failures_in rules now findtime lines
+failures_in rules now findtime (line ∷ lines) = failures_of rules now findtime line ++ failures_in rules now findtime lines
 
 -- what was found in these lines. The place in the log is not kept yet
 abbrev pub read_of : Following → List Line → What

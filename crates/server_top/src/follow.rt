@@ -1,6 +1,6 @@
 //! What a run that follows its log keeps.
 ghost use Rattle.std.specs.Prelude.{◌≡◌, ◌≤◌};
-ghost use Rattle.filter_regex.specs.Findings.{rules_of};
+ghost use Rattle.filter_regex.specs.Rules.{rules_of};
 
 use f2b_base::JailDef;
 use filter_regex::Filter;
@@ -20,5 +20,6 @@ pub struct Follow {
     /// The last reading's word.
     pub word: u64,
     ghost timely: { now ≤ 250000000000 },
+    ghost short: { definition.findtime ≤ 1000000 },
     ghost built: { filter ≡ rules_of definition },
 }

@@ -9,7 +9,7 @@ ghost use Rattle.server_top.specs.declared.status.Status.TheVariants.{SinkFault}
 
 use crate::line::{happening_line, status_line};
 use crate::status::Status;
-use f2b_base::NoMemory;
+use f2b_base::{NoMemory, Seq};
 use f2b_model::Happening;
 use f2b_world::{Said, World};
 use std::alloc::Global;
@@ -45,9 +45,8 @@ fn say_happening<W: World>(
     say_line(world, line.as_slice())
 }
 
-/// Says a line for each thing that a step told, in order.
 #[tactic(auto, using(crate::proofs::WalkLemmas::saying))]
-pub fn say_all<W: World>(
+fn say_all<W: World>(
     alloc: Global,
     world: &mut W,
     now: u64,
@@ -62,6 +61,21 @@ pub fn say_all<W: World>(
         say_happening(alloc, world, now, happening)?;
     }
     Ok(())
+}
+
+/// Says a line for each thing that a step told, in order.
+pub fn say_told<W: World>(
+    alloc: Global,
+    world: &mut W,
+    now: u64,
+    told: &Seq<Happening>,
+) -> Result<(), Status>
+    ensures ok { OnOk result (Says (W.stands world.old) (W.stands world.new) (map (line_of now) told.now)) }
+    ensures err { IfErr result (SayFails (W.stands world.old) (W.stands world.new) (map (line_of now) told.now)) }
+    ensures cause { IfErr result (HasCause (W.stands world.old) (W.stands world.new)) }
+    ensures steady { IsSteady (W.stands world.old) (W.stands world.new) }
+{
+    say_all(alloc, world, now, told.as_slice())
 }
 
 /// Says why a run is refused, and gives the status that it ends with.

@@ -4,7 +4,7 @@ ghost use Rattle.jail_core.specs.Kept.{IsTaken};
 ghost use Rattle.server_top.specs.Stages.{HasCause, IsSteady, StepsTo, Takes, TakeFails};
 
 use crate::follow::Follow;
-use crate::say::say_all;
+use crate::say::say_told;
 use crate::status::Status;
 use f2b_base::{Input, NoMemory, Seq, What};
 use f2b_model::Happening;
@@ -60,6 +60,6 @@ pub fn take<W: World>(
     ensures steady { IsSteady (W.stands world.old) (W.stands world.new) }
 {
     let (follow, told) = step(alloc, follow, what)?;
-    say_all(alloc, world, follow.now, told.as_slice())?;
+    say_told(alloc, world, follow.now, &told)?;
     Ok(follow)
 }

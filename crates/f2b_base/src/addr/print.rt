@@ -45,6 +45,7 @@ impl AddrText {
         self.len = end;
     }
 
+    /// Adds the decimal of an octet.
     fn push_octet(&mut self, octet: u8)
         requires { length self.old + 3 ≤ ROOM }
         ensures value { self.new ≡ self.old ++ decimal octet }
@@ -58,6 +59,7 @@ impl AddrText {
         self.push(&digits[leading_zeros(octet)..]);
     }
 
+    /// Adds a group of 16 bits in hex, in lower case and without leading zeros.
     #[tactic(auto, unfolding(std::specs::Net::Text::hex))]
     fn push_group(&mut self, group: u16)
         requires { length self.old + 4 ≤ ROOM }
@@ -73,6 +75,7 @@ impl AddrText {
         self.push(&digits[leading_hex_zeros(group)..]);
     }
 
+    /// Adds groups with colons between them.
     fn push_groups(&mut self, groups: &[u16])
         requires { length self.old + 5 * length groups.now ≤ ROOM }
         ensures value { self.new ≡ self.old ++ text.groups_text groups.now }
@@ -88,6 +91,7 @@ impl AddrText {
         }
     }
 
+    /// Hands the text out, and returns its length.
     fn finish(self, out: &mut [u8; 45]) -> usize
         ensures value { take result out.new ≡ self }
         ensures len { result ≡ length self }
@@ -208,7 +212,8 @@ impl Addr {
     /// Writes the text of the address at the front of `out`, and returns its length in bytes.
     ///
     /// IPv4 is dotted decimals. IPv6 has the form of RFC 5952, section 4: lower case, no leading zeros, and the longest run of at
-    /// least two zero groups as `::`, on a tie the first. `Addr::read` gives the address back. Takes no memory.
+    /// least two zero groups as `::`, on a tie the first. `Addr::read` gives the address back. What stands in `out` behind the
+    /// text is no part of it. Takes no memory.
     pub fn print(&self, out: &mut [u8; 45]) -> usize
         ensures value { take result out.new ≡ printed self.now }
         ensures len { result ≤ 45 }

@@ -1,0 +1,24 @@
+//! The system's clock, and pauses.
+
+use f2b_base::Reading;
+use std::thread;
+use std::time::{Clock, Duration, SystemTime, UNIX_EPOCH};
+
+/// The time now, or `last` where the clock cannot be read or stands before 1970.
+pub fn read_clock(rt: &impl Clock, last: Reading) -> Reading {
+    let Ok(now) = SystemTime::now(rt) else {
+        return last;
+    };
+    match now.duration_since(UNIX_EPOCH) {
+        Ok(since) => Reading {
+            secs: since.as_secs(),
+            word: u64::from(since.subsec_nanos()),
+        },
+        Err(_) => last,
+    }
+}
+
+/// Sleeps for so many milliseconds.
+pub fn sleep(rt: &impl Clock, ms: u32) {
+    thread::sleep(rt, Duration::from_millis(u64::from(ms)));
+}

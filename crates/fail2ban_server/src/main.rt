@@ -1,0 +1,61 @@
+//! The program `fail2ban-server`: the server on the operating system.
+//!
+//! What the server does is in the crates below, over traits of the outside. Here stand these traits over the operating system,
+//! and the words that the program is called with. Nothing here is told as a history: that files, the clock and standard output
+//! are what the system says they are is trusted.
+#![tactic(auto)]
+
+mod clock;
+mod fault;
+mod look;
+mod real;
+mod regular;
+#[cfg(test)]
+mod tests;
+mod tree;
+mod words;
+
+use f2b_world::World;
+use real::RealWorld;
+use std::alloc::{AllocError, Global};
+use std::io::Print;
+use std::process::ExitCode;
+use words::Call;
+
+/// The status where standard output cannot be written.
+const SINK_FAULT: u8 = 9;
+
+/// The status where memory ran out.
+const NO_MEMORY: u8 = 71;
+
+fn main(rt: HostRuntime) -> ExitCode {
+    if keep_heap(rt.alloc()).is_err() {
+        return ExitCode::from(NO_MEMORY);
+    }
+    ExitCode::from(match words::read_call(&rt) {
+        Ok(Call::Help) => print(&rt, words::HELP),
+        Ok(Call::Version) => print(&rt, words::VERSION),
+        Ok(Call::Server(words)) => serve(rt.alloc(), words.as_slice(), &mut RealWorld::new(rt)),
+        Err(_) => NO_MEMORY,
+    })
+}
+
+/// Makes the C library keep memory that is freed: once a large block was freed, it hands less back to the system, which each
+/// search of a line would otherwise do.
+fn keep_heap(alloc: Global) -> Result<(), AllocError> {
+    let block: Vec<u8> = Vec::with_capacity(alloc, 8 << 20)?;
+    drop(block);
+    Ok(())
+}
+
+fn print(rt: &impl Print, text: &str) -> u8 {
+    match rt.write_all(text.as_bytes()) {
+        Ok(()) => 0,
+        Err(_) => SINK_FAULT,
+    }
+}
+
+/// Stands in for the server.
+fn serve<W: World>(_alloc: Global, _words: &[String], _world: &mut W) -> u8 {
+    0
+}

@@ -1,0 +1,152 @@
+//! The real world: the operating system that the server runs on.
+//!
+//! It tells no history. It counts its faults, and each call keeps what the traits of the outside say of it.
+
+use crate::clock;
+use crate::fault::Fault;
+use crate::look::look_at;
+use crate::tree::{TreeFault, read_tree};
+use f2b_base::{FileLook, Reading, TreeAnswer};
+use f2b_world::{
+    Configuration, Faults, Logs, Look, Made, Outside, Patterns, Said, Sink, Time, World,
+    build_pattern, raised,
+};
+use std::alloc::AllocGlobal;
+use std::io::Print;
+use std::rt::Files;
+use std::time::Clock;
+
+/// The operating system.
+#[derive(Drop)]
+pub struct RealWorld<R>
+where
+    R: Files + Clock + Print + AllocGlobal + Clone + Drop,
+{
+    rt: R,
+    faults: Faults,
+    /// The last reading of the clock, 0 and 0 where there was none.
+    last: Reading,
+    /// Whether a look since the last pause gave as many bytes as it was asked for, so that there may be more to read at once.
+    is_behind: bool,
+}
+
+impl<R> RealWorld<R>
+where
+    R: Files + Clock + Print + AllocGlobal + Clone + Drop,
+{
+    /// A world without a fault so far.
+    pub fn new(rt: R) -> RealWorld<R> {
+        RealWorld {
+            rt,
+            faults: Faults::NONE,
+            last: Reading { secs: 0, word: 0 },
+            is_behind: false,
+        }
+    }
+}
+
+impl<R> Outside for RealWorld<R>
+where
+    R: Files + Clock + Print + AllocGlobal + Clone + Drop,
+{
+    ghost use Rattle.std.specs.Prelude.{None};
+    ghost use Rattle.fail2ban_server.specs.Counted.{counts};
+
+    ghost stands = { λ w. record { told = None; faults = counts w.faults } };
+}
+
+impl<R> Sink for RealWorld<R>
+where
+    R: Files + Clock + Print + AllocGlobal + Clone + Drop,
+{
+    /// Writes to standard output, at once.
+    fn say(&mut self, bytes: &[u8]) -> Said {
+        match Print::write_all(&self.rt, bytes) {
+            Ok(()) => Said::Done,
+            Err(_) => {
+                self.faults.sink = raised(self.faults.sink);
+                Said::Failed
+            }
+        }
+    }
+}
+
+impl<R> Patterns for RealWorld<R>
+where
+    R: Files + Clock + Print + AllocGlobal + Clone + Drop,
+{
+    fn make(&mut self, text: &str) -> Made {
+        let made = build_pattern(self.rt.alloc(), text);
+        if let Made::TooBig = made {
+            self.faults.patterns = raised(self.faults.patterns);
+        }
+        made
+    }
+}
+
+impl<R> Time for RealWorld<R>
+where
+    R: Files + Clock + Print + AllocGlobal + Clone + Drop,
+{
+    fn clock(&mut self) -> Reading {
+        self.last = clock::read_clock(&self.rt, self.last);
+        self.last
+    }
+
+    /// Ends at once where a look since the last pause was full, so that a long log is read as fast as it can be searched.
+    fn pause(&mut self, ms: u32) {
+        if !self.is_behind {
+            clock::sleep(&self.rt, ms);
+        }
+        self.is_behind = false;
+    }
+}
+
+impl<R> Configuration for RealWorld<R>
+where
+    R: Files + Clock + Print + AllocGlobal + Clone + Drop,
+{
+    fn config(&mut self, root: &str) -> TreeAnswer {
+        match read_tree(&self.rt, root) {
+            Ok(tree) => TreeAnswer::Tree(tree),
+            Err(TreeFault::TooLarge) => TreeAnswer::TooLarge,
+            Err(TreeFault::NoMemory) => TreeAnswer::NoMemory,
+            Err(TreeFault::Failed) => {
+                self.faults.configuration = raised(self.faults.configuration);
+                TreeAnswer::Failed
+            }
+        }
+    }
+}
+
+impl<R> Logs for RealWorld<R>
+where
+    R: Files + Clock + Print + AllocGlobal + Clone + Drop,
+{
+    fn look(&mut self, path: &str, head: u32, from: u64, max: u32) -> Look {
+        match look_at(&self.rt, path, head, from, max) {
+            Ok(seen) => {
+                if is_full(&seen, max) {
+                    self.is_behind = true;
+                }
+                Look::File(seen)
+            }
+            Err(Fault::Absent) => Look::Absent,
+            Err(Fault::NoMemory) => Look::NoMemory,
+            Err(Fault::Failed) => {
+                self.faults.logs = raised(self.faults.logs);
+                Look::Failed
+            }
+        }
+    }
+}
+
+impl<R> World for RealWorld<R>
+where
+    R: Files + Clock + Print + AllocGlobal + Clone + Drop,
+{}
+
+/// Whether a look gave as many bytes as it was asked for.
+fn is_full(seen: &FileLook, max: u32) -> bool {
+    max > 0 && seen.bytes.len() as u64 >= u64::from(max)
+}

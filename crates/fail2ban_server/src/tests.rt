@@ -1,0 +1,103 @@
+use crate::real::RealWorld;
+use f2b_base::TreeAnswer;
+use f2b_world::{Configuration, Logs, Look};
+use std::alloc::AllocError;
+use std::os::unix::fs::symlink;
+use std::test::Fail;
+use std::{fs, process};
+
+/// A folder of a test's own, which is made anew.
+fn folder(rt: &HostRuntime, name: &str) -> Result<String, Fail> {
+    let number = process::id(rt.process());
+    let place = format!(in rt.alloc(); "/tmp/fail2ban_server_{name}_{number}")?;
+    let _ = fs::remove_dir_all(rt, place.as_str());
+    fs::create_dir(rt, place.as_str())?;
+    Ok(place)
+}
+
+fn within(rt: &HostRuntime, place: &String, name: &str) -> Result<String, AllocError> {
+    format!(in rt.alloc(); "{place}/{name}")
+}
+
+/// The paths of a tree, each before a blank.
+fn paths(rt: &HostRuntime, answer: &TreeAnswer) -> Result<String, Fail> {
+    let mut paths = String::new(rt.alloc());
+    let TreeAnswer::Tree(tree) = answer else {
+        return Err(Fail::from("no tree"));
+    };
+    for file in tree.files.as_slice() {
+        paths.push_str(file.path.as_str())?;
+        paths.push(' ')?;
+    }
+    Ok(paths)
+}
+
+#[test]
+fn looks_at_files(rt: HostRuntime) -> Result<(), Fail> {
+    let place = folder(&rt, "looks")?;
+    let log = within(&rt, &place, "log")?;
+    fs::write(&rt, log.as_str(), "0123456789")?;
+    let mut world = RealWorld::new(rt.clone()?);
+    let Look::File(seen) = world.look(log.as_str(), 64, 7, 4) else {
+        return Err(Fail::from("no file"));
+    };
+    assert_eq!(rt; seen.size, 10);
+    assert_eq!(rt; seen.head.as_slice(), b"0123456789".as_slice());
+    assert_eq!(rt; seen.bytes.as_slice(), b"789".as_slice());
+    let Look::File(seen) = world.look(log.as_str(), 4, u64::MAX, 4) else {
+        return Err(Fail::from("no file"));
+    };
+    assert_eq!(rt; seen.head.as_slice(), b"0123".as_slice());
+    assert_eq!(rt; seen.bytes.len(), 0);
+    let inside = within(&rt, &log, "x")?;
+    let missing = within(&rt, &place, "x")?;
+    assert_eq!(rt; world.look(inside.as_str(), 4, 0, 4), Look::Absent);
+    assert_eq!(rt; world.look(missing.as_str(), 4, 0, 4), Look::Absent);
+    assert_eq!(rt; world.look(place.as_str(), 4, 0, 4), Look::Failed);
+    assert_eq!(rt; world.look("/dev/zero", 4, 0, 4), Look::Failed);
+    fs::remove_dir_all(&rt, place.as_str())?;
+    Ok(())
+}
+
+#[test]
+fn reads_the_files_of_a_configuration(rt: HostRuntime) -> Result<(), Fail> {
+    let place = folder(&rt, "tree")?;
+    for dir in ["a", "a/deep", "z.conf"] {
+        fs::create_dir(&rt, within(&rt, &place, dir)?.as_str())?;
+    }
+    for file in [
+        "b.conf",
+        "a-.local",
+        "note.txt",
+        "a/x.conf",
+        "a/deep/y.conf",
+        "z.conf/z.local",
+    ] {
+        fs::write(&rt, within(&rt, &place, file)?.as_str(), file)?;
+    }
+    symlink(&rt, "nowhere", within(&rt, &place, "link.conf")?.as_str())?;
+    let mut world = RealWorld::new(rt.clone()?);
+    let answer = world.config(place.as_str());
+    assert_eq!(rt;
+        paths(&rt, &answer)?.as_str(),
+        "a-.local a/x.conf b.conf z.conf/z.local "
+    );
+    let missing = within(&rt, &place, "missing")?;
+    assert_eq!(rt; world.config(missing.as_str()), TreeAnswer::Failed);
+    fs::remove_dir_all(&rt, place.as_str())?;
+    Ok(())
+}
+
+#[test]
+fn refuses_more_bytes_than_a_configuration_may_have(rt: HostRuntime) -> Result<(), Fail> {
+    let place = folder(&rt, "bytes")?;
+    let path = within(&rt, &place, "a.conf")?;
+    let mut world = RealWorld::new(rt.clone()?);
+    let file = fs::File::create(&rt, path.as_str())?;
+    file.set_len(16_777_216)?;
+    assert!(rt; matches!(world.config(place.as_str()), TreeAnswer::Tree(_)));
+    file.set_len(16_777_217)?;
+    assert_eq!(rt; world.config(place.as_str()), TreeAnswer::TooLarge);
+    fs::remove_dir_all(&rt, place.as_str())?;
+    Ok(())
+}

@@ -1,0 +1,66 @@
+//! What the server's program is called with.
+//!
+//! `--help` and `--version` are answered here. All other words are the server's own.
+
+use std::alloc::AllocGlobal;
+use std::io::ErrorKind;
+use std::rt::Env;
+use std::{env, io};
+
+/// The text of `--help`.
+pub const HELP: &str = "\
+Usage: fail2ban-server --conf DIR [--turns N]
+       fail2ban-server --help | --version
+
+Follows logs and bans the addresses that fail too often.
+
+  --conf DIR   read the configuration in DIR: each file in it, or in a
+               directory in it, whose name ends in .conf or .local
+  --turns N    stop after N turns; an idle server makes four a second
+  --help       print this help
+  --version    print the version
+
+What the server says goes to standard output, line by line.
+
+Exit status:
+   0  stopped, or made its N turns
+   2  the words are none of those above
+   3  the configuration cannot be read
+   4  the configuration is refused
+   9  standard output cannot be written
+  10  the configuration is too large
+  11  a pattern is refused
+  71  out of memory
+";
+
+/// The text of `--version`.
+pub const VERSION: &str = "fail2ban-server 0.1.0\n";
+
+/// What the program was asked for.
+#[derive(Debug, Drop)]
+pub enum Call {
+    Help,
+    Version,
+    /// The server, with its words. There are none where a word was not text.
+    Server(Vec<String>),
+}
+
+/// Reads what the program was called with.
+pub fn read_call<R: Env + AllocGlobal>(rt: &R) -> io::Result<Call> {
+    let words = match read_words(rt) {
+        Ok(words) => words,
+        Err(e) if e.kind() == ErrorKind::InvalidData => Vec::new(rt.alloc()),
+        Err(e) => return Err(e),
+    };
+    Ok(match words.first() {
+        Some(word) if word.as_str() == "--help" => Call::Help,
+        Some(word) if word.as_str() == "--version" => Call::Version,
+        _ => Call::Server(words),
+    })
+}
+
+fn read_words<R: Env + AllocGlobal>(rt: &R) -> io::Result<Vec<String>> {
+    let mut args = env::args(rt)?;
+    let _program = args.next();
+    Ok(args.collect(rt.alloc())?)
+}
