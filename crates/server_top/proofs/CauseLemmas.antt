@@ -1,5 +1,5 @@
 -- Counts of faults over several calls.
-use Rattle.std.proofs.Common.{ℕ, ◌≡◌, ◌<◌, ◌≤◌, ◌⊎◌, inl, inr, arith}
+use Rattle.std.proofs.Common.{ℕ, ◌≡◌, ◌<◌, ◌≤◌, ◌⊎◌, Result, Ok, Err, IfOk, IfErr, inl, inr, arith}
 use Rattle.f2b_world.specs.Told.{Fault, OfSink, OfConfiguration, OfPatterns, Standing, Rose, Called}
 use Rattle.f2b_world.specs.declared.event.Event.{Event}
 use Rattle.filter_regex.specs.declared.error.BuildKind.TheVariants.{Syntax, TooBig}
@@ -32,3 +32,12 @@ cause_later old mid new (PatternRefused jail place TooBig) steady cause = rose_l
 cause_later old mid new NoMemory steady cause = tt
 
 pub ruleset counting = (steady_refl, steady_on, steady_call, cause_later)
+
+-- what an answer says, said in other words
+pub if_ok_more : {T E : Type 0} (r : Result T E) (P Q : T → Type 0) → ((x : T) → P x → Q x) → IfOk r P → IfOk r Q
+if_ok_more (Ok x) P Q more h = more x h
+if_ok_more (Err e) P Q more h = tt
+
+pub if_err_more : {T E : Type 0} (r : Result T E) (P Q : E → Type 0) → ((e : E) → P e → Q e) → IfErr r P → IfErr r Q
+if_err_more (Ok x) P Q more h = tt
+if_err_more (Err e) P Q more h = more e h

@@ -141,7 +141,28 @@ look_memory a b path from bytes before path_is from_is looks = record { runs = �
 pub look_refused : (a b : Standing) (before : Follow) (status : Status) → (status ≡ NoMemory) × (b ≡ a) → MoveFails a b AtLook before status
 look_refused a b before status is = rw (is.0, is.1) (record { runs = λ r f at keeps. halts_here a.told r })
 
-pub ruleset looking = (look_takes, look_fails, look_no_line, look_nothing, look_memory, look_refused)
+-- the same by what the calls gave
+
+same_look : (a b : Standing) (path : List ℕ) (from : ℕ) (o : Option (List ℕ)) (bytes : List ℕ) → o ≡ Some bytes → Looked a b path from o → Looked a b path from (Some bytes)
+same_look a b path from o bytes is looks = let P : Option (List ℕ) → Type 0 = λ x. Looked a b path from x in subst P is looks
+
+same_read : (before mid : Follow) (cut bytes : List ℕ) (o p : Option What) → cut ≡ bytes → o ≡ p → ReadsLines before cut mid o → ReadsLines before bytes mid p
+same_read before mid cut bytes o p cut_is is reads =
+    let P : Option What → Type 0 = λ x. ReadsLines before bytes mid x in
+    let Q : List ℕ → Type 0 = λ x. ReadsLines before x mid o in subst P is (subst Q cut_is reads)
+
+module _ (a b : Standing) (path bytes cut : List ℕ) (from : ℕ) (o : Option (List ℕ)) (before mid : Follow) (w : Option What) (path_is : path ≡ path_of before.definition.watches) (from_is : from ≡ place_of before.follower)
+    (some : o ≡ Some bytes) (cut_is : cut ≡ bytes) (looks : Looked a b path from o) (reads : ReadsLines before cut mid w) where
+  pub read_takes : (c : Standing) (what : What) (after : Follow) → w ≡ Some what → Takes b c what mid after → Moves a c AtLook AtPause before after
+  read_takes c what after is took = look_takes a b c path bytes from before mid after what path_is from_is (same_look a b path from o bytes some looks) (same_read before mid cut bytes w (Some what) cut_is is reads) took
+
+  pub read_fails : (c : Standing) (what : What) (status : Status) → w ≡ Some what → TakeFails b c what mid status → MoveFails a c AtLook before status
+  read_fails c what status is fails = look_fails a b c path bytes from before mid what status path_is from_is (same_look a b path from o bytes some looks) (same_read before mid cut bytes w (Some what) cut_is is reads) fails
+
+  pub read_no_line : w ≡ None → Moves a b AtLook AtPause before mid
+  read_no_line is = look_no_line a b path bytes from before mid path_is from_is (same_look a b path from o bytes some looks) (same_read before mid cut bytes w None cut_is is reads)
+
+pub ruleset looking = (look_nothing, look_memory, look_refused)
 
 -- A whole turn.
 

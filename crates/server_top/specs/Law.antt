@@ -32,7 +32,7 @@ use Rattle.filter_regex.specs.declared.error.PatternPlace.{PatternPlace}
 use Rattle.log_follow.specs.Lines.{new_lines}
 use Rattle.log_follow.specs.declared.line.Line.{Line}
 use Rattle.log_follow.specs.declared.line.Line.TheVariants.{Whole}
-use Rattle.server_top.specs.Flat.{flat_jail}
+use Rattle.flat_form.specs.Flat.{flat_jail}
 use Rattle.server_top.specs.Refusals.{refusal_line}
 use Rattle.server_top.specs.Said.{line_of, ready_line}
 use Rattle.server_top.specs.Words.{plan_of}

@@ -1,7 +1,7 @@
 -- The words of the command line.
-use Rattle.std.specs.Prelude.{ℕ, ◌^◌, ◌-◌, ◌&&◌, not, nat_le, bytes_eq, codes, option_and_then, List, [], ◌∷◌, Option, Some, None, if◌then◌else◌}
+use Rattle.std.specs.Prelude.{ℕ, ◌^◌, ◌-◌, ◌&&◌, nat_le, bytes_eq, codes, option_and_then, List, [], ◌∷◌, Option, Some, None, if◌then◌else◌}
 use Rattle.server_top.specs.declared.words.Plan.{Plan}
-use Rattle.server_top.specs.Numbers.{number_of}
+use Rattle.flat_form.specs.Numbers.{number_of}
 
 -- a run of the configuration in this directory, which is not empty
 abbrev pub plan_in : List ℕ → ℕ → Option Plan

@@ -2,7 +2,6 @@
 #![tactic(auto)]
 
 mod find;
-mod flat;
 mod follow;
 mod line;
 mod say;

@@ -1,0 +1,5 @@
+pub mod Decimals
+pub mod Pieces
+pub mod Limits
+pub mod Forms
+pub mod FlatReading

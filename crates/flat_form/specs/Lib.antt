@@ -1,0 +1,4 @@
+pub mod Numbers
+pub mod Flat
+pub mod FlatText
+pub mod Seen

@@ -1,0 +1,24 @@
+//! Numbers in words and files.
+ghost use Rattle.std.specs.Prelude.{◌≡◌, IfOk};
+ghost use Rattle.flat_form.specs.Numbers.{number_of};
+
+use f2b_base::NoMemory;
+use std::alloc::Global;
+
+/// The number below 2^64 that this is the decimal text of, without leading zeros.
+pub fn number(alloc: Global, text: &[u8]) -> Result<Option<u64>, NoMemory>
+    ensures { IfOk result (λ n. n ≡ number_of text.now) }
+{
+    let Ok(text) = str::from_utf8(text) else {
+        return Ok(None);
+    };
+    let Ok(value) = text.parse::<u64>() else {
+        return Ok(None);
+    };
+    let canonical = format!(in alloc; "{value}")?;
+    if canonical.as_str() == text {
+        Ok(Some(value))
+    } else {
+        Ok(None)
+    }
+}
