@@ -19,7 +19,14 @@ use Rattle.server_top.specs.Law.{Run, Point, AtStart, AtMake, Call, AskMake, IsN
 use Rattle.server_top.specs.declared.status.Status.{Status}
 use Rattle.server_top.specs.declared.status.Status.TheVariants.{PatternRefused, NoMemory}
 use Rattle.server_top.specs.declared.words.Plan.{Plan}
-use Rattle.server_top.proofs.TurnLemmas.{standing, may_come}
+use Rattle.flat_form.specs.FlatText.{IsFlatJail}
+use Rattle.f2b_world.specs.Told.{OfPatterns}
+use Rattle.filter_regex.specs.Rules.{IsSupported}
+use Rattle.server_top.specs.Stages.{HasCause, IsRefusedAs, IsSteady, Refuses as Refused_so}
+use Rattle.server_top.specs.Starts.{BuildsAll, BuildFails, standing}
+use Rattle.server_top.proofs.StartLemmas.{refused_cause, rose_by_then}
+use Rattle.server_top.proofs.WalkLemmas.{halts_after, halts_here}
+use Rattle.server_top.proofs.TurnLemmas.{may_come}
 
 get_at : {A : Type 0} (before later : List A) (x : A) → slice_get (before ++ (x ∷ later)) (length before) ≡ Some x
 get_at [] later x = refl
@@ -128,13 +135,39 @@ module _ (plan : Plan) (definition : JailDef) where
       let last = ap (λ x. feed x event) (at_make r.before r.after (place, r.text) r.order) ∙ feeds_refusal r.before r.after place r.text kind r.order in
       record { events = (adds.0, adds.1, adds.2, adds.3, (went.0, went.1 ∙ last)) }
 
-pub builds_all : (old new : Standing) (plan : Plan) (definition : JailDef) (filter : Rules) → Builds (rules_of definition) (Ok filter) old new
-    → Goes old.told new.told (standing plan (make_point definition 0) []) (standing plan (AtStart definition) [])
-builds_all old new plan definition filter builds = built_all plan definition old.told new.told builds.told
+pub builds_all : (old new : Standing) (definition : JailDef) (filter : Rules) → Builds (rules_of definition) (Ok filter) old new → BuildsAll old new definition
+builds_all old new definition filter builds = record { runs = λ plan. built_all plan definition old.told new.told builds.told }
 
-pub builds_refused : (old new : Standing) (plan : Plan) (definition : JailDef) (place : PatternPlace) (kind : BuildKind) → Builds (rules_of definition) (Err (Refused place kind)) old new
-    → Goes old.told new.told (standing plan (make_point definition 0) []) (refused (PatternRefused definition.name place kind) (opening plan))
-builds_refused old new plan definition place kind builds = built_refused plan definition old.told new.told place kind builds.told
+pub builds_memory : (old new : Standing) (definition : JailDef) → Builds (rules_of definition) (Err MemoryError) old new → BuildFails old new definition NoMemory
+builds_memory old new definition builds = record { runs = λ plan. built_some plan definition old.told new.told builds.told }
 
-pub builds_memory : (old new : Standing) (plan : Plan) (definition : JailDef) → Builds (rules_of definition) (Err MemoryError) old new → Halts old.told new.told (standing plan (make_point definition 0) []) NoMemory
-builds_memory old new plan definition builds = built_some plan definition old.told new.told builds.told
+pub builds_refused : (old mid new : Standing) (definition : JailDef) (jail : List ℕ) (place : PatternPlace) (kind : BuildKind) (status : Status) → Builds (rules_of definition) (Err (Refused place kind)) old mid
+    → jail ≡ definition.name → Refused_so mid new (PatternRefused jail place kind) status → BuildFails old new definition status
+builds_refused old mid new definition jail place kind status builds name refuses = record { runs = λ plan.
+    let Q : List ℕ → Type 0 = λ n. Refused_so mid new (PatternRefused n place kind) status in
+    halts_after old.told mid.told new.told _ _ status (built_refused plan definition old.told mid.told place kind builds.told) ((subst Q name refuses).runs (opening plan) refl) }
+
+-- where memory ran out as the refusal was to be said
+pub builds_unsaid : (old new : Standing) (definition : JailDef) (place : PatternPlace) (kind : BuildKind) → Builds (rules_of definition) (Err (Refused place kind)) old new → BuildFails old new definition NoMemory
+builds_unsaid old new definition place kind builds = record { runs = λ plan.
+    halts_after old.told new.told new.told _ _ NoMemory (built_refused plan definition old.told new.told place kind builds.told) (halts_here new.told _) }
+
+pub steady_built : (old new : Standing) (definition : JailDef) (outcome : Result Rules PatternError) → Builds (rules_of definition) outcome old new → IsSteady old new
+steady_built old new definition outcome builds = record { counts = builds.steady }
+
+build_cause : (old mid new : Standing) (definition : JailDef) (jail : List ℕ) (place : PatternPlace) (kind : BuildKind) → Builds (rules_of definition) (Err (Refused place kind)) old mid → IsSteady mid new
+    → jail ≡ definition.name → HasCause old new (PatternRefused jail place kind)
+build_cause old mid new definition jail place Syntax builds steady name = record { definition = definition; name = sym name; text = builds.cause.0; stands = builds.cause.1; none = builds.cause.2 }
+build_cause old mid new definition jail place TooBig builds steady name =
+    rose_by_then (old.faults OfPatterns) (mid.faults OfPatterns) (new.faults OfPatterns) (builds.steady OfPatterns) (steady.counts OfPatterns) builds.cause.2
+
+pub build_caused : (old mid new : Standing) (definition : JailDef) (jail : List ℕ) (place : PatternPlace) (kind : BuildKind) (status : Status) → Builds (rules_of definition) (Err (Refused place kind)) old mid → IsSteady mid new
+    → jail ≡ definition.name → IsRefusedAs mid new (PatternRefused jail place kind) status → HasCause old new status
+build_caused old mid new definition jail place kind status builds steady name seen =
+    refused_cause old mid new (PatternRefused jail place kind) status (steady_built old mid definition (Err (Refused place kind)) builds) steady (build_cause old mid new definition jail place kind builds steady name) seen
+
+-- a jail of the flat form is one that a filter is built for
+pub flat_supported : (definition : JailDef) → IsFlatJail definition → IsSupported definition
+flat_supported definition form = rw form.is (record { date = refl; fail = refl; pref = refl; ignore_lines = refl; ignore = refl })
+
+pub ruleset building = (builds_all, builds_memory, builds_refused, builds_unsaid, steady_built, build_caused, flat_supported)

@@ -5,4 +5,6 @@ pub mod FindLemmas
 pub mod TakeLemmas
 pub mod TurnLemmas
 pub mod LookLemmas
+pub mod StartLemmas
 pub mod BuildLemmas
+pub mod FirstLemmas

@@ -18,7 +18,8 @@ use Rattle.server_top.specs.declared.status.Status.{Status}
 use Rattle.server_top.specs.declared.status.Status.TheVariants.{NoMemory}
 use Rattle.server_top.specs.declared.words.Plan.{Plan}
 use Rattle.server_top.proofs.WalkLemmas.{goes_trans, goes_call, halts_after, halts_here}
-use Rattle.server_top.proofs.TurnLemmas.{standing, at_standing, may_come, reaches_taken, halts_taking, reaches_next, halts_next}
+use Rattle.server_top.specs.Starts.{standing}
+use Rattle.server_top.proofs.TurnLemmas.{at_standing, may_come, reaches_taken, halts_taking, reaches_next, halts_next}
 
 -- Lines are cut and searched.
 

@@ -16,15 +16,12 @@ use Rattle.log_follow.specs.Followed.{StandsFor}
 use Rattle.log_follow.specs.declared.follower.Follower.{Follower}
 use Rattle.server_top.specs.Law.{Following, Point, AtClock, AtLook, AtPause, Run, Call, call_of, next_call, IsNext, MayCome, feed, Goes, Halts, taken, told_lines, takes, read_at, clocked, ticked, latest}
 use Rattle.server_top.specs.Stages.{HasCause, IsAt, IsSaying, Keeps, Moves, MoveFails, Owes, Reaches, ReadsAt, Takes, TakeFails}
+use Rattle.server_top.specs.Starts.{standing}
 use Rattle.server_top.specs.declared.follow.Follow.{Follow}
 use Rattle.server_top.specs.declared.status.Status.{Status}
 use Rattle.server_top.specs.declared.status.Status.TheVariants.{NoMemory}
 use Rattle.server_top.specs.declared.words.Plan.{Plan}
 use Rattle.server_top.proofs.WalkLemmas.{goes_refl, goes_trans, goes_call, get_past, halts_after, halts_here}
-
--- a run with all its lines said
-abbrev pub standing : Plan → Point → List (List ℕ) → Run
-standing plan point lines = record { plan = plan; point = point; lines = lines; said = length lines }
 
 -- a run that stands at a point is such a run
 pub at_standing : (P : Run → Type 0) (r : Run) (point : Point) → IsAt r point → P (standing r.plan point r.lines) → P r

@@ -3,3 +3,4 @@ pub mod Said
 pub mod Refusals
 pub mod Law
 pub mod Stages
+pub mod Starts

@@ -5,6 +5,7 @@ mod find;
 mod follow;
 mod line;
 mod say;
+mod start;
 mod status;
 mod take;
 mod turn;

@@ -17,7 +17,7 @@ use log_follow::Line;
 use std::alloc::Global;
 
 /// A reading above this, in seconds since 1970, counts as it.
-const LATEST: u64 = 250_000_000_000;
+pub const LATEST: u64 = 250_000_000_000;
 
 // Takes over a reading of the clock. Now never goes back.
 fn at_reading(follow: Follow, reading: Reading) -> Follow
