@@ -8,3 +8,4 @@ pub mod LookLemmas
 pub mod StartLemmas
 pub mod BuildLemmas
 pub mod FirstLemmas
+pub mod ServeLemmas

@@ -4,3 +4,4 @@ pub mod Refusals
 pub mod Law
 pub mod Stages
 pub mod Starts
+pub mod Served

@@ -5,6 +5,7 @@ mod find;
 mod follow;
 mod line;
 mod say;
+mod server;
 mod start;
 mod status;
 mod take;
