@@ -15,8 +15,8 @@ mod tests;
 mod tree;
 mod words;
 
-use f2b_world::World;
 use real::RealWorld;
+use server_top::server;
 use std::alloc::{AllocError, Global};
 use std::io::Print;
 use std::process::ExitCode;
@@ -35,7 +35,9 @@ fn main(rt: HostRuntime) -> ExitCode {
     ExitCode::from(match words::read_call(&rt) {
         Ok(Call::Help) => print(&rt, words::HELP),
         Ok(Call::Version) => print(&rt, words::VERSION),
-        Ok(Call::Server(words)) => serve(rt.alloc(), words.as_slice(), &mut RealWorld::new(rt)),
+        Ok(Call::Server(words)) => {
+            server(rt.alloc(), words.as_slice(), &mut RealWorld::new(rt)).number()
+        }
         Err(_) => NO_MEMORY,
     })
 }
@@ -53,9 +55,4 @@ fn print(rt: &impl Print, text: &str) -> u8 {
         Ok(()) => 0,
         Err(_) => SINK_FAULT,
     }
-}
-
-/// Stands in for the server.
-fn serve<W: World>(_alloc: Global, _words: &[String], _world: &mut W) -> u8 {
-    0
 }

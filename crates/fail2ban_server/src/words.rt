@@ -23,13 +23,12 @@ Follows logs and bans the addresses that fail too often.
 What the server says goes to standard output, line by line.
 
 Exit status:
-   0  stopped, or made its N turns
+   0  made its N turns
    2  the words are none of those above
    3  the configuration cannot be read
-   4  the configuration is refused
    9  standard output cannot be written
-  10  the configuration is too large
   11  a pattern is refused
+  13  the configuration is not of the form that is built so far
   71  out of memory
 ";
 

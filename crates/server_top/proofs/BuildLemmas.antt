@@ -131,7 +131,7 @@ module _ (plan : Plan) (definition : JailDef) where
       let later = (place, r.text) ∷ r.after in
       let allowed = may_make r.before r.after (place, r.text) event r.order (makes_next kind place r.text) in
       let went = passed adds.0 adds.1 r.before later (event ∷ []) r.order r.calls
-          (λ h. let Q : Run → Type 0 = λ x. Passes x h (event ∷ []) in subst Q (sym (at_make r.before r.after (place, r.text) r.order)) (tt, allowed, tt)) in
+      (λ h. let Q : Run → Type 0 = λ x. Passes x h (event ∷ []) in subst Q (sym (at_make r.before r.after (place, r.text) r.order)) (tt, allowed, tt)) in
       let last = ap (λ x. feed x event) (at_make r.before r.after (place, r.text) r.order) ∙ feeds_refusal r.before r.after place r.text kind r.order in
       record { events = (adds.0, adds.1, adds.2, adds.3, (went.0, went.1 ∙ last)) }
 
@@ -143,14 +143,18 @@ builds_memory old new definition builds = record { runs = λ plan. built_some pl
 
 pub builds_refused : (old mid new : Standing) (definition : JailDef) (jail : List ℕ) (place : PatternPlace) (kind : BuildKind) (status : Status) → Builds (rules_of definition) (Err (Refused place kind)) old mid
     → jail ≡ definition.name → Refused_so mid new (PatternRefused jail place kind) status → BuildFails old new definition status
-builds_refused old mid new definition jail place kind status builds name refuses = record { runs = λ plan.
-    let Q : List ℕ → Type 0 = λ n. Refused_so mid new (PatternRefused n place kind) status in
-    halts_after old.told mid.told new.told _ _ status (built_refused plan definition old.told mid.told place kind builds.told) ((subst Q name refuses).runs (opening plan) refl) }
+builds_refused old mid new definition jail place kind status builds name refuses = record {
+  runs = λ plan.
+      let Q : List ℕ → Type 0 = λ n. Refused_so mid new (PatternRefused n place kind) status in
+      halts_after old.told mid.told new.told _ _ status (built_refused plan definition old.told mid.told place kind builds.told) ((subst Q name refuses).runs (opening plan) refl);
+}
 
 -- where memory ran out as the refusal was to be said
 pub builds_unsaid : (old new : Standing) (definition : JailDef) (place : PatternPlace) (kind : BuildKind) → Builds (rules_of definition) (Err (Refused place kind)) old new → BuildFails old new definition NoMemory
-builds_unsaid old new definition place kind builds = record { runs = λ plan.
-    halts_after old.told new.told new.told _ _ NoMemory (built_refused plan definition old.told new.told place kind builds.told) (halts_here new.told _) }
+builds_unsaid old new definition place kind builds = record {
+  runs = λ plan.
+      halts_after old.told new.told new.told _ _ NoMemory (built_refused plan definition old.told new.told place kind builds.told) (halts_here new.told _);
+}
 
 pub steady_built : (old new : Standing) (definition : JailDef) (outcome : Result Rules PatternError) → Builds (rules_of definition) outcome old new → IsSteady old new
 steady_built old new definition outcome builds = record { counts = builds.steady }

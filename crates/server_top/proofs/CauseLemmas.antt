@@ -1,5 +1,5 @@
 -- Counts of faults over several calls.
-use Rattle.std.proofs.Common.{ℕ, ◌≡◌, ◌<◌, ◌≤◌, ◌⊎◌, Result, Ok, Err, IfOk, IfErr, inl, inr, arith}
+use Rattle.std.proofs.Common.{ℕ, ◌≡◌, ◌<◌, ◌≤◌, ◌⊎◌, Result, Ok, Err, IfOk, IfErr, OnOk, inl, inr, arith}
 use Rattle.f2b_world.specs.Told.{Fault, OfSink, OfConfiguration, OfPatterns, Standing, Rose, Called}
 use Rattle.f2b_world.specs.declared.event.Event.{Event}
 use Rattle.filter_regex.specs.declared.error.BuildKind.TheVariants.{Syntax, TooBig}
@@ -22,8 +22,8 @@ rose_later a b c le (inr top) = inr top
 
 -- what was counted since a later moment was counted since an earlier one
 pub cause_later : (old mid new : Standing) (status : Status) → IsSteady old mid → HasCause mid new status → HasCause old new status
-cause_later old mid new TurnsSpent steady cause = tt
-cause_later old mid new Usage steady cause = tt
+cause_later old mid new TurnsSpent steady cause = cause
+cause_later old mid new Usage steady cause = cause
 cause_later old mid new ConfFault steady cause = rose_later _ _ _ (steady.counts OfConfiguration) cause
 cause_later old mid new SinkFault steady cause = rose_later _ _ _ (steady.counts OfSink) cause
 cause_later old mid new NotBuilt steady cause = tt
@@ -41,3 +41,15 @@ if_ok_more (Err e) P Q more h = tt
 pub if_err_more : {T E : Type 0} (r : Result T E) (P Q : E → Type 0) → ((e : E) → P e → Q e) → IfErr r P → IfErr r Q
 if_err_more (Ok x) P Q more h = tt
 if_err_more (Err e) P Q more h = more e h
+
+pub on_ok_more : {T E : Type 0} (r : Result T E) (P Q : Type 0) → (P → Q) → OnOk r P → OnOk r Q
+on_ok_more (Ok x) P Q more h = more h
+on_ok_more (Err e) P Q more h = tt
+
+pub on_ok_always : {T E : Type 0} (r : Result T E) (P : Type 0) → P → OnOk r P
+on_ok_always (Ok x) P h = h
+on_ok_always (Err e) P h = tt
+
+pub if_err_always : {T E : Type 0} (r : Result T E) (Q : E → Type 0) → ((e : E) → Q e) → IfErr r Q
+if_err_always (Ok x) Q h = tt
+if_err_always (Err e) Q h = h e

@@ -28,7 +28,6 @@ first_keeps definition turns answer kept is = record {
 }
 
 module _ (a b : Standing) (definition : JailDef) (answer : Reading) (clock : Called a (Clock answer) b) (plan : Plan) where
-
   abbrev at_ready : Run
   at_ready = started (begun definition plan.turns answer) (standing plan (AtStart definition) [])
 
@@ -40,22 +39,26 @@ module _ (a b : Standing) (definition : JailDef) (answer : Reading) (clock : Cal
 
 pub start_done : (a b c : Standing) (definition : JailDef) (answer : Reading) (kept : Follow) (line : List ℕ) → Called a (Clock answer) b → IsFirst definition answer kept
     → line ≡ ready_line kept.now → Says b c (line ∷ []) → Starts a c definition kept
-start_done a b c definition answer kept line clock is line_is says = record { runs = λ plan.
-    let s = at_ready a b definition answer clock plan in
-    record {
-      to = record s { said = 1 };
-      following = begun definition plan.turns answer;
-      goes = goes_trans a.told b.told c.told _ s _ (came a b definition answer clock plan) (says.runs s [] [] (owes a b definition answer clock plan kept.now line is.now line_is));
-      at = record { point = refl; paid = refl };
-      left_is = refl;
-      keeps = first_keeps definition plan.turns answer kept is;
-    } }
+start_done a b c definition answer kept line clock is line_is says = record {
+  runs = λ plan.
+      let s = at_ready a b definition answer clock plan in
+      record {
+        to = record s { said = 1 };
+        following = begun definition plan.turns answer;
+        goes = goes_trans a.told b.told c.told _ s _ (came a b definition answer clock plan) (says.runs s [] [] (owes a b definition answer clock plan kept.now line is.now line_is));
+        at = record { point = refl; paid = refl };
+        left_is = refl;
+        keeps = first_keeps definition plan.turns answer kept is;
+      };
+}
 
 pub start_fails : (a b c : Standing) (definition : JailDef) (answer : Reading) (kept : Follow) (line : List ℕ) (status : Status) → Called a (Clock answer) b → IsFirst definition answer kept
     → line ≡ ready_line kept.now → SayFails b c (line ∷ []) status → StartFails a c definition status
-start_fails a b c definition answer kept line status clock is line_is fails = record { runs = λ plan.
-    let s = at_ready a b definition answer clock plan in
-    halts_after a.told b.told c.told _ s status (came a b definition answer clock plan) (fails.runs s [] [] (owes a b definition answer clock plan kept.now line is.now line_is)) }
+start_fails a b c definition answer kept line status clock is line_is fails = record {
+  runs = λ plan.
+      let s = at_ready a b definition answer clock plan in
+      halts_after a.told b.told c.told _ s status (came a b definition answer clock plan) (fails.runs s [] [] (owes a b definition answer clock plan kept.now line is.now line_is));
+}
 
 pub start_memory : (a b : Standing) (definition : JailDef) (answer : Reading) → Called a (Clock answer) b → StartFails a b definition NoMemory
 start_memory a b definition answer clock = record { runs = λ plan. halts_after a.told b.told b.told _ _ NoMemory (came a b definition answer clock plan) (halts_here b.told _) }

@@ -95,49 +95,59 @@ module _ (path : List ℕ) (from : ℕ) (before : Follow) (path_is : path ≡ pa
 
 pub look_takes : (a b c : Standing) (path bytes : List ℕ) (from : ℕ) (before mid after : Follow) (what : What) → path ≡ path_of before.definition.watches → from ≡ place_of before.follower
     → Looked a b path from (Some bytes) → ReadsLines before bytes mid (Some what) → Takes b c what mid after → Moves a c AtLook AtPause before after
-look_takes a b c path bytes from before mid after what path_is from_is looks reads took = record { runs = λ r f at keeps.
-    at_standing (λ x. Reaches a c x AtPause f.left after) r (AtLook f) at (
+look_takes a b c path bytes from before mid after what path_is from_is looks reads took = record {
+  runs = λ r f at keeps.
+      at_standing (λ x. Reaches a c x AtPause f.left after) r (AtLook f) at (
       let s = standing r.plan (AtLook f) r.lines in
       let g = seen_more bytes f in
       let fed : looked looks.answer f s ≡ takes what AtPause g s = looked_some looks.answer bytes f s looks.bytes_are ∙ lines_taken (new_lines f.seen bytes) g s what (reads.what_is f keeps) in
       reaches_taken a b (LookAt path 64 from 65536 looks.answer) looks.called r.plan (AtLook f) r.lines (next_look path from before path_is from_is r.plan f keeps looks.answer)
-          c what AtPause g mid after fed tt (reads.keeps f keeps) took) }
+      c what AtPause g mid after fed tt (reads.keeps f keeps) took);
+}
 
 pub look_fails : (a b c : Standing) (path bytes : List ℕ) (from : ℕ) (before mid : Follow) (what : What) (status : Status) → path ≡ path_of before.definition.watches → from ≡ place_of before.follower
     → Looked a b path from (Some bytes) → ReadsLines before bytes mid (Some what) → TakeFails b c what mid status → MoveFails a c AtLook before status
-look_fails a b c path bytes from before mid what status path_is from_is looks reads fails = record { runs = λ r f at keeps.
-    at_standing (λ x. Halts a.told c.told x status) r (AtLook f) at (
+look_fails a b c path bytes from before mid what status path_is from_is looks reads fails = record {
+  runs = λ r f at keeps.
+      at_standing (λ x. Halts a.told c.told x status) r (AtLook f) at (
       let s = standing r.plan (AtLook f) r.lines in
       let g = seen_more bytes f in
       let fed : looked looks.answer f s ≡ takes what AtPause g s = looked_some looks.answer bytes f s looks.bytes_are ∙ lines_taken (new_lines f.seen bytes) g s what (reads.what_is f keeps) in
       halts_taking a b (LookAt path 64 from 65536 looks.answer) looks.called r.plan (AtLook f) r.lines (next_look path from before path_is from_is r.plan f keeps looks.answer)
-          c what AtPause g mid status fed tt (reads.keeps f keeps) fails) }
+      c what AtPause g mid status fed tt (reads.keeps f keeps) fails);
+}
 
 pub look_no_line : (a b : Standing) (path bytes : List ℕ) (from : ℕ) (before after : Follow) → path ≡ path_of before.definition.watches → from ≡ place_of before.follower
     → Looked a b path from (Some bytes) → ReadsLines before bytes after None → Moves a b AtLook AtPause before after
-look_no_line a b path bytes from before after path_is from_is looks reads = record { runs = λ r f at keeps.
-    at_standing (λ x. Reaches a b x AtPause f.left after) r (AtLook f) at (
+look_no_line a b path bytes from before after path_is from_is looks reads = record {
+  runs = λ r f at keeps.
+      at_standing (λ x. Reaches a b x AtPause f.left after) r (AtLook f) at (
       let s = standing r.plan (AtLook f) r.lines in
       let g = seen_more bytes f in
       let fed : looked looks.answer f s ≡ standing r.plan (AtPause g) r.lines =
       looked_some looks.answer bytes f s looks.bytes_are ∙ lines_none (new_lines f.seen bytes) g r.plan (AtLook f) r.lines (reads.what_is f keeps) in
       reaches_next a b (LookAt path 64 from 65536 looks.answer) looks.called r.plan (AtLook f) r.lines (next_look path from before path_is from_is r.plan f keeps looks.answer)
-          AtPause g after fed (reads.keeps f keeps)) }
+      AtPause g after fed (reads.keeps f keeps));
+}
 
 pub look_nothing : (a b : Standing) (path : List ℕ) (from : ℕ) (before : Follow) → path ≡ path_of before.definition.watches → from ≡ place_of before.follower
     → Looked a b path from None → Moves a b AtLook AtPause before before
-look_nothing a b path from before path_is from_is looks = record { runs = λ r f at keeps.
-    at_standing (λ x. Reaches a b x AtPause f.left before) r (AtLook f) at (
+look_nothing a b path from before path_is from_is looks = record {
+  runs = λ r f at keeps.
+      at_standing (λ x. Reaches a b x AtPause f.left before) r (AtLook f) at (
       let s = standing r.plan (AtLook f) r.lines in
       let fed : looked looks.answer f s ≡ standing r.plan (AtPause f) r.lines = looked_none looks.answer f r.plan (AtLook f) r.lines looks.bytes_are in
       reaches_next a b (LookAt path 64 from 65536 looks.answer) looks.called r.plan (AtLook f) r.lines (next_look path from before path_is from_is r.plan f keeps looks.answer)
-          AtPause f before fed keeps) }
+      AtPause f before fed keeps);
+}
 
 pub look_memory : (a b : Standing) (path : List ℕ) (from : ℕ) (bytes : Option (List ℕ)) (before : Follow) → path ≡ path_of before.definition.watches → from ≡ place_of before.follower
     → Looked a b path from bytes → MoveFails a b AtLook before NoMemory
-look_memory a b path from bytes before path_is from_is looks = record { runs = λ r f at keeps.
-    at_standing (λ x. Halts a.told b.told x NoMemory) r (AtLook f) at (
-      halts_next a b (LookAt path 64 from 65536 looks.answer) looks.called r.plan (AtLook f) r.lines (next_look path from before path_is from_is r.plan f keeps looks.answer)) }
+look_memory a b path from bytes before path_is from_is looks = record {
+  runs = λ r f at keeps.
+      at_standing (λ x. Halts a.told b.told x NoMemory) r (AtLook f) at (
+      halts_next a b (LookAt path 64 from 65536 looks.answer) looks.called r.plan (AtLook f) r.lines (next_look path from before path_is from_is r.plan f keeps looks.answer));
+}
 
 pub look_refused : (a b : Standing) (before : Follow) (status : Status) → (status ≡ NoMemory) × (b ≡ a) → MoveFails a b AtLook before status
 look_refused a b before status is = rw (is.0, is.1) (record { runs = λ r f at keeps. halts_here a.told r })
@@ -168,20 +178,26 @@ pub ruleset looking = (look_nothing, look_memory, look_refused)
 -- A whole turn.
 
 pub move_fails_on : (a b c : Standing) (p q : Following → Point) (x y : Follow) (status : Status) → Moves a b p q x y → MoveFails b c q y status → MoveFails a c p x status
-move_fails_on a b c p q x y status moves fails = record { runs = λ r f at keeps.
-    let first = moves.runs r f at keeps in
-    halts_after a.told b.told c.told r first.to status first.goes (fails.runs first.to first.following first.at first.keeps) }
+move_fails_on a b c p q x y status moves fails = record {
+  runs = λ r f at keeps.
+      let first = moves.runs r f at keeps in
+      halts_after a.told b.told c.told r first.to status first.goes (fails.runs first.to first.following first.at first.keeps);
+}
 
 pub move_on : (a b c : Standing) (p q o : Following → Point) (x y z : Follow) → Moves a b p q x y → Moves b c q o y z → Moves a c p o x z
-move_on a b c p q o x y z first second = record { runs = λ r f at keeps.
-    let m = first.runs r f at keeps in
-    let n = second.runs m.to m.following m.at m.keeps in
-    record { to = n.to; following = n.following; goes = goes_trans a.told b.told c.told r m.to n.to m.goes n.goes; at = n.at; left_is = n.left_is ∙ m.left_is; keeps = n.keeps } }
+move_on a b c p q o x y z first second = record {
+  runs = λ r f at keeps.
+      let m = first.runs r f at keeps in
+      let n = second.runs m.to m.following m.at m.keeps in
+      record { to = n.to; following = n.following; goes = goes_trans a.told b.told c.told r m.to n.to m.goes n.goes; at = n.at; left_is = n.left_is ∙ m.left_is; keeps = n.keeps };
+}
 
 pub pause_done : (a b : Standing) (x : Follow) → Called a (Pause 250) b → Moves a b AtPause turn_end x x
-pause_done a b x call = record { runs = λ r f at keeps.
-    at_standing (λ s. Reaches a b s turn_end f.left x) r (AtPause f) at (
-      reaches_next a b (Pause 250) call r.plan (AtPause f) r.lines refl turn_end f x refl keeps) }
+pause_done a b x call = record {
+  runs = λ r f at keeps.
+      at_standing (λ s. Reaches a b s turn_end f.left x) r (AtPause f) at (
+      reaches_next a b (Pause 250) call r.plan (AtPause f) r.lines refl turn_end f x refl keeps);
+}
 
 pub turn_done : (a b c d : Standing) (x y z : Follow) → Moves a b AtClock AtLook x y → Moves b c AtLook AtPause y z → Called c (Pause 250) d → Moves a d AtClock turn_end x z
 turn_done a b c d x y z clock look pause = move_on a b d AtClock AtLook turn_end x y z clock (move_on b c d AtLook AtPause turn_end y z z look (pause_done c d z pause))

@@ -73,7 +73,7 @@ pub refused_cause : (a b c : Standing) (status ended : Status) → IsSteady a b 
 refused_cause a b c status ended ab bc cause seen =
     let P : Status → Type 0 = λ s. HasCause a c s in
     elim seen.same [
-      inl same ↦ subst P (sym same) cause
+      | inl same ↦ subst P (sym same) cause
       | inr other ↦ elim other [ inl memory ↦ subst P (sym memory) tt | inr sink ↦ subst P (sym sink.0) (cause_later a b c SinkFault ab sink.1) ]
     ]
 

@@ -80,9 +80,11 @@ module _ (before after : Follow) (what : What) (news : List Happening) (steps : 
   }
 
   pub take_fails : (old new : Standing) (status : Status) → SayFails old new (map (line_of after.now) news) status → TakeFails old new what before status
-  take_fails old new status fails = record { runs = λ r f front keeps owes.
-      let fails2 : SayFails old new (told_lines what f) status = let P : List (List ℕ) → Type 0 = λ x. SayFails old new x status in subst P (same_lines f keeps) fails in
-      fails2.runs r front [] owes }
+  take_fails old new status fails = record {
+    runs = λ r f front keeps owes.
+        let fails2 : SayFails old new (told_lines what f) status = let P : List (List ℕ) → Type 0 = λ x. SayFails old new x status in subst P (same_lines f keeps) fails in
+        fails2.runs r front [] owes;
+  }
 
 pub take_memory : (s : Standing) (what : What) (before : Follow) → TakeFails s s what before NoMemory
 take_memory s what before = record { runs = λ r f front keeps owes. halts_here s.told r }

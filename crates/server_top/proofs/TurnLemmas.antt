@@ -105,32 +105,38 @@ due_is mid f due keeps is = due_same f.now f.state ∙ sym (is ∙ ap₂ (is_ban
 
 pub tick_takes : (a b c : Standing) (reading : Reading) (before mid after : Follow) (due : Bool) → Called a (Clock reading) b → ReadsAt before reading mid
     → due ≡ is_ban_due moves_now mid.now mid.core → due ≡ true → Takes b c Tick mid after → Moves a c AtClock AtLook before after
-tick_takes a b c reading before mid after due call reads due_now is_due_now took = record { runs = λ r f at keeps.
-    at_standing (λ x. Reaches a c x AtLook f.left after) r (AtClock f) at (
+tick_takes a b c reading before mid after due call reads due_now is_due_now took = record {
+  runs = λ r f at keeps.
+      at_standing (λ x. Reaches a c x AtLook f.left after) r (AtClock f) at (
       let g = read_at reading f in
       let held = read_keeps before mid reading f reads keeps in
       let fed : clocked g (standing r.plan (AtClock f) r.lines) ≡ takes Tick AtLook g (standing r.plan (AtClock f) r.lines) =
       ap (λ b. ticked b g (standing r.plan (AtClock f) r.lines)) (due_is mid g due held due_now ∙ is_due_now) in
-      reaches_taken a b (Clock reading) call r.plan (AtClock f) r.lines tt c Tick AtLook g mid after fed tt held took) }
+      reaches_taken a b (Clock reading) call r.plan (AtClock f) r.lines tt c Tick AtLook g mid after fed tt held took);
+}
 
 pub tick_fails : (a b c : Standing) (reading : Reading) (before mid : Follow) (due : Bool) (status : Status) → Called a (Clock reading) b → ReadsAt before reading mid
     → due ≡ is_ban_due moves_now mid.now mid.core → due ≡ true → TakeFails b c Tick mid status → MoveFails a c AtClock before status
-tick_fails a b c reading before mid due status call reads due_now is_due_now fails = record { runs = λ r f at keeps.
-    at_standing (λ x. Halts a.told c.told x status) r (AtClock f) at (
+tick_fails a b c reading before mid due status call reads due_now is_due_now fails = record {
+  runs = λ r f at keeps.
+      at_standing (λ x. Halts a.told c.told x status) r (AtClock f) at (
       let g = read_at reading f in
       let held = read_keeps before mid reading f reads keeps in
       let fed : clocked g (standing r.plan (AtClock f) r.lines) ≡ takes Tick AtLook g (standing r.plan (AtClock f) r.lines) =
       ap (λ b. ticked b g (standing r.plan (AtClock f) r.lines)) (due_is mid g due held due_now ∙ is_due_now) in
-      halts_taking a b (Clock reading) call r.plan (AtClock f) r.lines tt c Tick AtLook g mid status fed tt held fails) }
+      halts_taking a b (Clock reading) call r.plan (AtClock f) r.lines tt c Tick AtLook g mid status fed tt held fails);
+}
 
 pub tick_none : (a b : Standing) (reading : Reading) (before mid : Follow) (due : Bool) → Called a (Clock reading) b → ReadsAt before reading mid
     → due ≡ is_ban_due moves_now mid.now mid.core → due ≡ false → Moves a b AtClock AtLook before mid
-tick_none a b reading before mid due call reads due_now is_not = record { runs = λ r f at keeps.
-    at_standing (λ x. Reaches a b x AtLook f.left mid) r (AtClock f) at (
+tick_none a b reading before mid due call reads due_now is_not = record {
+  runs = λ r f at keeps.
+      at_standing (λ x. Reaches a b x AtLook f.left mid) r (AtClock f) at (
       let g = read_at reading f in
       let held = read_keeps before mid reading f reads keeps in
       let fed : clocked g (standing r.plan (AtClock f) r.lines) ≡ standing r.plan (AtLook g) r.lines =
       ap (λ b. ticked b g (standing r.plan (AtClock f) r.lines)) (due_is mid g due held due_now ∙ is_not) in
-      reaches_next a b (Clock reading) call r.plan (AtClock f) r.lines tt AtLook g mid fed held) }
+      reaches_next a b (Clock reading) call r.plan (AtClock f) r.lines tt AtLook g mid fed held);
+}
 
 pub ruleset ticking = (tick_takes, tick_fails, tick_none)

@@ -60,31 +60,37 @@ may_say r front later line owes =
     rw (owes.lines, owes.said, get_behind front later line) (saying_call r.plan r.point line owes.saying)
 
 pub says_one : (old new : Standing) (line bytes : List ℕ) → bytes ≡ line → Called old (Say bytes SayDone) new → Says old new (line ∷ [])
-says_one old new line bytes is call = record { runs = λ r front later owes.
-    let next = may_say r front later line owes in
-    let P : Option Call → Type 0 = λ c. IsNext c (Say bytes SayDone) in
-    let Q : ℕ → Type 0 = λ n. Goes old.told new.told r (record r { said = n }) in
-    let more : r.said + 1 ≡ length front + 1 = ap (λ n. n + 1) owes.said in
-    subst Q more (goes_call old new (Say bytes SayDone) r call (subst P (sym next) is)) }
+says_one old new line bytes is call = record {
+  runs = λ r front later owes.
+      let next = may_say r front later line owes in
+      let P : Option Call → Type 0 = λ c. IsNext c (Say bytes SayDone) in
+      let Q : ℕ → Type 0 = λ n. Goes old.told new.told r (record r { said = n }) in
+      let more : r.said + 1 ≡ length front + 1 = ap (λ n. n + 1) owes.said in
+      subst Q more (goes_call old new (Say bytes SayDone) r call (subst P (sym next) is));
+}
 
 pub fails_one : (old new : Standing) (line bytes : List ℕ) → bytes ≡ line → Called old (Say bytes SayFailed) new → SayFails old new (line ∷ []) SinkFault
-fails_one old new line bytes is call = record { runs = λ r front later owes.
-    let next = may_say r front later line owes in
-    let P : Option Call → Type 0 = λ c. IsNext c (Say bytes SayFailed) in
-    record {
-      last = feed r (Say bytes SayFailed);
-      goes = goes_call old new (Say bytes SayFailed) r call (subst P (sym next) is);
-      ends = record { point = refl; none = refl };
-    } }
+fails_one old new line bytes is call = record {
+  runs = λ r front later owes.
+      let next = may_say r front later line owes in
+      let P : Option Call → Type 0 = λ c. IsNext c (Say bytes SayFailed) in
+      record {
+        last = feed r (Say bytes SayFailed);
+        goes = goes_call old new (Say bytes SayFailed) r call (subst P (sym next) is);
+        ends = record { point = refl; none = refl };
+      };
+}
 
 pub fails_memory : (s : Standing) (owed : List (List ℕ)) → SayFails s s owed NoMemory
 fails_memory s owed = record { runs = λ r front later owes. halts_here s.told r }
 
 pub says_none : (s : Standing) → Says s s []
-says_none s = record { runs = λ r front later owes.
-    let Q : ℕ → Type 0 = λ n. Goes s.told s.told r (record r { said = n }) in
-    let same : r.said ≡ length front + 0 = omega (arith, owes.said) in
-    subst Q same (goes_refl s.told r) }
+says_none s = record {
+  runs = λ r front later owes.
+      let Q : ℕ → Type 0 = λ n. Goes s.told s.told r (record r { said = n }) in
+      let same : r.said ≡ length front + 0 = omega (arith, owes.said) in
+      subst Q same (goes_refl s.told r);
+}
 
 first_of : (r : Run) (front xs ys later : List (List ℕ)) → Owes r front (xs ++ ys) later → Owes r front xs (ys ++ later)
 first_of r front xs ys later owes = record {
@@ -101,19 +107,23 @@ second_of r front xs ys later owes = record {
 }
 
 pub says_on : (old mid new : Standing) (xs ys zs : List (List ℕ)) → Says old mid xs → Says mid new ys → zs ≡ xs ++ ys → Says old new zs
-says_on old mid new xs ys zs p q cut = rw cut (record { runs = λ r front later owes.
-    let a = p.runs r front (ys ++ later) (first_of r front xs ys later owes) in
-    let b = q.runs (record r { said = length front + length xs }) (front ++ xs) later (second_of r front xs ys later owes) in
-    let Q : ℕ → Type 0 = λ n. Goes old.told new.told r (record r { said = n }) in
-    let same : length (front ++ xs) + length ys ≡ length front + length (xs ++ ys) = omega (arith, length-append front xs, length-append xs ys) in
-    subst Q same (goes_trans old.told mid.told new.told r _ _ a b) })
+says_on old mid new xs ys zs p q cut = rw cut (record {
+  runs = λ r front later owes.
+      let a = p.runs r front (ys ++ later) (first_of r front xs ys later owes) in
+      let b = q.runs (record r { said = length front + length xs }) (front ++ xs) later (second_of r front xs ys later owes) in
+      let Q : ℕ → Type 0 = λ n. Goes old.told new.told r (record r { said = n }) in
+      let same : length (front ++ xs) + length ys ≡ length front + length (xs ++ ys) = omega (arith, length-append front xs, length-append xs ys) in
+      subst Q same (goes_trans old.told mid.told new.told r _ _ a b);
+})
 
 pub fails_on : (old mid new : Standing) (xs ys zs more : List (List ℕ)) (status : Status) → Says old mid xs → SayFails mid new ys status → zs ≡ (xs ++ ys) ++ more → SayFails old new zs status
-fails_on old mid new xs ys zs more status p q cut = rw cut (record { runs = λ r front later owes.
-    let front_owes = first_of r front (xs ++ ys) more later owes in
-    let a = p.runs r front (ys ++ (more ++ later)) (first_of r front xs ys (more ++ later) front_owes) in
-    let b = q.runs (record r { said = length front + length xs }) (front ++ xs) (more ++ later) (second_of r front xs ys (more ++ later) front_owes) in
-    halts_after old.told mid.told new.told r _ status a b })
+fails_on old mid new xs ys zs more status p q cut = rw cut (record {
+  runs = λ r front later owes.
+      let front_owes = first_of r front (xs ++ ys) more later owes in
+      let a = p.runs r front (ys ++ (more ++ later)) (first_of r front xs ys (more ++ later) front_owes) in
+      let b = q.runs (record r { said = length front + length xs }) (front ++ xs) (more ++ later) (second_of r front xs ys (more ++ later) front_owes) in
+      halts_after old.told mid.told new.told r _ status a b;
+})
 
 pub ruleset saying = (says_one, fails_one, fails_memory, says_none, says_on)
 
@@ -150,18 +160,22 @@ owes_refusal : (status : Status) (r : Run) → IsRefusal status → r.said ≡ l
 owes_refusal status r is paid = record { lines = refl; said = paid; saying = refusal_says status is }
 
 pub refuses : (old new : Standing) (status : Status) (line : List ℕ) → IsRefusal status → line ≡ refusal_line status → Says old new (line ∷ []) → Refuses old new status status
-refuses old new status line is same says = record { runs = λ r paid.
-    let says2 : Says old new (refusal_line status ∷ []) = let P : List ℕ → Type 0 = λ x. Says old new (x ∷ []) in subst P same says in
-    let s : Run = record (refused status r) { said = length r.lines + 1 } in
-    let goes : Goes old.told new.told (refused status r) s = says2.runs (refused status r) r.lines [] (owes_refusal status r is paid) in
-    let full : length r.lines + 1 ≡ length (r.lines ++ refusal_line status ∷ []) = sym (length-append r.lines (refusal_line status ∷ [])) in
-    let none : next_call s ≡ None = rw (full, get_past (r.lines ++ refusal_line status ∷ [])) (over_call r.plan status) in
-    record { last = s; goes = goes; ends = refusal_ends status s (record { point = refl; none = none }) } }
+refuses old new status line is same says = record {
+  runs = λ r paid.
+      let says2 : Says old new (refusal_line status ∷ []) = let P : List ℕ → Type 0 = λ x. Says old new (x ∷ []) in subst P same says in
+      let s : Run = record (refused status r) { said = length r.lines + 1 } in
+      let goes : Goes old.told new.told (refused status r) s = says2.runs (refused status r) r.lines [] (owes_refusal status r is paid) in
+      let full : length r.lines + 1 ≡ length (r.lines ++ refusal_line status ∷ []) = sym (length-append r.lines (refusal_line status ∷ [])) in
+      let none : next_call s ≡ None = rw (full, get_past (r.lines ++ refusal_line status ∷ [])) (over_call r.plan status) in
+      record { last = s; goes = goes; ends = refusal_ends status s (record { point = refl; none = none }) };
+}
 
 pub refuses_fault : (old new : Standing) (status fault : Status) (line : List ℕ) → IsRefusal status → line ≡ refusal_line status → SayFails old new (line ∷ []) fault → Refuses old new status fault
-refuses_fault old new status fault line is same fails = record { runs = λ r paid.
-    let fails2 : SayFails old new (refusal_line status ∷ []) fault = let P : List ℕ → Type 0 = λ x. SayFails old new (x ∷ []) fault in subst P same fails in
-    fails2.runs (refused status r) r.lines [] (owes_refusal status r is paid) }
+refuses_fault old new status fault line is same fails = record {
+  runs = λ r paid.
+      let fails2 : SayFails old new (refusal_line status ∷ []) fault = let P : List ℕ → Type 0 = λ x. SayFails old new (x ∷ []) fault in subst P same fails in
+      fails2.runs (refused status r) r.lines [] (owes_refusal status r is paid);
+}
 
 pub refuses_memory : (s : Standing) (status : Status) → Refuses s s status NoMemory
 refuses_memory s status = record { runs = λ r paid. halts_here s.told (refused status r) }

@@ -1,12 +1,14 @@
 -- What a whole run is.
-use Rattle.std.specs.Prelude.{ℕ, ◌≡◌, ◌⊎◌, Option, None, List}
-use Rattle.f2b_world.specs.Told.{History, Adds}
+use Rattle.std.specs.Prelude.{ℕ, ◌≡◌, Option, None, List}
+use Rattle.f2b_world.specs.Told.{History, Standing, Adds, Rose, OfConfiguration, OfPatterns, OfSink}
 use Rattle.f2b_world.specs.Walks.{after, Along}
 use Rattle.f2b_world.specs.declared.event.Event.{Event}
+use Rattle.filter_regex.specs.declared.error.BuildKind.TheVariants.{Syntax, TooBig}
+use Rattle.server_top.specs.Stages.{IsNoPattern}
 use Rattle.server_top.specs.Law.{Run, MayCome, Free, Ends, feed, begin}
 use Rattle.server_top.specs.Words.{plan_of}
 use Rattle.server_top.specs.declared.status.Status.{Status}
-use Rattle.server_top.specs.declared.status.Status.TheVariants.{Usage, SinkFault, NoMemory}
+use Rattle.server_top.specs.declared.status.Status.TheVariants.{TurnsSpent, Usage, ConfFault, SinkFault, NotBuilt, PatternRefused, NoMemory}
 
 -- each event is the call that comes next after those before it
 abbrev pub Obeys : Run → History → List Event → Type 0
@@ -20,7 +22,19 @@ run_after words es = after feed MayCome Free (begin words) es
 pub record IsRun (old new : Option History) (words : List (List ℕ)) (status : Status) : Type 0 where
   pub law : Adds old new (λ g es. Obeys (begin words) g es × Ends status (run_after words es))
 
--- words outside the table end a run with Usage, unless its line could not be said or memory ran out
-pub record IsUsage (words : List (List ℕ)) (status : Status) : Type 0 where
-  pub only : status ≡ Usage → plan_of words ≡ None
-  pub then_so : plan_of words ≡ None → (status ≡ Usage) ⊎ ((status ≡ SinkFault) ⊎ (status ≡ NoMemory))
+-- The cause of each status, in every world. That NotBuilt and TurnsSpent come exactly where the law says is told by the events, and
+-- want of memory has no cause here.
+abbrev pub IsCaused : List (List ℕ) → Standing → Standing → Status → Type 0
+IsCaused words old new Usage = plan_of words ≡ None
+IsCaused words old new ConfFault = Rose (old.faults OfConfiguration) (new.faults OfConfiguration)
+IsCaused words old new SinkFault = Rose (old.faults OfSink) (new.faults OfSink)
+IsCaused words old new (PatternRefused jail place Syntax) = IsNoPattern jail place
+IsCaused words old new (PatternRefused jail place TooBig) = Rose (old.faults OfPatterns) (new.faults OfPatterns)
+IsCaused words old new _ = Unit {0}
+
+-- what a run of words outside the table ends with: Usage, unless its line could not be said or memory ran out
+abbrev pub IsOfUsage : Status → Type 0
+IsOfUsage Usage = Unit {0}
+IsOfUsage SinkFault = Unit {0}
+IsOfUsage NoMemory = Unit {0}
+IsOfUsage _ = ⊥

@@ -38,8 +38,11 @@ pub record IsNoPattern (jail : List ℕ) (place : PatternPlace) : Type 0 where
   pub stands : Contains (patterns (rules_of definition)) (place, text)
   pub none : reading text ≡ None
 
--- a fault of the outside has its cause in a count that rose, and a pattern that is refused for its syntax in its text
+-- Behind the words a run stops early for a cause: a fault of the outside in a count that rose, and a pattern that is refused for
+-- its syntax in its text.
 abbrev pub HasCause : Standing → Standing → Status → Type 0
+HasCause old new TurnsSpent = ⊥
+HasCause old new Usage = ⊥
 HasCause old new SinkFault = Rose (old.faults OfSink) (new.faults OfSink)
 HasCause old new ConfFault = Rose (old.faults OfConfiguration) (new.faults OfConfiguration)
 HasCause old new (PatternRefused jail place Syntax) = IsNoPattern jail place

@@ -52,11 +52,7 @@ pub fn configure<W: World>(alloc: Global, world: &mut W, plan: &Plan) -> Result<
 
 /// Builds the patterns of a jail of the flat form.
 #[tactic(auto, using(crate::proofs::BuildLemmas::building, crate::proofs::CauseLemmas::counting))]
-pub fn build<W: World>(
-    alloc: Global,
-    world: &mut W,
-    definition: &JailDef,
-) -> Result<Filter, Status>
+pub fn build<W: World>(alloc: Global, world: &mut W, definition: &JailDef) -> Result<Filter, Status>
     requires { IsFlatJail definition.now }
     ensures value { IfOk result (λ filter. filter ≡ rules_of definition.now) }
     ensures ok { OnOk result (BuildsAll (W.stands world.old) (W.stands world.new) definition.now) }

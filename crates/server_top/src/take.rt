@@ -12,11 +12,7 @@ use f2b_world::World;
 use std::alloc::Global;
 
 // The step alone, with what it tells.
-fn step(
-    alloc: Global,
-    follow: Follow,
-    what: What,
-) -> Result<(Follow, Seq<Happening>), NoMemory>
+fn step(alloc: Global, follow: Follow, what: What) -> Result<(Follow, Seq<Happening>), NoMemory>
     requires { IsTaken what }
     ensures { IfOk result (λ r. StepsTo follow what r.0 r.1) }
 {

@@ -7,10 +7,10 @@ ghost use Rattle.log_follow.specs.Followed.{place_of};
 ghost use Rattle.f2b_world.specs.declared.answer.Look.TheVariants.{NoMemory as LookNoMemory};
 ghost use Rattle.server_top.specs.declared.status.Status.TheVariants.{NoMemory as NoMemoryStatus};
 
+use crate::find::find;
 use crate::follow::Follow;
 use crate::status::Status;
 use crate::take::take;
-use crate::find::find;
 use f2b_base::{Bytes, JailDef, NoMemory, Place, Plain, Reading, Text, What};
 use f2b_world::{Look, World};
 use log_follow::Line;

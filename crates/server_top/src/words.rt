@@ -1,9 +1,9 @@
 //! The words of the command line.
-ghost use Rattle.std.specs.Prelude.{◌≡◌, IfOk, string_bytes, map};
+ghost use Rattle.std.specs.Prelude.{◌≡◌, ◌≤◌, IfOk, IfSome, string_bytes, map};
 ghost use Rattle.server_top.specs.Words.{plan_of, plan_in, plan_with};
 
-use flat_form::number;
 use f2b_base::{NoMemory, Text};
+use flat_form::number;
 use std::alloc::Global;
 
 /// What a run is asked to do.
@@ -16,7 +16,9 @@ pub struct Plan {
 }
 
 fn plan_in(alloc: Global, root: &str, turns: u64) -> Result<Option<Plan>, NoMemory>
-    ensures { IfOk result (λ plan. plan ≡ plan_in root.now turns) }
+    requires { 1 ≤ turns }
+    ensures value { IfOk result (λ plan. plan ≡ plan_in root.now turns) }
+    ensures some { IfOk result (λ plan. IfSome plan (λ p. 1 ≤ p.turns)) }
 {
     if root.is_empty() {
         return Ok(None);
@@ -26,7 +28,8 @@ fn plan_in(alloc: Global, root: &str, turns: u64) -> Result<Option<Plan>, NoMemo
 }
 
 fn plan_with(alloc: Global, root: &str, turns: u64) -> Result<Option<Plan>, NoMemory>
-    ensures { IfOk result (λ plan. plan ≡ plan_with root.now turns) }
+    ensures value { IfOk result (λ plan. plan ≡ plan_with root.now turns) }
+    ensures some { IfOk result (λ plan. IfSome plan (λ p. 1 ≤ p.turns)) }
 {
     if turns == 0 {
         return Ok(None);
@@ -36,7 +39,8 @@ fn plan_with(alloc: Global, root: &str, turns: u64) -> Result<Option<Plan>, NoMe
 
 /// The plan that the words ask for, or none where they are not in the table: `--conf DIR`, or `--conf DIR --turns N`.
 pub fn read_words(alloc: Global, words: &[String]) -> Result<Option<Plan>, NoMemory>
-    ensures { IfOk result (λ plan. plan ≡ plan_of (map string_bytes words.now)) }
+    ensures value { IfOk result (λ plan. plan ≡ plan_of (map string_bytes words.now)) }
+    ensures some { IfOk result (λ plan. IfSome plan (λ p. 1 ≤ p.turns)) }
 {
     match words {
         [conf, root] => {

@@ -16,4 +16,4 @@ pub returns-in_err-say_happening-clause-err : goal.returns-in_err-say_happening-
 returns-in_err-say_happening-clause-err g c =
     let p = err_from_is_err_and c.from_residual.result c.from_residual.ensures.1 in
     rw (p.1, p.2) (fails_on _ _ _ _ _ _ _ _ c.loop-happening.invariant.says c.in_err-say_happening.ensures.err
-      (map_cut (line_of c.args.now) c.args.told.now c.loop-happening.happening-index c.happening-item.result c.loop-happening-test.true c.happening-item.is))
+    (map_cut (line_of c.args.now) c.args.told.now c.loop-happening.happening-index c.happening-item.result c.loop-happening-test.true c.happening-item.is))

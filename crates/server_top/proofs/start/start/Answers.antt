@@ -14,14 +14,14 @@ pub returns-in_err-say_line-clause-err : goal.returns-in_err-say_line-clause-err
 returns-in_err-say_line-clause-err g c =
     let p = err_from_is_err_and c.from_residual-in_err-say_line.result c.from_residual-in_err-say_line.ensures.1 in
     rw (p.1, p.2) (start_fails (g.W.Outside.stands c.args.world.now) (g.W.Outside.stands c.clock-reading.new.self) (g.W.Outside.stands c.say_line.new.world)
-      c.args.definition c.clock-reading.result c.in_ok-follow.follow c.as_slice.result.now c.in_err-say_line.field-0.0 c.clock-reading.ensures c.in_ok-follow.ensures
-      (c.as_slice.ensures ∙ c.in_ok-line.ensures) c.in_err-say_line.ensures.err)
+    c.args.definition c.clock-reading.result c.in_ok-follow.follow c.as_slice.result.now c.in_err-say_line.field-0.0 c.clock-reading.ensures c.in_ok-follow.ensures
+    (c.as_slice.ensures ∙ c.in_ok-line.ensures) c.in_err-say_line.ensures.err)
 
 pub returns-in_err-say_line-clause-cause : goal.returns-in_err-say_line-clause-cause
 returns-in_err-say_line-clause-cause g c =
     let p = err_from_is_err_and c.from_residual-in_err-say_line.result c.from_residual-in_err-say_line.ensures.1 in
     rw (p.1, p.2) (cause_later (g.W.Outside.stands c.args.world.now) (g.W.Outside.stands c.clock-reading.new.self) (g.W.Outside.stands c.say_line.new.world) c.in_err-say_line.field-0.0
-      (steady_call (g.W.Outside.stands c.args.world.now) (g.W.Outside.stands c.clock-reading.new.self) (Clock c.clock-reading.result) c.clock-reading.ensures) c.in_err-say_line.ensures.cause)
+    (steady_call (g.W.Outside.stands c.args.world.now) (g.W.Outside.stands c.clock-reading.new.self) (Clock c.clock-reading.result) c.clock-reading.ensures) c.in_err-say_line.ensures.cause)
 
 pub returns-in_err-say_line-clause-steady : goal.returns-in_err-say_line-clause-steady
 returns-in_err-say_line-clause-steady g c =

@@ -1,6 +1,6 @@
 use Rattle.server_top.specs.Stages.{IsSteady}
 use Rattle.server_top.specs.Starts.{Turned}
-use Rattle.server_top.proofs.server.follow_on.Given as goal
+use Rattle.server_top.proofs.run.follow_on.Given as goal
 
 abbrev pub invariant-loop-turn : goal.invariant-loop-turn
 invariant-loop-turn g l = record {

@@ -1,0 +1,7 @@
+//! Whole runs of the server over a world in memory, as tables of what they say.
+//!
+//! There is nothing here but tests: that what a run is proved to do is what a user expects of it, row by row.
+#![tactic(auto)]
+
+#[cfg(test)]
+mod tests;

@@ -1,0 +1,34 @@
+use Rattle.std.proofs.Common.{◌≡◌, ◌∙◌, ap, sym, subst, refl, List, ℕ, map, string_bytes, Some, None, Option, IsSome, is_some, true, false, true≢false}
+use Rattle.server_top.specs.Words.{plan_of}
+use Rattle.server_top.specs.declared.status.Status.TheVariants.{TurnsSpent}
+use Rattle.server_top.specs.declared.words.Plan.{Plan}
+use Rattle.server_top.proofs.CauseLemmas.{on_ok_more, if_err_more, on_ok_always, if_err_always}
+use Rattle.server_top.proofs.ServeLemmas.{run_planned, run_refused, caused, usage_caused, not_none}
+use Rattle.server_top.proofs.run.run.Goals as goal
+
+pub returns-in_default : goal.returns-in_default
+returns-in_default g c =
+    let words : List (List ℕ) = map string_bytes c.args.words.now in
+    let none : plan_of words ≡ None = sym c.in_ok-plan.ensures.value ∙ c.in_default.is in
+    let both = usage_caused words (g.W.Outside.stands c.args.world.now) (g.W.Outside.stands c.refuse.new.world) c.refuse.result none c.refuse.ensures.cause in
+    record {
+      ok = tt;
+      err = run_refused (g.W.Outside.stands c.args.world.now) (g.W.Outside.stands c.refuse.new.world) words c.refuse.result none c.refuse.ensures.ends;
+      cause = both.0;
+      planned = tt;
+      usage = λ _. both.1;
+    }
+
+pub returns : goal.returns
+returns g c =
+    let words : List (List ℕ) = map string_bytes c.args.words.now in
+    let is : plan_of words ≡ Some c.in-Some.plan = sym c.in_ok-plan.ensures.value ∙ c.in-Some.is in
+    let a = g.W.Outside.stands c.args.world.now in
+    let b = g.W.Outside.stands c.serve.new.world in
+    record {
+      ok = on_ok_more c.serve.result _ _ (λ halts. run_planned a.told b.told words c.in-Some.plan TurnsSpent is halts) c.serve.ensures.ok;
+      err = if_err_more c.serve.result _ _ (λ status halts. run_planned a.told b.told words c.in-Some.plan status is halts) c.serve.ensures.err;
+      cause = if_err_more c.serve.result _ _ (λ status cause. caused words a b status cause) c.serve.ensures.cause;
+      planned = on_ok_always c.serve.result _ (let P : Option Plan → Type 0 = λ o. IsSome o in subst P (sym is) refl);
+      usage = if_err_always c.serve.result _ (λ status none. absurd (not_none c.in-Some.plan (plan_of words) is none));
+    }
