@@ -8,4 +8,5 @@ pub mod LookLemmas
 pub mod StartLemmas
 pub mod BuildLemmas
 pub mod FirstLemmas
+pub mod SaidLemmas
 pub mod ServeLemmas

@@ -6,7 +6,7 @@ use Rattle.f2b_world.specs.Told.{History, Standing, Adds}
 use Rattle.f2b_world.specs.Walks.{after, Along}
 use Rattle.filter_regex.specs.declared.error.BuildKind.TheVariants.{Syntax, TooBig}
 use Rattle.server_top.specs.Law.{Following, Point, AtClock, Over, Run, Goes, Halts, Ends, IsOver, MayCome, Free, feed, begin, begin_with, opening, call_of, next_call, turned}
-use Rattle.server_top.specs.Served.{IsCaused, IsOfUsage, IsRun}
+use Rattle.server_top.specs.Served.{IsCaused, IsOfUsage, IsRun, SaysInOrder}
 use Rattle.server_top.specs.Words.{plan_of}
 use Rattle.server_top.specs.declared.words.Plan.{Plan}
 use Rattle.server_top.specs.Stages.{HasCause, IsAt, IsRefusedAs, Keeps, Moves, MoveFails, Reaches, Refuses, turn_end}
@@ -14,6 +14,7 @@ use Rattle.server_top.specs.Starts.{After, BuildFails, BuildsAll, Configures, Fi
 use Rattle.server_top.specs.declared.follow.Follow.{Follow}
 use Rattle.server_top.specs.declared.status.Status.{Status}
 use Rattle.server_top.specs.declared.status.Status.TheVariants.{TurnsSpent, Usage, ConfFault, SinkFault, NotBuilt, PatternRefused, NoMemory}
+use Rattle.server_top.proofs.SaidLemmas.{says_in_order}
 use Rattle.server_top.proofs.WalkLemmas.{goes_refl, goes_trans, get_past, halts_after, halts_here}
 
 -- so many turns are left
@@ -116,10 +117,17 @@ halted old (Some h) r status halts adds =
     let P : Run → Type 0 = λ x. Ends status x in
     (adds.0, adds.1, adds.2, adds.3, (adds.4.0, subst P (sym adds.4.1) halts.ends))
 
+-- the lines of what obeys the law
+ordered : (old new : Option History) (words : List (List ℕ)) (status : Status) → Adds old new (λ g es. Along feed MayCome Free (begin words) g es × Ends status (after feed MayCome Free (begin words) es))
+    → Adds old new (λ g es. SaysInOrder words status es)
+ordered old None words status adds = tt
+ordered old (Some h) words status adds = (adds.0, adds.1, adds.2, adds.3, says_in_order words status adds.0 adds.1 adds.4.0 adds.4.1)
+
 pub run_is : (old new : Option History) (words : List (List ℕ)) (r : Run) (status : Status) → begin words ≡ r → Halts old new r status → IsRun old new words status
 run_is old new words r status is halts =
     let P : Run → Type 0 = λ x. Adds old new (λ g es. Along feed MayCome Free x g es × Ends status (after feed MayCome Free x es)) in
-    record { law = subst P (sym is) (halted old new r status halts halts.goes.events) }
+    let law = subst P (sym is) (halted old new r status halts halts.goes.events) in
+    record { law = law; lines = ordered old new words status law }
 
 pub run_planned : (old new : Option History) (words : List (List ℕ)) (plan : Plan) (status : Status) → plan_of words ≡ Some plan → Halts old new (opening plan) status → IsRun old new words status
 run_planned old new words plan status is halts = run_is old new words (opening plan) status (ap begin_with is) halts
