@@ -9,13 +9,13 @@ use Rattle.f2b_base.specs.declared.jail.Defs.{Defs}
 use Rattle.f2b_base.specs.declared.jail.JailDef.{JailDef}
 use Rattle.f2b_model.specs.Lists.{AllOf, in_order}
 use Rattle.f2b_model.specs.Full.{is_late, IsFull}
-use Rattle.f2b_model.specs.State.{Jail, State, open_of, active_of, kept_of}
+use Rattle.f2b_model.specs.State.{Jail, JailsState, open_of, active_of, kept_of}
 use Rattle.f2b_model.specs.declared.jail_now.JailNow.{JailNow}
-use Rattle.f2b_model.specs.Nows.{comes_before, jail_now, now_of, jail_from, state_from}
+use Rattle.f2b_model.specs.Nows.{comes_before, jail_now, jails_now_of, jail_from, jails_from}
 use Rattle.f2b_model.specs.Moves.{fresh}
 use Rattle.f2b_model.specs.NowMoves.{fresh_now}
-use Rattle.f2b_model.specs.Steps.{moves, moves_now, step, steps, step_now, steps_now, first_state, first_now}
-use Rattle.f2b_model.specs.Sound.{IsSoundJail, IsGoodJail, IsSound, IsFit}
+use Rattle.f2b_model.specs.Steps.{moves, moves_now, jails_step, jails_steps, jails_step_now, jails_steps_now, first_jails, first_jails_now}
+use Rattle.f2b_model.specs.Sound.{IsSoundJail, IsGoodJail, AreSoundJails, IsFit}
 use Rattle.f2b_model.proofs.ListLemmas.{filter_both, in_order_filter, in_order_is, in_order_same}
 use Rattle.f2b_model.proofs.FullLemmas.{full_of_part, full_in_order}
 use Rattle.f2b_model.proofs.MarkLemmas.{open_of-all, active_of-all, kept_of-all, failures_order}
@@ -42,8 +42,8 @@ map_again : (js : List Jail) → map jail_now (map jail_from (map jail_now js)) 
 map_again [] = refl
 map_again (j ∷ js) = ap₂ (λ y ys. y ∷ ys) (jail_again j) (map_again js)
 
-pub now_again : (s : State) → now_of (state_from (now_of s)) ≡ now_of s
-now_again s = ap (λ (js : List JailNow). record (now_of s) { jails = js }) (map_again s.jails)
+pub now_again : (s : JailsState) → jails_now_of (jails_from (jails_now_of s)) ≡ jails_now_of s
+now_again s = ap (λ (js : List JailNow). record (jails_now_of s) { jails = js }) (map_again s.jails)
 
 sound_again : (at : ℕ) (j : Jail) → IsSoundJail at j → IsSoundJail at (jail_from (jail_now j))
 sound_again at j sound = record {
@@ -76,33 +76,33 @@ all_again at [] a = tt
 all_again at (j ∷ js) a = (good_again at j a.0, all_again at js a.1)
 
 -- and is sound
-pub back_sound : (s : State) → IsSound s → IsSound (state_from (now_of s))
+pub back_sound : (s : JailsState) → AreSoundJails s → AreSoundJails (jails_from (jails_now_of s))
 back_sound s sound = record { at = sound.at; jails = all_again s.at s.jails sound.jails }
 
-pub now_step : (s : State) (input : Input) → IsFit input → IsSound s → now_of (step s input) ≡ step_now (now_of s) input
+pub now_step : (s : JailsState) (input : Input) → IsFit input → AreSoundJails s → jails_now_of (jails_step s input) ≡ jails_step_now (jails_now_of s) input
 now_step s input fit sound = step_shows moves moves_now jail_now IsGoodJail IsCalmJail jail_shows s input fit (sound.at, sound.jails)
 
-pub sound_step : (s : State) (input : Input) → IsFit input → IsSound s → IsSound (step s input)
+pub sound_step : (s : JailsState) (input : Input) → IsFit input → AreSoundJails s → AreSoundJails (jails_step s input)
 sound_step s input fit sound = let r = step_good moves moves_now jail_now IsGoodJail IsCalmJail jail_shows s input fit (sound.at, sound.jails) in record { at = r.0; jails = r.1 }
 
-pub now_steps : (s : State) (inputs : List Input) → AllOf IsFit inputs → IsSound s → now_of (steps s inputs) ≡ steps_now (now_of s) inputs
+pub now_steps : (s : JailsState) (inputs : List Input) → AllOf IsFit inputs → AreSoundJails s → jails_now_of (jails_steps s inputs) ≡ jails_steps_now (jails_now_of s) inputs
 now_steps s [] fit sound = refl
 now_steps s (input ∷ inputs) fit sound =
-    now_steps (step s input) inputs fit.1 (sound_step s input fit.0 sound) ∙ ap (λ n. steps_now n inputs) (now_step s input fit.0 sound)
+    now_steps (jails_step s input) inputs fit.1 (sound_step s input fit.0 sound) ∙ ap (λ n. jails_steps_now n inputs) (now_step s input fit.0 sound)
 
 -- after the same inputs two sound states with equal middle states have equal ones
-pub nows_alike : (s t : State) (inputs : List Input) → AllOf IsFit inputs → IsSound s → IsSound t → now_of s ≡ now_of t → now_of (steps s inputs) ≡ now_of (steps t inputs)
-nows_alike s t inputs fit ss st same = now_steps s inputs fit ss ∙ ap (λ n. steps_now n inputs) same ∙ sym (now_steps t inputs fit st)
+pub nows_alike : (s t : JailsState) (inputs : List Input) → AllOf IsFit inputs → AreSoundJails s → AreSoundJails t → jails_now_of s ≡ jails_now_of t → jails_now_of (jails_steps s inputs) ≡ jails_now_of (jails_steps t inputs)
+nows_alike s t inputs fit ss st same = now_steps s inputs fit ss ∙ ap (λ n. jails_steps_now n inputs) same ∙ sym (now_steps t inputs fit st)
 
-pub now_later : (s : State) (inputs : List Input) → AllOf IsFit inputs → IsSound s → now_of (steps (state_from (now_of s)) inputs) ≡ now_of (steps s inputs)
-now_later s inputs fit sound = nows_alike (state_from (now_of s)) s inputs fit (back_sound s sound) sound (now_again s)
+pub now_later : (s : JailsState) (inputs : List Input) → AllOf IsFit inputs → AreSoundJails s → jails_now_of (jails_steps (jails_from (jails_now_of s)) inputs) ≡ jails_now_of (jails_steps s inputs)
+now_later s inputs fit sound = nows_alike (jails_from (jails_now_of s)) s inputs fit (back_sound s sound) sound (now_again s)
 
 -- the state of a first configuration is sound
 first_good : (ds : List JailDef) → AllOf (λ (d : JailDef). 1 ≤ d.maxretry) ds → AllOf (IsGoodJail 0) (map fresh ds)
 first_good [] fit = tt
 first_good (d ∷ ds) fit = (jail_shows.good_fresh 0 d fit.0, first_good ds fit.1)
 
-pub first_sound : (defs : Defs) → AllOf (λ (d : JailDef). 1 ≤ d.maxretry) defs.jails → IsSound (first_state defs)
+pub first_sound : (defs : Defs) → AllOf (λ (d : JailDef). 1 ≤ d.maxretry) defs.jails → AreSoundJails (first_jails defs)
 first_sound defs fit = record { at = omega arith; jails = first_good defs.jails fit }
 
 -- and its middle state is that of the configuration
@@ -110,5 +110,5 @@ first_all : (ds : List JailDef) → map jail_now (map fresh ds) ≡ map fresh_no
 first_all [] = refl
 first_all (d ∷ ds) = ap (λ js. fresh_now d ∷ js) (first_all ds)
 
-pub first_shows : (defs : Defs) → now_of (first_state defs) ≡ first_now defs
-first_shows defs = ap (λ (js : List JailNow). record (first_now defs) { jails = js }) (first_all defs.jails)
+pub first_shows : (defs : Defs) → jails_now_of (first_jails defs) ≡ first_jails_now defs
+first_shows defs = ap (λ (js : List JailNow). record (first_jails_now defs) { jails = js }) (first_all defs.jails)

@@ -12,10 +12,10 @@ use Rattle.f2b_base.specs.declared.input.What.{What}
 use Rattle.f2b_base.specs.declared.input.What.TheVariants.{Tick, Read, Ended, Config, Stop, Ban as BanThese, Unban, Attempt, Ignore, Findtime, Bantime, Maxretry, Idle}
 use Rattle.f2b_model.specs.Lists.{AllOf, in_order}
 use Rattle.f2b_model.specs.Full.{is_full}
-use Rattle.f2b_model.specs.Nows.{Now}
+use Rattle.f2b_model.specs.Nows.{JailsNow}
 use Rattle.f2b_model.specs.Moves.{Out, counts, is_banned, is_near, ban_of, new_ban}
 use Rattle.f2b_model.specs.NowMoves.{found_now, counted_now, begun_now, banned_now, ended_now, limited_now}
-use Rattle.f2b_model.specs.Steps.{moves_now, is_spent, is_due, own_end, ends_before, is_meant, is_meant_jail, end_all, ended_by_time, unbanned, in_jail, find_jail, kept_or_fresh, configured, at_jail, alone, found_all, ban_all, done, each_jail, raised, step_now}
+use Rattle.f2b_model.specs.Steps.{moves_now, is_spent, is_due, own_end, ends_before, is_meant, is_meant_jail, end_all, ended_by_time, unbanned, in_jail, find_jail, kept_or_fresh, configured, at_jail, alone, found_all, ban_all, done, each_jail, raised, jails_step_now}
 use Rattle.f2b_model.specs.Sound.{IsNumbered, IsRisingSerials}
 use Rattle.f2b_model.specs.Laws.{AreNumbered}
 use Rattle.f2b_model.proofs.ListLemmas.{by_test}
@@ -86,17 +86,17 @@ in_jail_numbered name f n (j ∷ js) e a =
     (λ t. let r = in_jail_numbered name f n js e a.1 in
     rw t (r.0, (numbered_more n (in_jail moves_now name f n js).next j.bans r.0 a.0, r.1)))
 
-at_jail_numbered : (name : List ℕ) (f : ℕ → JailNow → Out JailNow) (w : Now) → ((j : JailNow) → Good w.next_ban j → GoodOut w.next_ban (f w.next_ban j)) → AreNumbered w
+at_jail_numbered : (name : List ℕ) (f : ℕ → JailNow → Out JailNow) (w : JailsNow) → ((j : JailNow) → Good w.next_ban j → GoodOut w.next_ban (f w.next_ban j)) → AreNumbered w
     → AreNumbered (at_jail moves_now name f w)
 at_jail_numbered name f w e a = (in_jail_numbered name f w.next_ban w.jails e a).1
 
-found_all_numbered : (word : ℕ) (name : List ℕ) (fs : List Failure) (w : Now) → AreNumbered w → AreNumbered (found_all moves_now word name fs w)
+found_all_numbered : (word : ℕ) (name : List ℕ) (fs : List Failure) (w : JailsNow) → AreNumbered w → AreNumbered (found_all moves_now word name fs w)
 found_all_numbered word name [] w a = a
 found_all_numbered word name (f ∷ fs) w a =
     found_all_numbered word name fs (at_jail moves_now name (λ n j. found_now w.at word n f j) w)
     (at_jail_numbered name (λ n j. found_now w.at word n f j) w (found_numbered w.at word w.next_ban f) a)
 
-ban_all_numbered : (word : ℕ) (name : List ℕ) (addrs : List Addr) (w : Now) → AreNumbered w → AreNumbered (ban_all moves_now word name addrs w)
+ban_all_numbered : (word : ℕ) (name : List ℕ) (addrs : List Addr) (w : JailsNow) → AreNumbered w → AreNumbered (ban_all moves_now word name addrs w)
 ban_all_numbered word name [] w a = a
 ban_all_numbered word name (f ∷ fs) w a =
     ban_all_numbered word name fs (at_jail moves_now name (λ n j. banned_now w.at word n f j) w)
@@ -110,7 +110,7 @@ configured_numbered n (d ∷ ds) js a = (one js a, configured_numbered n ds js a
     one [] a = record { rising = tt; below = tt }
     one (j ∷ js) a = by_test (bytes_eq j.definition.name d.name) _ (λ t. rw t (limited_numbered n d.findtime d.maxretry j a.0)) (λ t. rw t (one js a.1))
 
-done_numbered : (word : ℕ) (what : What) (w : Now) → AreNumbered w → AreNumbered (done moves_now word what w)
+done_numbered : (word : ℕ) (what : What) (w : JailsNow) → AreNumbered w → AreNumbered (done moves_now word what w)
 done_numbered word Tick w a = a
 done_numbered word (Read jail path place fs) w a = found_all_numbered word jail fs w a
 done_numbered word (BanThese jail addrs) w a = ban_all_numbered word jail addrs w a
@@ -132,7 +132,7 @@ done_numbered word Stop w a = a
 done_numbered word (Ignore jail cidr add) w a = a
 
 -- a step keeps the bans of each jail by serial, below the next
-pub step_numbered : (w : Now) (input : Input) → AreNumbered w → AreNumbered (step_now w input)
+pub step_numbered : (w : JailsNow) (input : Input) → AreNumbered w → AreNumbered (jails_step_now w input)
 step_numbered w input a =
     by_test (is_spent w) _
     (λ t. rw t a)

@@ -17,10 +17,10 @@ use Rattle.f2b_base.specs.Span.{growth, plain_span, span_of}
 use Rattle.f2b_model.specs.declared.happening.Happening.TheVariants.{Counts, Begins, Ends}
 use Rattle.f2b_model.specs.declared.jail_now.JailNow.{JailNow}
 use Rattle.f2b_model.specs.Full.{is_of}
-use Rattle.f2b_model.specs.Nows.{now_of, state_from}
-use Rattle.f2b_model.specs.State.{Jail, State, open_of}
-use Rattle.f2b_model.specs.Steps.{moves, step, steps, first_state}
-use Rattle.f2b_model.specs.Told.{told}
+use Rattle.f2b_model.specs.Nows.{jails_now_of, jails_from}
+use Rattle.f2b_model.specs.State.{Jail, JailsState, open_of}
+use Rattle.f2b_model.specs.Steps.{moves, jails_step, jails_steps, first_jails}
+use Rattle.f2b_model.specs.Told.{jails_told}
 use Rattle.f2b_model.specs.Until.{until_of}
 
 -- a ban lasts ten minutes
@@ -45,8 +45,8 @@ definition = record {
   actions = [];
 }
 
-abbrev start : State
-start = first_state (record { purge = 86400; jails = definition ∷ [] })
+abbrev start : JailsState
+start = first_jails (record { purge = 86400; jails = definition ∷ [] })
 
 -- a moment of the rows
 abbrev at : ℕ → ℕ
@@ -66,41 +66,41 @@ abbrev reads : ℕ → List Failure → Input
 reads n fs = sends n (Read (97 ∷ []) [] Tail fs)
 
 -- the active bans, jail by jail, and the past ones
-abbrev bans_of : State → List (List Ban)
-bans_of s = map (λ (j : JailNow). j.bans) (now_of s).jails
+abbrev bans_of : JailsState → List (List Ban)
+bans_of s = map (λ (j : JailNow). j.bans) (jails_now_of s).jails
 
-abbrev pasts_of : State → List (List Past)
-pasts_of s = map (λ (j : JailNow). j.past) (now_of s).jails
+abbrev pasts_of : JailsState → List (List Past)
+pasts_of s = map (λ (j : JailNow). j.past) (jails_now_of s).jails
 
 -- a ban of ten minutes
 abbrev ban : ℕ → ℕ → ℕ → ℕ → Ban
 ban serial n count failures = record { serial = serial; addr = V4 7; begin = at n; until = At (at n + 600); count = count; failures = failures }
 
 -- failures at 100, 300 and 699 are less than 600 seconds apart
-three_within : bans_of (steps start (reads 100 (fails 100 ∷ []) ∷ reads 300 (fails 300 ∷ []) ∷ reads 699 (fails 699 ∷ []) ∷ [])) ≡ (ban 0 699 0 3 ∷ []) ∷ []
+three_within : bans_of (jails_steps start (reads 100 (fails 100 ∷ []) ∷ reads 300 (fails 300 ∷ []) ∷ reads 699 (fails 699 ∷ []) ∷ [])) ≡ (ban 0 699 0 3 ∷ []) ∷ []
 unfolding plain_span span_of
 three_within = refl
 
 -- and those at 100, 300 and 700 are not
-three_over : bans_of (steps start (reads 100 (fails 100 ∷ []) ∷ reads 300 (fails 300 ∷ []) ∷ reads 700 (fails 700 ∷ []) ∷ [])) ≡ [] ∷ []
+three_over : bans_of (jails_steps start (reads 100 (fails 100 ∷ []) ∷ reads 300 (fails 300 ∷ []) ∷ reads 700 (fails 700 ∷ []) ∷ [])) ≡ [] ∷ []
 three_over = refl
 
 -- the order in which they were found does not matter
-any_order : bans_of (step start (reads 500 (fails 500 ∷ fails 100 ∷ fails 300 ∷ []))) ≡ (ban 0 500 0 3 ∷ []) ∷ []
+any_order : bans_of (jails_step start (reads 500 (fails 500 ∷ fails 100 ∷ fails 300 ∷ []))) ≡ (ban 0 500 0 3 ∷ []) ∷ []
 unfolding plain_span span_of
 any_order = refl
 
-not_by_two : bans_of (step start (reads 500 (fails 500 ∷ fails 100 ∷ []))) ≡ [] ∷ []
+not_by_two : bans_of (jails_step start (reads 500 (fails 500 ∷ fails 100 ∷ []))) ≡ [] ∷ []
 not_by_two = refl
 
 -- a change of `maxretry` forgets: after 100 and 699 a change to 2 bans nobody, nor does one more failure; a second one does
 abbrev changed : List Input
 changed = reads 100 (fails 100 ∷ []) ∷ reads 699 (fails 699 ∷ []) ∷ sends 699 (Maxretry (97 ∷ []) 2) ∷ reads 699 (fails 699 ∷ []) ∷ []
 
-changed_one : bans_of (steps start changed) ≡ [] ∷ []
+changed_one : bans_of (jails_steps start changed) ≡ [] ∷ []
 changed_one = refl
 
-changed_two : bans_of (steps start (changed ++ reads 699 (fails 699 ∷ []) ∷ [])) ≡ (ban 0 699 0 2 ∷ []) ∷ []
+changed_two : bans_of (jails_steps start (changed ++ reads 699 (fails 699 ∷ []) ∷ [])) ≡ (ban 0 699 0 2 ∷ []) ∷ []
 unfolding plain_span span_of
 changed_two = refl
 
@@ -108,16 +108,16 @@ changed_two = refl
 abbrev at_1000 : List Input
 at_1000 = sends 1000 (BanThese (97 ∷ []) (V4 7 ∷ [])) ∷ []
 
-not_before : bans_of (steps start (at_1000 ++ sends 1599 Tick ∷ [])) ≡ (ban 0 1000 0 0 ∷ []) ∷ []
+not_before : bans_of (jails_steps start (at_1000 ++ sends 1599 Tick ∷ [])) ≡ (ban 0 1000 0 0 ∷ []) ∷ []
 unfolding plain_span span_of
 not_before = refl
 
-at_its_end : pasts_of (steps start (at_1000 ++ sends 1600 Tick ∷ [])) ≡ (record { addr = V4 7; end = at 1600 } ∷ []) ∷ []
+at_its_end : pasts_of (jails_steps start (at_1000 ++ sends 1600 Tick ∷ [])) ≡ (record { addr = V4 7; end = at 1600 } ∷ []) ∷ []
 unfolding plain_span span_of
 at_its_end = refl
 
 -- after the readings 1000 and 950 it is still 1000
-never_back : (steps start (sends 1000 Tick ∷ sends 950 Tick ∷ [])).at ≡ at 1000
+never_back : (jails_steps start (sends 1000 Tick ∷ sends 950 Tick ∷ [])).at ≡ at 1000
 never_back = refl
 
 -- a ban that grows by half as much again each time it doubles, up to 5000 seconds
@@ -145,34 +145,34 @@ two_ends =
     sends 1000 (Bantime (97 ∷ []) (negsuc 0)) ∷ sends 1000 (BanThese (97 ∷ []) (V4 7 ∷ []))
     ∷ sends 1000 (Bantime (97 ∷ []) (pos 600)) ∷ sends 1000 (BanThese (97 ∷ []) (V4 8 ∷ [])) ∷ sends 1600 (Unban None None) ∷ []
 
-order_of_ending : pasts_of (steps start two_ends) ≡ (record { addr = V4 8; end = at 1600 } ∷ record { addr = V4 7; end = at 1600 } ∷ []) ∷ []
+order_of_ending : pasts_of (jails_steps start two_ends) ≡ (record { addr = V4 8; end = at 1600 } ∷ record { addr = V4 7; end = at 1600 } ∷ []) ∷ []
 unfolding plain_span span_of
 order_of_ending = refl
 
 -- A count of an address's open failures that does not look at their times is not told by the middle state: 7 failed twice, long ago.
-abbrev long_ago : State
-long_ago = steps start (reads 100 (fails 100 ∷ []) ∷ reads 101 (fails 101 ∷ []) ∷ reads 3000 (fails_at 8 3000 ∷ []) ∷ [])
+abbrev long_ago : JailsState
+long_ago = jails_steps start (reads 100 (fails 100 ∷ []) ∷ reads 101 (fails 101 ∷ []) ∷ reads 3000 (fails_at 8 3000 ∷ []) ∷ [])
 
-abbrev open_count : State → List ℕ
+abbrev open_count : JailsState → List ℕ
 open_count s = map (λ (j : Jail). length (filter (is_of (V4 7)) (open_of j.failures))) s.jails
 
 two_in_the_state : open_count long_ago ≡ 2 ∷ []
 two_in_the_state = refl
 
-none_in_the_middle_state : open_count (state_from (now_of long_ago)) ≡ 0 ∷ []
+none_in_the_middle_state : open_count (jails_from (jails_now_of long_ago)) ≡ 0 ∷ []
 none_in_the_middle_state = refl
 
 -- three failures and a ban are told in this order, and nothing of a failure of the banned address; then the ban's end
-tells_a_ban : told moves start (reads 500 (fails 500 ∷ fails 100 ∷ fails 300 ∷ fails 400 ∷ []))
+tells_a_ban : jails_told moves start (reads 500 (fails 500 ∷ fails 100 ∷ fails 300 ∷ fails 400 ∷ []))
     ≡ Counts (97 ∷ []) (V4 7) ∷ Counts (97 ∷ []) (V4 7) ∷ Counts (97 ∷ []) (V4 7) ∷ Begins (97 ∷ []) (ban 0 500 0 3) ∷ []
 unfolding plain_span span_of
 tells_a_ban = refl
 
-tells_its_end : told moves (step start (reads 500 (fails 500 ∷ fails 100 ∷ fails 300 ∷ []))) (sends 1100 Tick) ≡ Ends (97 ∷ []) (ban 0 500 0 3) ∷ []
+tells_its_end : jails_told moves (jails_step start (reads 500 (fails 500 ∷ fails 100 ∷ fails 300 ∷ []))) (sends 1100 Tick) ≡ Ends (97 ∷ []) (ban 0 500 0 3) ∷ []
 unfolding plain_span span_of
 tells_its_end = refl
 
 -- what speaks of no failure and no ban leaves both alone
-stop_leaves_bans : bans_of (steps start (at_1000 ++ sends 1001 Stop ∷ [])) ≡ (ban 0 1000 0 0 ∷ []) ∷ []
+stop_leaves_bans : bans_of (jails_steps start (at_1000 ++ sends 1001 Stop ∷ [])) ≡ (ban 0 1000 0 0 ∷ []) ∷ []
 unfolding plain_span span_of
 stop_leaves_bans = refl

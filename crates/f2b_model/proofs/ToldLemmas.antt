@@ -10,13 +10,13 @@ use Rattle.f2b_base.specs.declared.jail.JailDef.{JailDef}
 use Rattle.f2b_base.specs.declared.input.What.{What}
 use Rattle.f2b_base.specs.declared.input.What.TheVariants.{Tick, Read, Ended, Config, Stop, Ban as BanThese, Unban, Attempt, Ignore, Findtime, Bantime, Maxretry, Idle}
 use Rattle.f2b_model.specs.Lists.{AllOf, in_order}
-use Rattle.f2b_model.specs.State.{World, world_map, State}
-use Rattle.f2b_model.specs.Nows.{jail_now, now_of}
+use Rattle.f2b_model.specs.State.{World, world_map, JailsState}
+use Rattle.f2b_model.specs.Nows.{jail_now, jails_now_of}
 use Rattle.f2b_model.specs.Moves.{Out, counts}
 use Rattle.f2b_model.specs.Steps.{Moves, moves, moves_now, is_spent, is_due, ends_before, is_meant, is_meant_jail, ended_by_time, at_jail, each_jail, raised}
-use Rattle.f2b_model.specs.Sound.{IsFit, IsGoodJail, IsSound}
+use Rattle.f2b_model.specs.Sound.{IsFit, IsGoodJail, AreSoundJails}
 use Rattle.f2b_model.specs.declared.happening.Happening.{Happening}
-use Rattle.f2b_model.specs.Told.{told_each, told_new, told_found, told_banned, told_ends, told_unbanned, told_in, told_all_found, told_all_banned, told_done, told}
+use Rattle.f2b_model.specs.Told.{told_each, told_new, told_found, told_banned, told_ends, told_unbanned, told_in, told_all_found, told_all_banned, told_done, jails_told}
 use Rattle.f2b_model.specs.declared.happening.Happening.TheVariants.{Counts, Begins, Ends}
 use Rattle.f2b_model.proofs.ListLemmas.{by_test}
 use Rattle.f2b_model.proofs.StepLemmas.{Shows, out_map, GoodWorld, at_jail_shows, in_good, each_shows, by_time_shows, calm_world, raised_good, ended_good}
@@ -100,7 +100,7 @@ module _ {J K : Type 0} (m : Moves J) (k : Moves K) (h : J → K) (Good Calm : �
   done_told word Stop w a = refl
   done_told word (Ignore jail cidr add) w a = refl
 
-  pub told_shows : (w : World J) (input : Input) → IsFit input → GoodWorld m k h Good Calm shows w → told m w input ≡ told k (world_map h w) input
+  pub told_shows : (w : World J) (input : Input) → IsFit input → GoodWorld m k h Good Calm shows w → jails_told m w input ≡ jails_told k (world_map h w) input
   told_shows w input fit a =
       by_test (is_spent w) _
       (λ q. rw q refl)
@@ -116,5 +116,5 @@ module _ {J K : Type 0} (m : Moves J) (k : Moves K) (h : J → K) (Good Calm : �
       (done_told input.word input.what ended ended_is ∙ ap (told_done k input.word input.what) e)))
 
 -- what a step tells is told by the middle state
-pub told_by_now : (s : State) (input : Input) → IsFit input → IsSound s → told moves s input ≡ told moves_now (now_of s) input
+pub told_by_now : (s : JailsState) (input : Input) → IsFit input → AreSoundJails s → jails_told moves s input ≡ jails_told moves_now (jails_now_of s) input
 told_by_now s input fit sound = told_shows moves moves_now jail_now IsGoodJail IsCalmJail jail_shows s input fit (sound.at, sound.jails)

@@ -8,33 +8,33 @@ use Rattle.f2b_base.specs.declared.jail.JailDef.{JailDef}
 use Rattle.f2b_model.specs.declared.jail_now.JailNow.{JailNow}
 use Rattle.f2b_model.specs.Lists.{AllOf, placed}
 use Rattle.f2b_model.specs.Full.{IsFull, IsFullByChoice, is_full, is_late}
-use Rattle.f2b_model.specs.State.{State}
-use Rattle.f2b_model.specs.Nows.{comes_before, Now, now_of, state_from}
-use Rattle.f2b_model.specs.Steps.{moves, moves_now, step, steps, step_now, first_state, first_now}
-use Rattle.f2b_model.specs.Sound.{IsFit, IsNumbered, IsSound}
+use Rattle.f2b_model.specs.State.{JailsState}
+use Rattle.f2b_model.specs.Nows.{comes_before, JailsNow, jails_now_of, jails_from}
+use Rattle.f2b_model.specs.Steps.{moves, moves_now, jails_step, jails_steps, jails_step_now, first_jails, first_jails_now}
+use Rattle.f2b_model.specs.Sound.{IsFit, IsNumbered, AreSoundJails}
 use Rattle.f2b_model.specs.Stands.{StandsFor, IsShown}
-use Rattle.f2b_model.specs.Told.{told}
+use Rattle.f2b_model.specs.Told.{jails_told}
 use Rattle.f2b_model.specs.Windows.{IsRising, IsFullBy, HasRun}
 
 -- in each jail the serials of the active bans rise, and all are below the next one
-abbrev pub AreNumbered : Now → Type 0
+abbrev pub AreNumbered : JailsNow → Type 0
 AreNumbered n = AllOf (λ (j : JailNow). IsNumbered n.next_ban j.bans) n.jails
 
-pub record StepLaw : Type 0 where
+pub record JailsLaw : Type 0 where
   -- the step of a state is seen in the middle state as its step, and tells the same
-  pub now : (s : State) (input : Input) → IsFit input → IsSound s → now_of (step s input) ≡ step_now (now_of s) input
-  pub tells : (s : State) (input : Input) → IsFit input → IsSound s → told moves s input ≡ told moves_now (now_of s) input
+  pub now : (s : JailsState) (input : Input) → IsFit input → AreSoundJails s → jails_now_of (jails_step s input) ≡ jails_step_now (jails_now_of s) input
+  pub tells : (s : JailsState) (input : Input) → IsFit input → AreSoundJails s → jails_told moves s input ≡ jails_told moves_now (jails_now_of s) input
   -- a step keeps soundness, and the first state is sound
-  pub sound : (s : State) (input : Input) → IsFit input → IsSound s → IsSound (step s input)
-  pub first : (defs : Defs) → AllOf (λ (d : JailDef). 1 ≤ d.maxretry) defs.jails → IsSound (first_state defs)
-  pub first_is : (defs : Defs) → now_of (first_state defs) ≡ first_now defs
+  pub sound : (s : JailsState) (input : Input) → IsFit input → AreSoundJails s → AreSoundJails (jails_step s input)
+  pub first : (defs : Defs) → AllOf (λ (d : JailDef). 1 ≤ d.maxretry) defs.jails → AreSoundJails (first_jails defs)
+  pub first_is : (defs : Defs) → jails_now_of (first_jails defs) ≡ first_jails_now defs
   -- a middle state is that of the state which holds just what it holds, and whatever comes does not tell the two states apart
-  pub again : (s : State) → now_of (state_from (now_of s)) ≡ now_of s
-  pub back : (s : State) → IsSound s → IsSound (state_from (now_of s))
-  pub later : (s : State) (inputs : List Input) → AllOf IsFit inputs → IsSound s → now_of (steps (state_from (now_of s)) inputs) ≡ now_of (steps s inputs)
+  pub again : (s : JailsState) → jails_now_of (jails_from (jails_now_of s)) ≡ jails_now_of s
+  pub back : (s : JailsState) → AreSoundJails s → AreSoundJails (jails_from (jails_now_of s))
+  pub later : (s : JailsState) (inputs : List Input) → AllOf IsFit inputs → AreSoundJails s → jails_now_of (jails_steps (jails_from (jails_now_of s)) inputs) ≡ jails_now_of (jails_steps s inputs)
   -- what always holds of a middle state
-  pub bounds : (s : State) → IsSound s → AllOf (IsShown s.at) (now_of s).jails
-  pub numbered : (n : Now) (input : Input) → AreNumbered n → AreNumbered (step_now n input)
+  pub bounds : (s : JailsState) → AreSoundJails s → AllOf (IsShown s.at) (jails_now_of s).jails
+  pub numbered : (n : JailsNow) (input : Input) → AreNumbered n → AreNumbered (jails_step_now n input)
 
 pub record FullLaw : Type 0 where
   -- full by choice is full by spans, and the test decides it

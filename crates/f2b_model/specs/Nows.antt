@@ -8,7 +8,7 @@ use Rattle.f2b_base.specs.declared.ban.Past.{Past}
 use Rattle.f2b_model.specs.declared.jail_now.JailNow.{JailNow}
 use Rattle.f2b_model.specs.Lists.{in_order}
 use Rattle.f2b_model.specs.Full.{is_late}
-use Rattle.f2b_model.specs.State.{Jail, World, world_map, State, open_of, active_of, kept_of}
+use Rattle.f2b_model.specs.State.{Jail, World, world_map, JailsState, open_of, active_of, kept_of}
 
 -- IPv4 before IPv6, then by number
 abbrev pub addr_before : Addr → Addr → Bool
@@ -22,8 +22,8 @@ abbrev pub comes_before : Failure → Failure → Bool
 comes_before f g = addr_before f.addr g.addr || (not (addr_before g.addr f.addr) && nat_lt f.time g.time)
 
 -- the middle state
-abbrev pub Now : Type 0
-Now = World JailNow
+abbrev pub JailsNow : Type 0
+JailsNow = World JailNow
 
 -- what still matters of a jail: late open failures in order, active bans, kept ends
 abbrev pub jail_now : Jail → JailNow
@@ -39,8 +39,8 @@ jail_now j = record {
 }
 
 -- the middle state of a state
-abbrev pub now_of : State → Now
-now_of s = world_map jail_now s
+abbrev pub jails_now_of : JailsState → JailsNow
+jails_now_of s = world_map jail_now s
 
 -- the jail whose lists hold just what still matters
 abbrev pub jail_from : JailNow → Jail
@@ -56,5 +56,5 @@ jail_from j = record {
 }
 
 -- the state of a middle state
-abbrev pub state_from : Now → State
-state_from n = world_map jail_from n
+abbrev pub jails_from : JailsNow → JailsState
+jails_from n = world_map jail_from n

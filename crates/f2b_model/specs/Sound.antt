@@ -12,7 +12,7 @@ use Rattle.f2b_base.specs.declared.input.What.{What}
 use Rattle.f2b_base.specs.declared.input.What.TheVariants.{Maxretry, Config}
 use Rattle.f2b_model.specs.Lists.{AllOf}
 use Rattle.f2b_model.specs.Full.{IsFull}
-use Rattle.f2b_model.specs.State.{Jail, State, open_of, active_of, kept_of}
+use Rattle.f2b_model.specs.State.{Jail, JailsState, open_of, active_of, kept_of}
 use Rattle.f2b_model.specs.Until.{last_moment}
 use Rattle.f2b_model.specs.Moves.{is_banned}
 
@@ -54,7 +54,7 @@ pub record IsGoodJail (at : ℕ) (j : Jail) : Type 0 where
   pub orderly : IsOrderly at j.moment (open_of j.failures) (active_of j.bans) (kept_of j.endings)
 
 -- a sound state
-pub record IsSound (s : State) : Type 0 where
+pub record AreSoundJails (s : JailsState) : Type 0 where
   pub at : s.at ≤ last_moment
   pub jails : AllOf (IsGoodJail s.at) s.jails
 

@@ -49,8 +49,8 @@ abbrev pub world_map : {J K : Type 0} → (J → K) → World J → World K
 world_map f w = record { at = w.at; purge = w.purge; jails = map f w.jails; next_ban = w.next_ban }
 
 -- the state of failures and bans
-abbrev pub State : Type 0
-State = World Jail
+abbrev pub JailsState : Type 0
+JailsState = World Jail
 
 -- the failures that are open
 abbrev pub open_of : List Counted → List Failure

@@ -13,9 +13,9 @@ use Rattle.f2b_base.specs.declared.input.What.{What}
 use Rattle.f2b_base.specs.declared.input.What.TheVariants.{Tick, Read, Ended, Config, Stop, Ban as BanThese, Unban, Attempt, Ignore, Findtime, Bantime, Maxretry, Idle}
 use Rattle.f2b_model.specs.Lists.{in_order}
 use Rattle.f2b_model.specs.Full.{same_addr}
-use Rattle.f2b_model.specs.State.{Jail, World, State, active_of}
+use Rattle.f2b_model.specs.State.{Jail, World, JailsState, active_of}
 use Rattle.f2b_model.specs.declared.jail_now.JailNow.{JailNow}
-use Rattle.f2b_model.specs.Nows.{Now}
+use Rattle.f2b_model.specs.Nows.{JailsNow}
 use Rattle.f2b_model.specs.Moves.{Out, found, banned, ended, dropped, limited, spanned, kept, fresh}
 use Rattle.f2b_model.specs.NowMoves.{found_now, banned_now, ended_now, dropped_now, limited_now, kept_now, fresh_now}
 
@@ -213,27 +213,27 @@ module _ {J : Type 0} (m : Moves J) where
   is_ban_due at w = list_any (λ j. list_any (is_due at) (m.active j)) w.jails
 
 -- the step of a state
-abbrev pub step : State → Input → State
-step = step_by moves
+abbrev pub jails_step : JailsState → Input → JailsState
+jails_step = step_by moves
 
 -- the steps of inputs, in their order
-abbrev pub steps : State → List Input → State
-steps s [] = s
-steps s (input ∷ inputs) = steps (step s input) inputs
+abbrev pub jails_steps : JailsState → List Input → JailsState
+jails_steps s [] = s
+jails_steps s (input ∷ inputs) = jails_steps (jails_step s input) inputs
 
 -- the step of a middle state
-abbrev pub step_now : Now → Input → Now
-step_now = step_by moves_now
+abbrev pub jails_step_now : JailsNow → Input → JailsNow
+jails_step_now = step_by moves_now
 
 -- the steps of inputs, in their order
-abbrev pub steps_now : Now → List Input → Now
-steps_now n [] = n
-steps_now n (input ∷ inputs) = steps_now (step_now n input) inputs
+abbrev pub jails_steps_now : JailsNow → List Input → JailsNow
+jails_steps_now n [] = n
+jails_steps_now n (input ∷ inputs) = jails_steps_now (jails_step_now n input) inputs
 
 -- the state of a first configuration
-abbrev pub first_state : Defs → State
-first_state = first moves
+abbrev pub first_jails : Defs → JailsState
+first_jails = first moves
 
 -- its middle state
-abbrev pub first_now : Defs → Now
-first_now = first moves_now
+abbrev pub first_jails_now : Defs → JailsNow
+first_jails_now = first moves_now

@@ -68,8 +68,8 @@ module _ {J : Type 0} (m : Moves J) where
   told_done word _ w = []
 
   -- what a step tells: ends by time, then what happened
-  abbrev pub told : World J → Input → List Happening
-  told w input =
+  abbrev pub jails_told : World J → Input → List Happening
+  jails_told w input =
       cond (is_spent w) [] (
       let now = raised m input.secs w in
       let ended = each_jail m (ended_by_time m now.at) now in

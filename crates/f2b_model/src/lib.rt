@@ -16,4 +16,4 @@ mod laws;
 
 pub use happening::Happening;
 pub use jail_now::JailNow;
-pub use laws::{full_law, step_law};
+pub use laws::{full_law, jails_law};

@@ -7,7 +7,7 @@ use Rattle.f2b_model.specs.declared.happening.Happening.{Happening}
 use Rattle.f2b_model.specs.declared.jail_now.JailNow.{JailNow}
 use Rattle.f2b_model.specs.Full.{is_full}
 use Rattle.f2b_model.specs.Moves.{Out, counts}
-use Rattle.f2b_model.specs.Nows.{Now}
+use Rattle.f2b_model.specs.Nows.{JailsNow}
 use Rattle.f2b_model.specs.NowMoves.{counted_now, found_now}
 use Rattle.f2b_model.specs.Steps.{Outs, moves_now, with_outs, in_jail, at_jail, found_all}
 use Rattle.f2b_model.specs.Told.{told_found, told_in, told_all_found}
@@ -58,7 +58,7 @@ in_jail_twice name f g same n (j ∷ js) =
     (λ t. let d = same n j in rw (t, d, t) refl)
     (λ t. rw (t, t) (ap (λ (o : Outs JailNow). record { jails = j ∷ o.jails; next = o.next }) (in_jail_twice name f g same n js)))
 
-pub found_at_once : (word : ℕ) (name : List ℕ) (fs : List Failure) (w : Now) → found_all moves_now word name fs w ≡ at_jail moves_now name (found_each w.at word fs) w
+pub found_at_once : (word : ℕ) (name : List ℕ) (fs : List Failure) (w : JailsNow) → found_all moves_now word name fs w ≡ at_jail moves_now name (found_each w.at word fs) w
 found_at_once word name [] w = ap (λ (o : Outs JailNow). with_outs w o) (sym (in_jail_same name w.next_ban w.jails))
 found_at_once word name (f ∷ fs) w =
     found_at_once word name fs (at_jail moves_now name (λ n j. found_now w.at word n f j) w)
@@ -80,7 +80,7 @@ told_in_none : (name : List ℕ) (js : List JailNow) → told_in moves_now name 
 told_in_none name [] = refl
 told_in_none name (j ∷ js) = by_test (bytes_eq j.definition.name name) _ (λ t. rw t refl) (λ t. rw t (told_in_none name js))
 
-pub told_at_once : (word : ℕ) (name : List ℕ) (fs : List Failure) (w : Now) → told_all_found moves_now word name fs w ≡ told_in moves_now name (told_each_found w.at word fs w.next_ban) w.jails
+pub told_at_once : (word : ℕ) (name : List ℕ) (fs : List Failure) (w : JailsNow) → told_all_found moves_now word name fs w ≡ told_in moves_now name (told_each_found w.at word fs w.next_ban) w.jails
 told_at_once word name [] w = sym (told_in_none name w.jails)
 told_at_once word name (f ∷ fs) w =
     ap (λ r. told_in moves_now name (told_found moves_now w.at word f w.next_ban) w.jails ++ r)

@@ -1,7 +1,7 @@
 //! `Core` and its calls.
 ghost use Rattle.std.specs.Prelude.{◌≡◌, ◌≤◌, ◌<◌, ◌+◌, ◌^◌, ◌∷◌, [], IfOk};
-ghost use Rattle.f2b_model.specs.Steps.{first_now, is_ban_due, is_spent, moves_now, step_now};
-ghost use Rattle.f2b_model.specs.Told.{told};
+ghost use Rattle.f2b_model.specs.Steps.{first_jails_now, is_ban_due, is_spent, moves_now, jails_step_now};
+ghost use Rattle.f2b_model.specs.Told.{jails_told};
 ghost use Rattle.jail_core.specs.Kept.{IsBounded, IsTaken};
 
 use crate::jails::{do_what, drop_jails, end_jails, is_ban_due};
@@ -20,10 +20,10 @@ pub struct Core {
 }
 
 impl Model for Core {
-    ghost use Rattle.f2b_model.specs.Nows.{Now};
+    ghost use Rattle.f2b_model.specs.Nows.{JailsNow};
     ghost use Rattle.jail_core.specs.Kept.{AreKept};
 
-    ghost Value = { Now };
+    ghost Value = { JailsNow };
 
     ghost view = { λ c. record { at = c.at; purge = c.purge; jails = c.jails.items; next_ban = c.next_ban } };
 
@@ -34,7 +34,7 @@ impl Core {
     /// The core of one jail in which nothing happened yet.
     pub fn start(alloc: Global, definition: JailDef, purge: u64) -> Result<Core, NoMemory>
         requires { IsBounded definition }
-        ensures { IfOk result (λ core. core ≡ first_now (record { purge = purge; jails = definition ∷ [] })) }
+        ensures { IfOk result (λ core. core ≡ first_jails_now (record { purge = purge; jails = definition ∷ [] })) }
     {
         let mut jails = Vec::new(alloc);
         jails.push(JailNow {
@@ -80,8 +80,8 @@ impl Core {
     /// the ban that began.
     pub fn take(self, alloc: Global, input: &Input) -> Result<(Core, Seq<Happening>), NoMemory>
         requires { IsTaken input.now.what }
-        ensures core { IfOk result (λ r. r.0 ≡ step_now self input.now) }
-        ensures told { IfOk result (λ r. r.1 ≡ told moves_now self input.now) }
+        ensures core { IfOk result (λ r. r.0 ≡ jails_step_now self input.now) }
+        ensures told { IfOk result (λ r. r.1 ≡ jails_told moves_now self input.now) }
     {
         let mut told = Seq::new(alloc);
         if self.spent() {

@@ -2,8 +2,8 @@
 use Rattle.std.proofs.Common.{ℕ, ◌≡◌, ◌+◌, ◌++◌, ◌≤◌, List, [], ◌∷◌, length, min, refl, sym, ap, ◌∙◌, subst, arith}
 use Rattle.f2b_base.specs.declared.jail.JailDef.{JailDef}
 use Rattle.f2b_base.specs.declared.outside.Reading.{Reading}
-use Rattle.f2b_model.specs.Nows.{now_of}
-use Rattle.f2b_model.specs.Steps.{first_state, first_now}
+use Rattle.f2b_model.specs.Nows.{jails_now_of}
+use Rattle.f2b_model.specs.Steps.{first_jails, first_jails_now}
 use Rattle.f2b_model.proofs.LawLemmas.{first_sound, first_shows}
 use Rattle.f2b_world.specs.Told.{Standing, Called}
 use Rattle.f2b_world.specs.declared.event.Event.TheVariants.{Clock}

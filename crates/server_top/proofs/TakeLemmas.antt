@@ -3,11 +3,11 @@ use Rattle.std.proofs.Common.{ℕ, ◌≡◌, ◌≤◌, ◌^◌, ◌-◌, List,
 use Rattle.f2b_base.specs.declared.input.Input.{Input}
 use Rattle.f2b_base.specs.declared.input.What.{What}
 use Rattle.f2b_base.specs.declared.input.What.TheVariants.{Tick, Read, Ended, Config, Stop, Ban, Unban, Attempt, Ignore, Findtime, Bantime, Maxretry, Idle}
-use Rattle.f2b_model.specs.Nows.{Now, now_of}
-use Rattle.f2b_model.specs.Sound.{IsFit, IsFitWhat, IsSound}
-use Rattle.f2b_model.specs.State.{State}
-use Rattle.f2b_model.specs.Steps.{moves, moves_now, step, step_now}
-use Rattle.f2b_model.specs.Told.{told}
+use Rattle.f2b_model.specs.Nows.{JailsNow, jails_now_of}
+use Rattle.f2b_model.specs.Sound.{IsFit, IsFitWhat, AreSoundJails}
+use Rattle.f2b_model.specs.State.{JailsState}
+use Rattle.f2b_model.specs.Steps.{moves, moves_now, jails_step, jails_step_now}
+use Rattle.f2b_model.specs.Told.{jails_told}
 use Rattle.f2b_model.specs.declared.happening.Happening.{Happening}
 use Rattle.f2b_model.proofs.LawLemmas.{now_step, sound_step}
 use Rattle.f2b_model.proofs.ToldLemmas.{told_by_now}
@@ -52,17 +52,17 @@ module _ (before after : Follow) (what : What) (news : List Happening) (steps : 
   same_lines : (f : Following) → Keeps f before → map (line_of after.now) news ≡ told_lines what f
   same_lines f keeps =
       let input = input_of before what in
-      let now_told : news ≡ told moves f.state input = steps.tells ∙ ap (λ (n : Now). told moves_now n input) keeps.core ∙ sym (told_by_now f.state input fits keeps.sound) in
+      let now_told : news ≡ jails_told moves f.state input = steps.tells ∙ ap (λ (n : JailsNow). jails_told moves_now n input) keeps.core ∙ sym (told_by_now f.state input fits keeps.sound) in
       let now_is : after.now ≡ f.now = steps.now ∙ keeps.now in
-      rw now_is (ap (map (line_of f.now)) (now_told ∙ ap (told moves f.state) (same_input f keeps)))
+      rw now_is (ap (map (line_of f.now)) (now_told ∙ ap (jails_told moves f.state) (same_input f keeps)))
 
-  same_core : (f : Following) → Keeps f before → after.core ≡ now_of (taken what f).state
+  same_core : (f : Following) → Keeps f before → after.core ≡ jails_now_of (taken what f).state
   same_core f keeps =
       let input = input_of before what in
-      steps.core ∙ ap (λ (n : Now). step_now n input) keeps.core ∙ sym (now_step f.state input fits keeps.sound) ∙ ap (λ (i : Input). now_of (step f.state i)) (same_input f keeps)
+      steps.core ∙ ap (λ (n : JailsNow). jails_step_now n input) keeps.core ∙ sym (now_step f.state input fits keeps.sound) ∙ ap (λ (i : Input). jails_now_of (jails_step f.state i)) (same_input f keeps)
 
-  still_sound : (f : Following) → Keeps f before → IsSound (taken what f).state
-  still_sound f keeps = let P : Input → Type 0 = λ i. IsSound (step f.state i) in subst P (same_input f keeps) (sound_step f.state (input_of before what) fits keeps.sound)
+  still_sound : (f : Following) → Keeps f before → AreSoundJails (taken what f).state
+  still_sound f keeps = let P : Input → Type 0 = λ i. AreSoundJails (jails_step f.state i) in subst P (same_input f keeps) (sound_step f.state (input_of before what) fits keeps.sound)
 
   pub takes : (old new : Standing) → Says old new (map (line_of after.now) news) → Takes old new what before after
   takes old new says = record {

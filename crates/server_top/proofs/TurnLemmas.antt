@@ -5,8 +5,8 @@ use Rattle.f2b_base.specs.declared.ban.Ban.{Ban}
 use Rattle.f2b_base.specs.declared.input.What.{What}
 use Rattle.f2b_base.specs.declared.input.What.TheVariants.{Tick}
 use Rattle.f2b_base.specs.declared.outside.Reading.{Reading}
-use Rattle.f2b_model.specs.Nows.{now_of, jail_now}
-use Rattle.f2b_model.specs.State.{Jail, State, active_of}
+use Rattle.f2b_model.specs.Nows.{jails_now_of, jail_now}
+use Rattle.f2b_model.specs.State.{Jail, JailsState, active_of}
 use Rattle.f2b_model.specs.Steps.{moves, moves_now, is_ban_due, is_due}
 use Rattle.f2b_model.specs.declared.jail_now.JailNow.{JailNow}
 use Rattle.f2b_world.specs.Told.{Standing, Called}
@@ -87,7 +87,7 @@ any_map : (at : ℕ) (js : List Jail) → list_any (λ (j : Jail). list_any (is_
 any_map at [] = refl
 any_map at (j ∷ js) = ap₂ ◌||◌ refl (any_map at js)
 
-due_same : (at : ℕ) (s : State) → is_ban_due moves at s ≡ is_ban_due moves_now at (now_of s)
+due_same : (at : ℕ) (s : JailsState) → is_ban_due moves at s ≡ is_ban_due moves_now at (jails_now_of s)
 due_same at s = any_map at s.jails
 
 read_keeps : (before mid : Follow) (answer : Reading) (f : Following) → ReadsAt before answer mid → Keeps f before → Keeps (read_at answer f) mid

@@ -10,9 +10,9 @@ use Rattle.f2b_base.specs.declared.jail.WatchDef.{WatchDef}
 use Rattle.f2b_base.specs.declared.outside.Reading.{Reading}
 use Rattle.f2b_base.specs.declared.outside.TreeAnswer.{TreeAnswer}
 use Rattle.f2b_base.specs.declared.outside.TreeAnswer.TheVariants.{Tree, Failed as TreeFailed, TooLarge as TreeTooLarge, NoMemory as TreeNoMemory}
-use Rattle.f2b_model.specs.State.{State}
-use Rattle.f2b_model.specs.Steps.{moves, step, first_state, is_ban_due}
-use Rattle.f2b_model.specs.Told.{told}
+use Rattle.f2b_model.specs.State.{JailsState}
+use Rattle.f2b_model.specs.Steps.{moves, jails_step, first_jails, is_ban_due}
+use Rattle.f2b_model.specs.Told.{jails_told}
 use Rattle.f2b_world.specs.Told.{History}
 use Rattle.f2b_world.specs.Walks.{Walks}
 use Rattle.f2b_world.specs.declared.answer.Look.{Look}
@@ -43,7 +43,7 @@ use Rattle.server_top.specs.declared.words.Plan.{Plan}
 -- what a run that follows its log has come to
 pub record Following : Type 0 where
   pub definition : JailDef
-  pub state : State
+  pub state : JailsState
   -- the greatest reading so far, and the last reading's word
   pub now : ℕ
   pub word : ℕ
@@ -148,10 +148,10 @@ refused status r = record r { point = Over status; lines = r.lines ++ refusal_li
 
 -- an input is taken: its step, and the lines of what the step tells
 abbrev pub taken : What → Following → Following
-taken what f = record f { state = step f.state (record { secs = f.now; word = f.word; what = what }) }
+taken what f = record f { state = jails_step f.state (record { secs = f.now; word = f.word; what = what }) }
 
 abbrev pub told_lines : What → Following → List (List ℕ)
-told_lines what f = map (line_of f.now) (told moves f.state (record { secs = f.now; word = f.word; what = what }))
+told_lines what f = map (line_of f.now) (jails_told moves f.state (record { secs = f.now; word = f.word; what = what }))
 
 abbrev pub takes : What → (Following → Point) → Following → Run → Run
 takes what point f r = record r { point = point (taken what f); lines = r.lines ++ told_lines what f }
@@ -191,7 +191,7 @@ read_at answer f = record f { now = max f.now (min answer.secs latest); word = a
 abbrev pub begun : JailDef → ℕ → Reading → Following
 begun definition turns answer = record {
   definition = definition;
-  state = first_state (record { purge = 86400; jails = definition ∷ [] });
+  state = first_jails (record { purge = 86400; jails = definition ∷ [] });
   now = min answer.secs latest;
   word = answer.word;
   seen = [];

@@ -4,7 +4,7 @@ use Rattle.f2b_base.specs.declared.jail.JailDef.{JailDef}
 use Rattle.f2b_base.specs.declared.outside.TreeAnswer.{TreeAnswer}
 use Rattle.f2b_base.specs.declared.outside.TreeAnswer.TheVariants.{Tree, Failed as TreeFailed, TooLarge as TreeTooLarge, NoMemory as TreeNoMemory}
 use Rattle.f2b_base.specs.declared.outside.Reading.{Reading}
-use Rattle.f2b_model.specs.Steps.{first_now}
+use Rattle.f2b_model.specs.Steps.{first_jails_now}
 use Rattle.f2b_world.specs.Told.{Standing}
 use Rattle.flat_form.specs.Flat.{flat_jail}
 use Rattle.flat_form.specs.FlatText.{IsFlatJail}
@@ -67,6 +67,6 @@ pub record IsFirst (definition : JailDef) (answer : Reading) (kept : Follow) : T
   pub definition_is : kept.definition ≡ definition
   pub now : kept.now ≡ min answer.secs latest
   pub word : kept.word ≡ answer.word
-  pub core : kept.core ≡ first_now (record { purge = 86400; jails = definition ∷ [] })
+  pub core : kept.core ≡ first_jails_now (record { purge = 86400; jails = definition ∷ [] })
   pub seen : StandsFor kept.follower []
   pub maxretry : 1 ≤ definition.maxretry

@@ -2,7 +2,7 @@ use Rattle.f2b_model.proofs.LawLemmas.{now_step, sound_step, first_sound, first_
 use Rattle.f2b_model.proofs.NumberLemmas.{step_numbered}
 use Rattle.f2b_model.proofs.StandLemmas.{all_shown}
 use Rattle.f2b_model.proofs.ToldLemmas.{told_by_now}
-use Rattle.f2b_model.proofs.laws.step_law.Goals as goal
+use Rattle.f2b_model.proofs.laws.jails_law.Goals as goal
 
 pub returns : goal.returns
 returns c = record {
