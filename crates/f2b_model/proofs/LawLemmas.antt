@@ -1,5 +1,6 @@
 -- The laws of the step: a state's middle state is all that matters of it, now and later.
-use Rattle.std.proofs.Common.{◌≡◌, ℕ, List, [], ◌∷◌, ◌≤◌, map, refl, sym, ◌∙◌, ap, ap₂, arith}
+use Rattle.std.proofs.Common.{◌≡◌, ℕ, List, [], ◌∷◌, ◌≤◌, map, refl, sym, ◌∙◌, ap, ap₂, subst, arith}
+use Rattle.std.specs.Prelude.{bytes_eq}
 use Rattle.std.specs.List.{filter}
 use Rattle.f2b_base.specs.declared.ban.Ban.{Ban}
 use Rattle.f2b_base.specs.declared.ban.Failure.{Failure}
@@ -7,21 +8,22 @@ use Rattle.f2b_base.specs.declared.input.Input.{Input}
 use Rattle.f2b_base.specs.declared.ban.Past.{Past}
 use Rattle.f2b_base.specs.declared.jail.Defs.{Defs}
 use Rattle.f2b_base.specs.declared.jail.JailDef.{JailDef}
-use Rattle.f2b_model.specs.Lists.{AllOf, in_order}
+use Rattle.f2b_model.specs.Lists.{AllOf, AreDistinct, in_order}
 use Rattle.f2b_model.specs.Full.{is_late, IsFull}
 use Rattle.f2b_model.specs.State.{Jail, JailsState, open_of, active_of, kept_of}
 use Rattle.f2b_model.specs.declared.jail_now.JailNow.{JailNow}
 use Rattle.f2b_model.specs.Nows.{comes_before, jail_now, jails_now_of, jail_from, jails_from}
 use Rattle.f2b_model.specs.Moves.{fresh}
 use Rattle.f2b_model.specs.NowMoves.{fresh_now}
-use Rattle.f2b_model.specs.Steps.{moves, moves_now, jails_step, jails_steps, jails_step_now, jails_steps_now, first_jails, first_jails_now}
-use Rattle.f2b_model.specs.Sound.{IsSoundJail, IsGoodJail, AreSoundJails, IsFit}
-use Rattle.f2b_model.proofs.ListLemmas.{filter_both, in_order_filter, in_order_is, in_order_same}
+use Rattle.f2b_model.specs.Steps.{moves, moves_now, names, is_spent, jails_step, jails_steps, jails_step_now, jails_steps_now, first_jails, first_jails_now}
+use Rattle.f2b_model.specs.Sound.{IsSoundJail, IsGoodJail, AreSoundJails, AreFitDefs, IsFit}
+use Rattle.f2b_model.proofs.ListLemmas.{by_test, filter_both, in_order_filter, in_order_is, in_order_same}
 use Rattle.f2b_model.proofs.FullLemmas.{full_of_part, full_in_order}
 use Rattle.f2b_model.proofs.MarkLemmas.{open_of-all, active_of-all, kept_of-all, failures_order}
 use Rattle.f2b_model.proofs.StepLemmas.{step_shows, step_good}
 use Rattle.f2b_model.proofs.SoundLemmas.{jail_shows, IsCalmJail}
 use Rattle.f2b_model.proofs.OrderlyLemmas.{orderly_fewer}
+use Rattle.f2b_model.proofs.NameLemmas.{moves_names, step_names, still_distinct, now_names, from_names, fresh_names}
 use Rattle.f2b_model.proofs.EndLemmas.{all_placed_all}
 
 -- what a jail shows is shown again
@@ -77,13 +79,25 @@ all_again at (j ∷ js) a = (good_again at j a.0, all_again at js a.1)
 
 -- and is sound
 pub back_sound : (s : JailsState) → AreSoundJails s → AreSoundJails (jails_from (jails_now_of s))
-back_sound s sound = record { at = sound.at; jails = all_again s.at s.jails sound.jails }
+back_sound s sound = record {
+  at = sound.at;
+  jails = all_again s.at s.jails sound.jails;
+  names = subst (AreDistinct bytes_eq) (sym (from_names (map jail_now s.jails) ∙ now_names s.jails)) sound.names;
+}
 
 pub now_step : (s : JailsState) (input : Input) → IsFit input → AreSoundJails s → jails_now_of (jails_step s input) ≡ jails_step_now (jails_now_of s) input
 now_step s input fit sound = step_shows moves moves_now jail_now IsGoodJail IsCalmJail jail_shows s input fit (sound.at, sound.jails)
 
+distinct_step : (s : JailsState) (input : Input) → IsFit input → AreDistinct bytes_eq (names moves s.jails) → AreDistinct bytes_eq (names moves (jails_step s input).jails)
+distinct_step s input fit h =
+    by_test (is_spent s) _
+    (λ t. rw t h)
+    (λ t. subst (AreDistinct bytes_eq) (sym (step_names moves moves_names s input t)) (still_distinct input.what (names moves s.jails) fit.what h))
+
 pub sound_step : (s : JailsState) (input : Input) → IsFit input → AreSoundJails s → AreSoundJails (jails_step s input)
-sound_step s input fit sound = let r = step_good moves moves_now jail_now IsGoodJail IsCalmJail jail_shows s input fit (sound.at, sound.jails) in record { at = r.0; jails = r.1 }
+sound_step s input fit sound =
+    let r = step_good moves moves_now jail_now IsGoodJail IsCalmJail jail_shows s input fit (sound.at, sound.jails) in
+    record { at = r.0; jails = r.1; names = distinct_step s input fit sound.names }
 
 pub now_steps : (s : JailsState) (inputs : List Input) → AllOf IsFit inputs → AreSoundJails s → jails_now_of (jails_steps s inputs) ≡ jails_steps_now (jails_now_of s) inputs
 now_steps s [] fit sound = refl
@@ -102,8 +116,12 @@ first_good : (ds : List JailDef) → AllOf (λ (d : JailDef). 1 ≤ d.maxretry) 
 first_good [] fit = tt
 first_good (d ∷ ds) fit = (jail_shows.good_fresh 0 d fit.0, first_good ds fit.1)
 
-pub first_sound : (defs : Defs) → AllOf (λ (d : JailDef). 1 ≤ d.maxretry) defs.jails → AreSoundJails (first_jails defs)
-first_sound defs fit = record { at = omega arith; jails = first_good defs.jails fit }
+pub first_sound : (defs : Defs) → AreFitDefs defs → AreSoundJails (first_jails defs)
+first_sound defs fit = record {
+  at = omega arith;
+  jails = first_good defs.jails fit.maxretry;
+  names = subst (AreDistinct bytes_eq) (sym (fresh_names defs.jails)) fit.names;
+}
 
 -- and its middle state is that of the configuration
 first_all : (ds : List JailDef) → map jail_now (map fresh ds) ≡ map fresh_now ds

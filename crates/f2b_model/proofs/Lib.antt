@@ -6,6 +6,7 @@ pub mod StepLemmas
 pub mod OrderlyLemmas
 pub mod EndLemmas
 pub mod SoundLemmas
+pub mod NameLemmas
 pub mod LawLemmas
 pub mod ToldLemmas
 pub mod NumberLemmas

@@ -6,7 +6,9 @@ use Rattle.f2b_base.specs.declared.ban.Ban.{Ban}
 use Rattle.f2b_base.specs.declared.ban.Failure.{Failure}
 use Rattle.f2b_base.specs.declared.jail.JailDef.{JailDef}
 use Rattle.f2b_base.specs.declared.ban.Past.{Past}
+use Rattle.f2b_base.specs.declared.view.WatchView.{WatchView}
 use Rattle.f2b_model.specs.Lists.{placed, in_order}
+use Rattle.f2b_model.specs.Watches.{watches_of}
 use Rattle.f2b_model.specs.Full.{is_of, IsFull, is_full, is_late}
 use Rattle.f2b_model.specs.State.{Counted, Jail, open_of, active_of, kept_of, forget}
 use Rattle.f2b_model.specs.declared.jail_now.JailNow.{JailNow}
@@ -165,10 +167,10 @@ limited_shows findtime maxretry j =
     (forget_all j.failures)))
 
 -- under a definition with the same `findtime`
-pub redefined_shows : (d : JailDef) (j : Jail) → d.findtime ≡ j.definition.findtime
-    → jail_now (record j { definition = d; idle = false }) ≡ record (jail_now j) { definition = d; idle = false }
-redefined_shows d j e =
-    ap (λ (t : ℕ). record (jail_now j) { definition = d; idle = false; failures = in_order comes_before (filter (is_late j.moment t) (open_of j.failures)) }) e
+pub redefined_shows : (d : JailDef) (ws : List WatchView) (j : Jail) → d.findtime ≡ j.definition.findtime
+    → jail_now (record j { definition = d; idle = false; watches = ws }) ≡ record (jail_now j) { definition = d; idle = false; watches = ws }
+redefined_shows d ws j e =
+    ap (λ (t : ℕ). record (jail_now j) { definition = d; idle = false; watches = ws; failures = in_order comes_before (filter (is_late j.moment t) (open_of j.failures)) }) e
 
 limited_findtime : (findtime maxretry : ℕ) (j : Jail) → findtime ≡ (limited findtime maxretry j).definition.findtime
 limited_findtime findtime maxretry j =
@@ -178,5 +180,5 @@ limited_findtime findtime maxretry j =
 
 pub kept_shows : (d : JailDef) (j : Jail) → jail_now (kept d j) ≡ kept_now d (jail_now j)
 kept_shows d j =
-    redefined_shows d (limited d.findtime d.maxretry j) (limited_findtime d.findtime d.maxretry j)
-    ∙ ap (λ (r : JailNow). record r { definition = d; idle = false }) (limited_shows d.findtime d.maxretry j)
+    redefined_shows d (watches_of d.watches j.watches) (limited d.findtime d.maxretry j) (limited_findtime d.findtime d.maxretry j)
+    ∙ ap (λ (r : JailNow). record r { definition = d; idle = false; watches = watches_of d.watches j.watches }) (limited_shows d.findtime d.maxretry j)

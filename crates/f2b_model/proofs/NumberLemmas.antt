@@ -15,7 +15,7 @@ use Rattle.f2b_model.specs.Full.{is_full}
 use Rattle.f2b_model.specs.Nows.{JailsNow}
 use Rattle.f2b_model.specs.Moves.{Out, counts, is_banned, is_near, ban_of, new_ban}
 use Rattle.f2b_model.specs.NowMoves.{found_now, counted_now, begun_now, banned_now, ended_now, limited_now}
-use Rattle.f2b_model.specs.Steps.{moves_now, is_spent, is_due, own_end, ends_before, is_meant, is_meant_jail, end_all, ended_by_time, unbanned, in_jail, find_jail, kept_or_fresh, configured, at_jail, alone, found_all, ban_all, done, each_jail, raised, jails_step_now}
+use Rattle.f2b_model.specs.Steps.{moves_now, is_spent, is_due, own_end, ends_before, is_meant, is_meant_jail, end_all, ended_by_time, unbanned, in_jail, find_jail, kept_or_fresh, configured, at_jail, alone, is_followed, followed_to, found_all, ban_all, done, each_jail, raised, jails_step_now}
 use Rattle.f2b_model.specs.Sound.{IsNumbered, IsRisingSerials}
 use Rattle.f2b_model.specs.Laws.{AreNumbered}
 use Rattle.f2b_model.proofs.ListLemmas.{by_test}
@@ -112,7 +112,11 @@ configured_numbered n (d ∷ ds) js a = (one js a, configured_numbered n ds js a
 
 done_numbered : (word : ℕ) (what : What) (w : JailsNow) → AreNumbered w → AreNumbered (done moves_now word what w)
 done_numbered word Tick w a = a
-done_numbered word (Read jail path place fs) w a = found_all_numbered word jail fs w a
+done_numbered word (Read jail path place fs) w a =
+    by_test (is_followed moves_now jail path w) _
+    (λ t. rw t (found_all_numbered word jail fs (followed_to moves_now jail path place w)
+    (at_jail_numbered jail (alone moves_now (moves_now.followed path place)) w (λ j good. (omega arith, good)) a)))
+    (λ t. rw t a)
 done_numbered word (BanThese jail addrs) w a = ban_all_numbered word jail addrs w a
 done_numbered word (Unban jail addrs) w a =
     all_of-map (Good w.next_ban) (Good w.next_ban) (λ j. cond (is_meant_jail jail j.definition) (unbanned moves_now w.at addrs j) j)
@@ -129,7 +133,7 @@ done_numbered word (Idle jail idle) w a = at_jail_numbered jail (alone moves_now
 done_numbered word (Config defs) w a = configured_numbered w.next_ban defs.jails w.jails a
 done_numbered word (Ended job outcome) w a = a
 done_numbered word Stop w a = a
-done_numbered word (Ignore jail cidr add) w a = a
+done_numbered word (Ignore jail cidr add) w a = at_jail_numbered jail (alone moves_now (moves_now.ignored cidr add)) w (λ j good. (omega arith, good)) a
 
 -- a step keeps the bans of each jail by serial, below the next
 pub step_numbered : (w : JailsNow) (input : Input) → AreNumbered w → AreNumbered (jails_step_now w input)

@@ -27,11 +27,15 @@ use Rattle.f2b_model.specs.Until.{until_of}
 abbrev rule : BanRule
 rule = record { base = pos 600; increment = false; factor = 1000; multipliers = []; maxtime = 5000; rndtime = 0 }
 
+-- the path of the log
+abbrev log : List ℕ
+log = 47 ∷ 108 ∷ []
+
 -- three failures within ten minutes ban
 abbrev definition : JailDef
 definition = record {
   name = 97 ∷ [];
-  watches = [];
+  watches = record { path = log; tail = true } ∷ [];
   zone = pos 0;
   date = Default;
   pref = None;
@@ -63,7 +67,7 @@ abbrev sends : ℕ → What → Input
 sends n what = record { secs = at n; word = 0; what = what }
 
 abbrev reads : ℕ → List Failure → Input
-reads n fs = sends n (Read (97 ∷ []) [] Tail fs)
+reads n fs = sends n (Read (97 ∷ []) log Tail fs)
 
 -- the active bans, jail by jail, and the past ones
 abbrev bans_of : JailsState → List (List Ban)

@@ -5,6 +5,7 @@ use Rattle.std.proofs.lemmas.Bool.Decides.{nat_tests}
 use Rattle.std.proofs.lemmas.List.{append-nil}
 use Rattle.f2b_base.specs.declared.addr.Addr.{Addr}
 use Rattle.f2b_base.specs.declared.addr.Addr.TheVariants.{V4, V6}
+use Rattle.f2b_base.specs.declared.addr.Cidr.{Cidr}
 use Rattle.f2b_base.specs.declared.ban.BanRule.{BanRule}
 use Rattle.f2b_base.specs.declared.ban.Failure.{Failure}
 use Rattle.f2b_base.specs.declared.jail.JailDef.{JailDef}
@@ -167,11 +168,20 @@ kept_orderly at d j o = limited_orderly at d.findtime d.maxretry j o
 abbrev pub IsCalmJail : ℕ → Jail → Type 0
 IsCalmJail at j = IsGoodJail at j × IsCalm at j
 
+ignored_shows : (cidr : Cidr) (add : Bool) (j : Jail) → jail_now (moves.ignored cidr add j) ≡ moves_now.ignored cidr add (jail_now j)
+ignored_shows cidr true j = refl
+ignored_shows cidr false j = refl
+
+ignored_good : (at : ℕ) (cidr : Cidr) (add : Bool) (j : Jail) → IsGoodJail at j → IsGoodJail at (moves.ignored cidr add j)
+ignored_good at cidr true j good = record { sound = record { none_full = good.sound.none_full; moment = good.sound.moment }; orderly = good.orderly }
+ignored_good at cidr false j good = record { sound = record { none_full = good.sound.none_full; moment = good.sound.moment }; orderly = good.orderly }
+
 -- the moves on jails with whole lists are seen in their middle states as the moves there
 pub jail_shows : Shows moves moves_now jail_now IsGoodJail IsCalmJail
 jail_shows = record {
   definition = λ j. refl;
   active = λ j. refl;
+  watches = λ j. refl;
   found = λ at word n f j good. found_shows at word n f j good.sound;
   banned = banned_shows;
   ended = ended_shows;
@@ -179,6 +189,8 @@ jail_shows = record {
   limited = limited_shows;
   spanned = λ secs j. refl;
   idle = λ idle j. refl;
+  ignored = λ cidr add j. ignored_shows cidr add j;
+  followed = λ path place j. refl;
   good_later = λ at later j le good. record {
     sound = record { none_full = good.sound.none_full; moment = (let m = good.sound.moment in omega arith) };
     orderly = orderly_later at later j.moment (open_of j.failures) (active_of j.bans) (kept_of j.endings) le good.orderly;
@@ -200,6 +212,8 @@ jail_shows = record {
   good_limited = λ at findtime maxretry j one good. record { sound = sound_limited at findtime maxretry j one good.sound; orderly = limited_orderly at findtime maxretry j good.orderly };
   good_spanned = λ at secs j good. record { sound = record { none_full = good.sound.none_full; moment = good.sound.moment }; orderly = good.orderly };
   good_idle = λ at idle j good. record { sound = record { none_full = good.sound.none_full; moment = good.sound.moment }; orderly = good.orderly };
+  good_ignored = ignored_good;
+  good_followed = λ at path place j good. record { sound = record { none_full = good.sound.none_full; moment = good.sound.moment }; orderly = good.orderly };
   kept = kept_shows;
   fresh = λ d. refl;
   good_kept = λ at d j one good. record { sound = sound_kept at d j one good.sound; orderly = kept_orderly at d j good.orderly };

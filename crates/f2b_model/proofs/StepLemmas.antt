@@ -1,19 +1,22 @@
 -- Where each move on a jail is seen as a move on its picture, a step is seen as the step of the picture.
 use Rattle.std.proofs.Common.{◌≡◌, ℕ, ◌≤◌, max, Bool, cond, List, [], ◌∷◌, map, refl, ◌∙◌, ap, ap₂, arith, ℤ}
-use Rattle.std.specs.Prelude.{bytes_eq, Option}
+use Rattle.std.specs.Prelude.{bytes_eq, Option, Some, None, option_map}
 use Rattle.std.specs.List.{filter}
 use Rattle.f2b_base.specs.declared.addr.Addr.{Addr}
+use Rattle.f2b_base.specs.declared.addr.Cidr.{Cidr}
 use Rattle.f2b_base.specs.declared.ban.Ban.{Ban}
 use Rattle.f2b_base.specs.declared.ban.Failure.{Failure}
 use Rattle.f2b_base.specs.declared.input.Input.{Input}
 use Rattle.f2b_base.specs.declared.jail.JailDef.{JailDef}
+use Rattle.f2b_base.specs.declared.jail.Place.{Place}
 use Rattle.f2b_base.specs.declared.input.What.{What}
 use Rattle.f2b_base.specs.declared.input.What.TheVariants.{Tick, Read, Ended, Config, Stop, Ban as BanThese, Unban, Attempt, Ignore, Findtime, Bantime, Maxretry, Idle}
 use Rattle.f2b_model.specs.Lists.{AllOf, in_order}
 use Rattle.f2b_model.specs.State.{World, world_map}
 use Rattle.f2b_model.specs.Moves.{Out}
-use Rattle.f2b_model.specs.Steps.{Moves, Outs, with_outs, is_spent, is_due, own_end, ends_before, is_meant, is_meant_jail, end_all, ended_by_time, unbanned, in_jail, find_jail, kept_or_fresh, configured, at_jail, alone, found_all, ban_all, done, each_jail, raised, step_by}
+use Rattle.f2b_model.specs.Steps.{Moves, Outs, with_outs, is_spent, is_due, own_end, ends_before, is_meant, is_meant_jail, end_all, ended_by_time, unbanned, in_jail, find_jail, kept_or_fresh, configured, at_jail, alone, watches_path, is_followed, followed_to, found_all, read_all, ban_all, done, each_jail, raised, at_reading, step_by}
 use Rattle.f2b_model.specs.Until.{last_moment}
+use Rattle.f2b_model.specs.Watches.{is_watched}
 use Rattle.f2b_model.specs.Sound.{IsFitWhat, IsFit}
 use Rattle.f2b_model.proofs.ListLemmas.{by_test}
 
@@ -28,6 +31,7 @@ outs_map h o = record { jails = map h o.jails; next = o.next }
 pub record Shows {J K : Type 0} (m : Moves J) (k : Moves K) (h : J → K) (Good Calm : ℕ → J → Type 0) : Type 0 where
   pub definition : (j : J) → k.definition (h j) ≡ m.definition j
   pub active : (j : J) → k.active (h j) ≡ m.active j
+  pub watches : (j : J) → k.watches (h j) ≡ m.watches j
   pub found : (at word n : ℕ) (f : Failure) (j : J) → Good at j → out_map h (m.found at word n f j) ≡ k.found at word n f (h j)
   pub banned : (at word n : ℕ) (addr : Addr) (j : J) → out_map h (m.banned at word n addr j) ≡ k.banned at word n addr (h j)
   pub ended : (addr : Addr) (moment : ℕ) (j : J) → h (m.ended addr moment j) ≡ k.ended addr moment (h j)
@@ -35,6 +39,8 @@ pub record Shows {J K : Type 0} (m : Moves J) (k : Moves K) (h : J → K) (Good 
   pub limited : (findtime maxretry : ℕ) (j : J) → h (m.limited findtime maxretry j) ≡ k.limited findtime maxretry (h j)
   pub spanned : (secs : ℤ) (j : J) → h (m.spanned secs j) ≡ k.spanned secs (h j)
   pub idle : (idle : Bool) (j : J) → h (m.idle idle j) ≡ k.idle idle (h j)
+  pub ignored : (cidr : Cidr) (add : Bool) (j : J) → h (m.ignored cidr add j) ≡ k.ignored cidr add (h j)
+  pub followed : (path : List ℕ) (place : Place) (j : J) → h (m.followed path place j) ≡ k.followed path place (h j)
   pub good_later : (at later : ℕ) (j : J) → at ≤ later → Good at j → Good later j
   pub calm_good : (at : ℕ) (j : J) → Calm at j → Good at j
   pub good_by_time : (at : ℕ) (j : J) → Good at j → Calm at (ended_by_time m at j)
@@ -45,6 +51,8 @@ pub record Shows {J K : Type 0} (m : Moves J) (k : Moves K) (h : J → K) (Good 
   pub good_limited : (at findtime maxretry : ℕ) (j : J) → 1 ≤ maxretry → Good at j → Good at (m.limited findtime maxretry j)
   pub good_spanned : (at : ℕ) (secs : ℤ) (j : J) → Good at j → Good at (m.spanned secs j)
   pub good_idle : (at : ℕ) (idle : Bool) (j : J) → Good at j → Good at (m.idle idle j)
+  pub good_ignored : (at : ℕ) (cidr : Cidr) (add : Bool) (j : J) → Good at j → Good at (m.ignored cidr add j)
+  pub good_followed : (at : ℕ) (path : List ℕ) (place : Place) (j : J) → Good at j → Good at (m.followed path place j)
   pub kept : (d : JailDef) (j : J) → h (m.kept d j) ≡ k.kept d (h j)
   pub fresh : (d : JailDef) → h (m.fresh d) ≡ k.fresh d
   pub good_kept : (at : ℕ) (d : JailDef) (j : J) → 1 ≤ d.maxretry → Good at j → Good at (m.kept d j)
@@ -126,6 +134,49 @@ module _ {J K : Type 0} (m : Moves J) (k : Moves K) (h : J → K) (Good Calm : �
       found_all_good word name fs (at_jail m name (λ n j. m.found w.at word n f j) w)
       (a.0, in_jail_good w.at name (λ n j. m.found w.at word n f j) (λ n j. shows.good_found w.at word n f j a.0) w.next_ban w.jails a.1)
 
+  alone_shows : (at : ℕ) (f : J → J) (g : K → K) → ((j : J) → Good at j → h (f j) ≡ g (h j)) → (n : ℕ) (j : J) → Good at j
+      → out_map h (alone m f n j) ≡ alone k g n (h j)
+  alone_shows at f g e n j good = ap (λ (r : K). record { jail = r; next = n }) (e j good)
+
+  find_shows : (name : List ℕ) (js : List J) → find_jail k name (map h js) ≡ option_map h (find_jail m name js)
+  find_shows name [] = refl
+  find_shows name (j ∷ js) =
+      let d = shows.definition j in
+      by_test (bytes_eq (m.definition j).name name) _ (λ t. rw (d, t) refl) (λ t. rw (d, t) (find_shows name js))
+
+  watches_path_shows : (path : List ℕ) (o : Option J) → watches_path k path (option_map h o) ≡ watches_path m path o
+  watches_path_shows path None = refl
+  watches_path_shows path (Some j) = ap (is_watched path) (shows.watches j)
+
+  pub is_followed_shows : (name path : List ℕ) (w : World J) → is_followed k name path (world_map h w) ≡ is_followed m name path w
+  is_followed_shows name path w = ap (watches_path k path) (find_shows name w.jails) ∙ watches_path_shows path (find_jail m name w.jails)
+
+  pub followed_to_shows : (name path : List ℕ) (place : Place) (w : World J) → GoodWorld w
+      → world_map h (followed_to m name path place w) ≡ followed_to k name path place (world_map h w)
+  followed_to_shows name path place w a =
+      at_jail_shows name (alone m (m.followed path place)) (alone k (k.followed path place)) w
+      (alone_shows w.at (m.followed path place) (k.followed path place) (λ j good. shows.followed path place j)) a
+
+  pub followed_to_good : (name path : List ℕ) (place : Place) (w : World J) → GoodWorld w → GoodWorld (followed_to m name path place w)
+  followed_to_good name path place w a =
+      (a.0, in_jail_good w.at name (alone m (m.followed path place)) (λ n j good. shows.good_followed w.at path place j good) w.next_ban w.jails a.1)
+
+  read_all_shows : (word : ℕ) (name path : List ℕ) (place : Place) (fs : List Failure) (w : World J) → GoodWorld w
+      → world_map h (read_all m word name path place fs w) ≡ read_all k word name path place fs (world_map h w)
+  read_all_shows word name path place fs w a =
+      let same = is_followed_shows name path w in
+      by_test (is_followed m name path w) _
+      (λ t. let t2 = same ∙ t in
+      rw (t, t2) (found_all_shows word name fs (followed_to m name path place w) (followed_to_good name path place w a)
+      ∙ ap (λ r. found_all k word name fs r) (followed_to_shows name path place w a)))
+      (λ t. let t2 = same ∙ t in rw (t, t2) refl)
+
+  read_all_good : (word : ℕ) (name path : List ℕ) (place : Place) (fs : List Failure) (w : World J) → GoodWorld w → GoodWorld (read_all m word name path place fs w)
+  read_all_good word name path place fs w a =
+      by_test (is_followed m name path w) _
+      (λ t. rw t (found_all_good word name fs (followed_to m name path place w) (followed_to_good name path place w a)))
+      (λ t. rw t a)
+
   ban_all_shows : (word : ℕ) (name : List ℕ) (addrs : List Addr) (w : World J) → GoodWorld w
       → world_map h (ban_all m word name addrs w) ≡ ban_all k word name addrs (world_map h w)
   ban_all_shows word name [] w a = refl
@@ -140,10 +191,6 @@ module _ {J K : Type 0} (m : Moves J) (k : Moves K) (h : J → K) (Good Calm : �
   ban_all_good word name (f ∷ fs) w a =
       ban_all_good word name fs (at_jail m name (λ n j. m.banned w.at word n f j) w)
       (a.0, in_jail_good w.at name (λ n j. m.banned w.at word n f j) (λ n j. shows.good_banned w.at word n f j a.0) w.next_ban w.jails a.1)
-
-  alone_shows : (at : ℕ) (f : J → J) (g : K → K) → ((j : J) → Good at j → h (f j) ≡ g (h j)) → (n : ℕ) (j : J) → Good at j
-      → out_map h (alone m f n j) ≡ alone k g n (h j)
-  alone_shows at f g e n j good = ap (λ (r : K). record { jail = r; next = n }) (e j good)
 
   pub each_shows : (f : J → J) (g : K → K) (w : World J) → ((j : J) → Good w.at j → h (f j) ≡ g (h j)) → GoodWorld w
       → world_map h (each_jail m f w) ≡ each_jail k g (world_map h w)
@@ -169,7 +216,7 @@ module _ {J K : Type 0} (m : Moves J) (k : Moves K) (h : J → K) (Good Calm : �
 
   pub done_shows : (word : ℕ) (what : What) (w : World J) → GoodWorld w → world_map h (done m word what w) ≡ done k word what (world_map h w)
   done_shows word Tick w a = refl
-  done_shows word (Read jail path place fs) w a = found_all_shows word jail fs w a
+  done_shows word (Read jail path place fs) w a = read_all_shows word jail path place fs w a
   done_shows word (BanThese jail addrs) w a = ban_all_shows word jail addrs w a
   done_shows word (Unban jail addrs) w a =
       each_shows (λ j. cond (is_meant_jail jail (m.definition j)) (unbanned m w.at addrs j) j) (λ j. cond (is_meant_jail jail (k.definition j)) (unbanned k w.at addrs j) j) w
@@ -196,14 +243,16 @@ module _ {J K : Type 0} (m : Moves J) (k : Moves K) (h : J → K) (Good Calm : �
   done_shows word (Config defs) w a = ap (λ (js : List K). record (world_map h w) { purge = defs.purge; jails = js }) (configured_shows defs.jails w.jails)
   done_shows word (Ended job outcome) w a = refl
   done_shows word Stop w a = refl
-  done_shows word (Ignore jail cidr add) w a = refl
+  done_shows word (Ignore jail cidr add) w a =
+      at_jail_shows jail (alone m (m.ignored cidr add)) (alone k (k.ignored cidr add)) w
+      (alone_shows w.at (m.ignored cidr add) (k.ignored cidr add) (λ j good. shows.ignored cidr add j)) a
 
   pub in_good : (name : List ℕ) (f : ℕ → J → Out J) (w : World J) → GoodWorld w → ((n : ℕ) (j : J) → Good w.at j → Good w.at (f n j).jail) → GoodWorld (at_jail m name f w)
   in_good name f w a e = (a.0, in_jail_good w.at name f e w.next_ban w.jails a.1)
 
   pub done_good : (word : ℕ) (what : What) (w : World J) → IsFitWhat what → CalmWorld w → GoodWorld (done m word what w)
   done_good word Tick w fit a = calm_world w a
-  done_good word (Read jail path place fs) w fit a = found_all_good word jail fs w (calm_world w a)
+  done_good word (Read jail path place fs) w fit a = read_all_good word jail path place fs w (calm_world w a)
   done_good word (BanThese jail addrs) w fit a = ban_all_good word jail addrs w (calm_world w a)
   done_good word (Unban jail addrs) w fit a = (
     a.0,
@@ -221,10 +270,11 @@ module _ {J K : Type 0} (m : Moves J) (k : Moves K) (h : J → K) (Good Calm : �
       in_good jail (alone m (λ j. m.limited (m.definition j).findtime number j)) w (calm_world w a)
       (λ n j good. shows.good_limited w.at (m.definition j).findtime number j fit good)
   done_good word (Idle jail idle) w fit a = in_good jail (alone m (m.idle idle)) w (calm_world w a) (λ n j good. shows.good_idle w.at idle j good)
-  done_good word (Config defs) w fit a = (a.0, configured_good w.at defs.jails w.jails fit (calm_world w a).1)
+  done_good word (Config defs) w fit a = (a.0, configured_good w.at defs.jails w.jails fit.maxretry (calm_world w a).1)
   done_good word (Ended job outcome) w fit a = calm_world w a
   done_good word Stop w fit a = calm_world w a
-  done_good word (Ignore jail cidr add) w fit a = calm_world w a
+  done_good word (Ignore jail cidr add) w fit a =
+      in_good jail (alone m (m.ignored cidr add)) w (calm_world w a) (λ n j good. shows.good_ignored w.at cidr add j good)
 
   pub raised_good : (secs : ℕ) (w : World J) → secs ≤ last_moment → GoodWorld w → GoodWorld (raised m secs w)
   raised_good secs w h a =

@@ -13,13 +13,13 @@ use Rattle.f2b_model.specs.Lists.{AllOf, in_order}
 use Rattle.f2b_model.specs.State.{World, world_map, JailsState}
 use Rattle.f2b_model.specs.Nows.{jail_now, jails_now_of}
 use Rattle.f2b_model.specs.Moves.{Out, counts}
-use Rattle.f2b_model.specs.Steps.{Moves, moves, moves_now, is_spent, is_due, ends_before, is_meant, is_meant_jail, ended_by_time, at_jail, each_jail, raised}
+use Rattle.f2b_model.specs.Steps.{Moves, moves, moves_now, is_spent, is_due, ends_before, is_meant, is_meant_jail, ended_by_time, at_jail, is_followed, followed_to, each_jail, raised}
 use Rattle.f2b_model.specs.Sound.{IsFit, IsGoodJail, AreSoundJails}
 use Rattle.f2b_model.specs.declared.happening.Happening.{Happening}
 use Rattle.f2b_model.specs.Told.{told_each, told_new, told_found, told_banned, told_ends, told_unbanned, told_in, told_all_found, told_all_banned, told_done, jails_told}
 use Rattle.f2b_model.specs.declared.happening.Happening.TheVariants.{Counts, Begins, Ends}
 use Rattle.f2b_model.proofs.ListLemmas.{by_test}
-use Rattle.f2b_model.proofs.StepLemmas.{Shows, out_map, GoodWorld, at_jail_shows, in_good, each_shows, by_time_shows, calm_world, raised_good, ended_good}
+use Rattle.f2b_model.proofs.StepLemmas.{Shows, out_map, GoodWorld, at_jail_shows, is_followed_shows, followed_to_shows, followed_to_good, in_good, each_shows, by_time_shows, calm_world, raised_good, ended_good}
 use Rattle.f2b_model.proofs.SoundLemmas.{jail_shows, IsCalmJail}
 
 module _ {J K : Type 0} (m : Moves J) (k : Moves K) (h : J → K) (Good Calm : ℕ → J → Type 0) (shows : Shows m k h Good Calm) where
@@ -87,7 +87,13 @@ module _ {J K : Type 0} (m : Moves J) (k : Moves K) (h : J → K) (Good Calm : �
 
   done_told : (word : ℕ) (what : What) (w : World J) → GoodWorld m k h Good Calm shows w → told_done m word what w ≡ told_done k word what (world_map h w)
   done_told word Tick w a = refl
-  done_told word (Read jail path place fs) w a = all_found_shows word jail fs w a
+  done_told word (Read jail path place fs) w a =
+      let same = is_followed_shows m k h Good Calm shows jail path w in
+      by_test (is_followed m jail path w) _
+      (λ t. let t2 = same ∙ t in
+      rw (t, t2) (all_found_shows word jail fs (followed_to m jail path place w) (followed_to_good m k h Good Calm shows jail path place w a)
+      ∙ ap (told_all_found k word jail fs) (followed_to_shows m k h Good Calm shows jail path place w a)))
+      (λ t. let t2 = same ∙ t in rw (t, t2) refl)
   done_told word (BanThese jail addrs) w a = all_banned_shows word jail addrs w a
   done_told word (Unban jail addrs) w a = told_each_shows (told_unbanned m jail addrs) (told_unbanned k jail addrs) (told_unbanned_shows jail addrs) w.jails
   done_told word (Attempt jail addr) w a = all_found_shows word jail (record { addr = addr; time = w.at; line = [] } ∷ []) w a

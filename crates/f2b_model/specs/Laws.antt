@@ -11,7 +11,7 @@ use Rattle.f2b_model.specs.Full.{IsFull, IsFullByChoice, is_full, is_late}
 use Rattle.f2b_model.specs.State.{JailsState}
 use Rattle.f2b_model.specs.Nows.{comes_before, JailsNow, jails_now_of, jails_from}
 use Rattle.f2b_model.specs.Steps.{moves, moves_now, jails_step, jails_steps, jails_step_now, first_jails, first_jails_now}
-use Rattle.f2b_model.specs.Sound.{IsFit, IsNumbered, AreSoundJails}
+use Rattle.f2b_model.specs.Sound.{AreFitDefs, IsFit, IsNumbered, AreSoundJails}
 use Rattle.f2b_model.specs.Stands.{StandsFor, IsShown}
 use Rattle.f2b_model.specs.Told.{jails_told}
 use Rattle.f2b_model.specs.Windows.{IsRising, IsFullBy, HasRun}
@@ -26,7 +26,7 @@ pub record JailsLaw : Type 0 where
   pub tells : (s : JailsState) (input : Input) → IsFit input → AreSoundJails s → jails_told moves s input ≡ jails_told moves_now (jails_now_of s) input
   -- a step keeps soundness, and the first state is sound
   pub sound : (s : JailsState) (input : Input) → IsFit input → AreSoundJails s → AreSoundJails (jails_step s input)
-  pub first : (defs : Defs) → AllOf (λ (d : JailDef). 1 ≤ d.maxretry) defs.jails → AreSoundJails (first_jails defs)
+  pub first : (defs : Defs) → AreFitDefs defs → AreSoundJails (first_jails defs)
   pub first_is : (defs : Defs) → jails_now_of (first_jails defs) ≡ first_jails_now defs
   -- a middle state is that of the state which holds just what it holds, and whatever comes does not tell the two states apart
   pub again : (s : JailsState) → jails_now_of (jails_from (jails_now_of s)) ≡ jails_now_of s

@@ -1,6 +1,7 @@
 pub mod Lists
 pub mod Full
 pub mod Until
+pub mod Watches
 pub mod State
 pub mod Nows
 pub mod Moves

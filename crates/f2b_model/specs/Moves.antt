@@ -2,12 +2,15 @@
 use Rattle.std.specs.Prelude.{ℕ, suc, ◌+◌, ◌-◌, ◌^◌, min, Bool, true, false, cond, not, ◌&&◌, ◌==◌, nat_lt, nat_le, List, [], ◌∷◌, ◌++◌, length, filter, ℤ}
 use Rattle.std.specs.List.{list_any}
 use Rattle.f2b_base.specs.declared.addr.Addr.{Addr}
+use Rattle.f2b_base.specs.declared.addr.Cidr.{Cidr}
 use Rattle.f2b_base.specs.declared.ban.Ban.{Ban}
 use Rattle.f2b_base.specs.declared.ban.Failure.{Failure}
 use Rattle.f2b_base.specs.declared.jail.JailDef.{JailDef}
+use Rattle.f2b_base.specs.declared.jail.Place.{Place}
 use Rattle.f2b_base.specs.declared.ban.Past.{Past}
 use Rattle.f2b_model.specs.Full.{same_addr, is_of, is_full}
 use Rattle.f2b_model.specs.Until.{until_of}
+use Rattle.f2b_model.specs.Watches.{watches_of, with_place}
 use Rattle.f2b_model.specs.State.{Jail, open_of, active_of, kept_of, forget, stop, drop_ends}
 
 -- one more, but the greatest u64 stays
@@ -115,10 +118,33 @@ limited findtime maxretry j =
 abbrev pub spanned : ℤ → JailDef → JailDef
 spanned secs d = record d { rule = record (d.rule) { base = secs } }
 
+-- whether two masks are one
+abbrev pub same_cidr : Cidr → Cidr → Bool
+same_cidr a b = same_addr a.base b.base && (a.bits == b.bits)
+
+-- a mask of addresses that are never banned: it is added at the end unless it is there, or each equal one is taken out
+abbrev pub ignored : Cidr → Bool → JailDef → JailDef
+ignored cidr true d = record d { ignore = cond (list_any (same_cidr cidr) d.ignore) d.ignore (d.ignore ++ cidr ∷ []) }
+ignored cidr false d = record d { ignore = filter (λ (c : Cidr). not (same_cidr cidr c)) d.ignore }
+
+-- the log of a path was followed to a place
+abbrev pub followed : List ℕ → Place → Jail → Jail
+followed path place j = record j { watches = with_place path place j.watches }
+
 -- a jail that a configuration keeps, under its new definition
 abbrev pub kept : JailDef → Jail → Jail
-kept d j = record (limited d.findtime d.maxretry j) { definition = d; idle = false }
+kept d j = record (limited d.findtime d.maxretry j) { definition = d; idle = false; watches = watches_of d.watches j.watches }
 
 -- a jail that a configuration adds
 abbrev pub fresh : JailDef → Jail
-fresh d = record { definition = d; idle = false; total_failed = 0; total_banned = 0; moment = 0; failures = []; bans = []; endings = [] }
+fresh d = record {
+  definition = d;
+  idle = false;
+  total_failed = 0;
+  total_banned = 0;
+  moment = 0;
+  watches = watches_of d.watches [];
+  failures = [];
+  bans = [];
+  endings = [];
+}

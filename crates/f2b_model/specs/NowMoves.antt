@@ -1,10 +1,12 @@
 -- The moves of a step on a jail's middle state: its lists are pruned, so each move is one that code can make.
-use Rattle.std.specs.Prelude.{ℕ, suc, false, cond, not, ◌&&◌, ◌==◌, [], ◌∷◌, ◌++◌, length, filter}
+use Rattle.std.specs.Prelude.{ℕ, suc, false, cond, List, not, ◌&&◌, ◌==◌, [], ◌∷◌, ◌++◌, length, filter}
 use Rattle.f2b_base.specs.declared.addr.Addr.{Addr}
 use Rattle.f2b_base.specs.declared.ban.Failure.{Failure}
 use Rattle.f2b_base.specs.declared.jail.JailDef.{JailDef}
+use Rattle.f2b_base.specs.declared.jail.Place.{Place}
 use Rattle.f2b_model.specs.Lists.{placed}
 use Rattle.f2b_model.specs.Full.{is_of, is_full, is_late}
+use Rattle.f2b_model.specs.Watches.{watches_of, with_place}
 use Rattle.f2b_model.specs.declared.jail_now.JailNow.{JailNow}
 use Rattle.f2b_model.specs.Nows.{comes_before}
 use Rattle.f2b_model.specs.Moves.{up_64, ban_of, is_banned, is_near, Out, counts, new_ban, is_stale}
@@ -59,10 +61,24 @@ limited_now findtime maxretry j =
     cond ((findtime == j.definition.findtime) && (maxretry == j.definition.maxretry)) j
     (record j { definition = record (j.definition) { findtime = findtime; maxretry = maxretry }; failures = [] })
 
+-- the log of a path was followed to a place
+abbrev pub followed_now : List ℕ → Place → JailNow → JailNow
+followed_now path place j = record j { watches = with_place path place j.watches }
+
 -- a jail that a configuration keeps, under its new definition
 abbrev pub kept_now : JailDef → JailNow → JailNow
-kept_now d j = record (limited_now d.findtime d.maxretry j) { definition = d; idle = false }
+kept_now d j = record (limited_now d.findtime d.maxretry j) { definition = d; idle = false; watches = watches_of d.watches j.watches }
 
 -- a jail that a configuration adds
 abbrev pub fresh_now : JailDef → JailNow
-fresh_now d = record { definition = d; idle = false; total_failed = 0; total_banned = 0; moment = 0; failures = []; bans = []; past = [] }
+fresh_now d = record {
+  definition = d;
+  idle = false;
+  total_failed = 0;
+  total_banned = 0;
+  moment = 0;
+  watches = watches_of d.watches [];
+  failures = [];
+  bans = [];
+  past = [];
+}

@@ -33,6 +33,7 @@ jail_now j = record {
   total_failed = j.total_failed;
   total_banned = j.total_banned;
   moment = j.moment;
+  watches = j.watches;
   failures = in_order comes_before (filter (is_late j.moment j.definition.findtime) (open_of j.failures));
   bans = active_of j.bans;
   past = kept_of j.endings;
@@ -50,6 +51,7 @@ jail_from j = record {
   total_failed = j.total_failed;
   total_banned = j.total_banned;
   moment = j.moment;
+  watches = j.watches;
   failures = map (λ (f : Failure). record { failure = f; is_open = true }) j.failures;
   bans = map (λ (b : Ban). record { ban = b; is_active = true }) j.bans;
   endings = map (λ (p : Past). record { past = p; is_kept = true }) j.past;

@@ -1,20 +1,23 @@
 -- Sound states.
-use Rattle.std.specs.Prelude.{◌≡◌, ℕ, ◌<◌, ◌≤◌, false, List, [], ◌∷◌}
+use Rattle.std.specs.Prelude.{◌≡◌, ℕ, ◌<◌, ◌≤◌, false, List, [], ◌∷◌, map, bytes_eq}
 use Rattle.f2b_base.specs.declared.addr.Addr.{Addr}
 use Rattle.f2b_base.specs.declared.ban.Ban.{Ban}
 use Rattle.f2b_base.specs.declared.ban.Failure.{Failure}
 use Rattle.f2b_base.specs.declared.input.Input.{Input}
+use Rattle.f2b_base.specs.declared.jail.Defs.{Defs}
 use Rattle.f2b_base.specs.declared.jail.JailDef.{JailDef}
+use Rattle.f2b_base.specs.declared.jail.WatchDef.{WatchDef}
 use Rattle.f2b_base.specs.declared.ban.Past.{Past}
 use Rattle.f2b_base.specs.declared.ban.Until.{Until}
 use Rattle.f2b_base.specs.declared.ban.Until.TheVariants.{Never, At}
 use Rattle.f2b_base.specs.declared.input.What.{What}
 use Rattle.f2b_base.specs.declared.input.What.TheVariants.{Maxretry, Config}
-use Rattle.f2b_model.specs.Lists.{AllOf}
+use Rattle.f2b_model.specs.Lists.{AllOf, AreDistinct}
 use Rattle.f2b_model.specs.Full.{IsFull}
 use Rattle.f2b_model.specs.State.{Jail, JailsState, open_of, active_of, kept_of}
 use Rattle.f2b_model.specs.Until.{last_moment}
 use Rattle.f2b_model.specs.Moves.{is_banned}
+use Rattle.f2b_model.specs.Steps.{moves, names}
 
 -- what the step asks of a jail, so that its middle state tells all: no address is full, and the moment is not to come
 pub record IsSoundJail (at : ℕ) (j : Jail) : Type 0 where
@@ -53,15 +56,25 @@ pub record IsGoodJail (at : ℕ) (j : Jail) : Type 0 where
   pub sound : IsSoundJail at j
   pub orderly : IsOrderly at j.moment (open_of j.failures) (active_of j.bans) (kept_of j.endings)
 
--- a sound state
+-- sound jails
 pub record AreSoundJails (s : JailsState) : Type 0 where
   pub at : s.at ≤ last_moment
   pub jails : AllOf (IsGoodJail s.at) s.jails
+  pub names : AreDistinct bytes_eq (names moves s.jails)
 
--- what is asked of what happens: no address is full at once
+-- what is asked of a configuration
+pub record AreFitDefs (defs : Defs) : Type 0 where
+  -- no address is full at once
+  pub maxretry : AllOf (λ (d : JailDef). 1 ≤ d.maxretry) defs.jails
+  -- no two jails have one name
+  pub names : AreDistinct bytes_eq (map (λ (d : JailDef). d.name) defs.jails)
+  -- no two logs of a jail have one path
+  pub paths : AllOf (λ (d : JailDef). AreDistinct bytes_eq (map (λ (w : WatchDef). w.path) d.watches)) defs.jails
+
+-- what is asked of what happens
 abbrev pub IsFitWhat : What → Type 0
 IsFitWhat (Maxretry jail number) = 1 ≤ number
-IsFitWhat (Config defs) = AllOf (λ (d : JailDef). 1 ≤ d.maxretry) defs.jails
+IsFitWhat (Config defs) = AreFitDefs defs
 IsFitWhat _ = Unit {0}
 
 -- what is asked of an input

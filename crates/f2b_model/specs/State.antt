@@ -4,6 +4,7 @@ use Rattle.f2b_base.specs.declared.ban.Ban.{Ban}
 use Rattle.f2b_base.specs.declared.ban.Failure.{Failure}
 use Rattle.f2b_base.specs.declared.jail.JailDef.{JailDef}
 use Rattle.f2b_base.specs.declared.ban.Past.{Past}
+use Rattle.f2b_base.specs.declared.view.WatchView.{WatchView}
 
 -- a counted failure is open until its address is banned or its jail's failures are forgotten
 pub record Counted : Type 0 where
@@ -27,6 +28,8 @@ pub record Jail : Type 0 where
   pub total_failed : ℕ
   pub total_banned : ℕ
   pub moment : ℕ
+  -- how far its logs are followed
+  pub watches : List WatchView
   -- all counted failures, in order of arrival
   pub failures : List Counted
   -- all bans, in order of beginning
@@ -48,7 +51,7 @@ pub record World (J : Type 0) : Type 0 where
 abbrev pub world_map : {J K : Type 0} → (J → K) → World J → World K
 world_map f w = record { at = w.at; purge = w.purge; jails = map f w.jails; next_ban = w.next_ban }
 
--- the state of failures and bans
+-- the state of the jails: their failures and bans, and how far their logs are followed
 abbrev pub JailsState : Type 0
 JailsState = World Jail
 

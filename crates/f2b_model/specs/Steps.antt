@@ -2,27 +2,32 @@
 use Rattle.std.specs.Prelude.{ℕ, ◌^◌, max, Bool, true, false, cond, nat_lt, nat_le, List, [], ◌∷◌, filter, map, ℤ, bytes_eq, Option, Some, None}
 use Rattle.std.specs.List.{list_any}
 use Rattle.f2b_base.specs.declared.addr.Addr.{Addr}
+use Rattle.f2b_base.specs.declared.addr.Cidr.{Cidr}
 use Rattle.f2b_base.specs.declared.ban.Ban.{Ban}
 use Rattle.f2b_base.specs.declared.ban.Failure.{Failure}
 use Rattle.f2b_base.specs.declared.input.Input.{Input}
 use Rattle.f2b_base.specs.declared.jail.Defs.{Defs}
 use Rattle.f2b_base.specs.declared.jail.JailDef.{JailDef}
+use Rattle.f2b_base.specs.declared.jail.Place.{Place}
 use Rattle.f2b_base.specs.declared.ban.Until.{Until}
 use Rattle.f2b_base.specs.declared.ban.Until.TheVariants.{Never, At}
 use Rattle.f2b_base.specs.declared.input.What.{What}
+use Rattle.f2b_base.specs.declared.view.WatchView.{WatchView}
 use Rattle.f2b_base.specs.declared.input.What.TheVariants.{Tick, Read, Ended, Config, Stop, Ban as BanThese, Unban, Attempt, Ignore, Findtime, Bantime, Maxretry, Idle}
 use Rattle.f2b_model.specs.Lists.{in_order}
 use Rattle.f2b_model.specs.Full.{same_addr}
+use Rattle.f2b_model.specs.Watches.{is_watched}
 use Rattle.f2b_model.specs.State.{Jail, World, JailsState, active_of}
 use Rattle.f2b_model.specs.declared.jail_now.JailNow.{JailNow}
 use Rattle.f2b_model.specs.Nows.{JailsNow}
-use Rattle.f2b_model.specs.Moves.{Out, found, banned, ended, dropped, limited, spanned, kept, fresh}
-use Rattle.f2b_model.specs.NowMoves.{found_now, banned_now, ended_now, dropped_now, limited_now, kept_now, fresh_now}
+use Rattle.f2b_model.specs.Moves.{Out, found, banned, ended, dropped, limited, spanned, ignored, followed, kept, fresh}
+use Rattle.f2b_model.specs.NowMoves.{found_now, banned_now, ended_now, dropped_now, limited_now, followed_now, kept_now, fresh_now}
 
 -- the moves on one kind of jail
 pub record Moves (J : Type 0) : Type 0 where
   pub definition : J → JailDef
   pub active : J → List Ban
+  pub watches : J → List WatchView
   -- at, word, next serial
   pub found : ℕ → ℕ → ℕ → Failure → J → Out J
   pub banned : ℕ → ℕ → ℕ → Addr → J → Out J
@@ -34,6 +39,9 @@ pub record Moves (J : Type 0) : Type 0 where
   pub limited : ℕ → ℕ → J → J
   pub spanned : ℤ → J → J
   pub idle : Bool → J → J
+  pub ignored : Cidr → Bool → J → J
+  -- path, place
+  pub followed : List ℕ → Place → J → J
   -- a jail that a configuration keeps, and one that it adds
   pub kept : JailDef → J → J
   pub fresh : JailDef → J
@@ -43,6 +51,7 @@ abbrev pub moves : Moves Jail
 moves = record {
   definition = λ j. j.definition;
   active = λ j. active_of j.bans;
+  watches = λ j. j.watches;
   found = found;
   banned = banned;
   ended = ended;
@@ -50,6 +59,8 @@ moves = record {
   limited = limited;
   spanned = λ secs j. record j { definition = spanned secs j.definition };
   idle = λ idle j. record j { idle = idle };
+  ignored = λ cidr add j. record j { definition = ignored cidr add j.definition };
+  followed = followed;
   kept = kept;
   fresh = fresh;
 }
@@ -59,6 +70,7 @@ abbrev pub moves_now : Moves JailNow
 moves_now = record {
   definition = λ j. j.definition;
   active = λ j. j.bans;
+  watches = λ j. j.watches;
   found = found_now;
   banned = banned_now;
   ended = ended_now;
@@ -66,6 +78,8 @@ moves_now = record {
   limited = limited_now;
   spanned = λ secs j. record j { definition = spanned secs j.definition };
   idle = λ idle j. record j { idle = idle };
+  ignored = λ cidr add j. record j { definition = ignored cidr add j.definition };
+  followed = followed_now;
   kept = kept_now;
   fresh = fresh_now;
 }
@@ -116,6 +130,14 @@ abbrev pub is_spent : {J : Type 0} → World J → Bool
 is_spent w = nat_lt (2 ^ 62) w.next_ban
 
 module _ {J : Type 0} (m : Moves J) where
+  -- the name of a jail
+  abbrev pub named : J → List ℕ
+  named j = (m.definition j).name
+
+  -- the names of jails
+  abbrev pub names : List J → List (List ℕ)
+  names js = map named js
+
   -- ends these bans, each at the moment that is given for it
   abbrev pub end_all : (Ban → ℕ) → List Ban → J → J
   end_all moment [] j = j
@@ -146,20 +168,37 @@ module _ {J : Type 0} (m : Moves J) where
   abbrev pub alone : (J → J) → ℕ → J → Out J
   alone f n j = record { jail = f j; next = n }
 
+  -- the first jail of a name
+  abbrev pub find_jail : List ℕ → List J → Option J
+  find_jail name [] = None
+  find_jail name (j ∷ js) = cond (bytes_eq (m.definition j).name name) (Some j) (find_jail name js)
+
+  -- whether a jail is there and watches a path
+  abbrev pub watches_path : List ℕ → Option J → Bool
+  watches_path path None = false
+  watches_path path (Some j) = is_watched path (m.watches j)
+
+  -- whether the jail of a name watches a path
+  abbrev pub is_followed : List ℕ → List ℕ → World J → Bool
+  is_followed name path w = watches_path path (find_jail name w.jails)
+
+  -- a world where a log of a jail was followed to a place
+  abbrev pub followed_to : List ℕ → List ℕ → Place → World J → World J
+  followed_to name path place w = at_jail name (alone (m.followed path place)) w
+
   -- failures that were found in a jail, in their order
   abbrev pub found_all : ℕ → List ℕ → List Failure → World J → World J
   found_all word name [] w = w
   found_all word name (f ∷ fs) w = found_all word name fs (at_jail name (λ n j. m.found w.at word n f j) w)
 
+  -- what was read of a log: its place is set, and the failures are taken, where the jail watches it
+  abbrev pub read_all : ℕ → List ℕ → List ℕ → Place → List Failure → World J → World J
+  read_all word name path place fs w = cond (is_followed name path w) (found_all word name fs (followed_to name path place w)) w
+
   -- bans by command in a jail, in their order
   abbrev pub ban_all : ℕ → List ℕ → List Addr → World J → World J
   ban_all word name [] w = w
   ban_all word name (addr ∷ addrs) w = ban_all word name addrs (at_jail name (λ n j. m.banned w.at word n addr j) w)
-
-  -- the first jail of a name
-  abbrev pub find_jail : List ℕ → List J → Option J
-  find_jail name [] = None
-  find_jail name (j ∷ js) = cond (bytes_eq (m.definition j).name name) (Some j) (find_jail name js)
 
   -- the jail of a definition, from the one that was there
   abbrev pub kept_or_fresh : JailDef → Option J → J
@@ -170,11 +209,11 @@ module _ {J : Type 0} (m : Moves J) where
   abbrev pub configured : List JailDef → List J → List J
   configured ds js = map (λ (d : JailDef). kept_or_fresh d (find_jail d.name js)) ds
 
-  -- What happened is done. An attempt is one failure now. The inputs that follow at the end speak of jobs, of stopping and of
-  -- addresses that are never banned, which are no part of this state, as the path and the place of a Read are none.
+  -- What happened is done. An attempt is one failure now. The two inputs at the end speak of jobs and of stopping, which are no
+  -- part of the jails.
   abbrev pub done : ℕ → What → World J → World J
   done word Tick w = w
-  done word (Read jail path place fs) w = found_all word jail fs w
+  done word (Read jail path place fs) w = read_all word jail path place fs w
   done word (BanThese jail addrs) w = ban_all word jail addrs w
   done word (Unban jail addrs) w = record w { jails = map (λ j. cond (is_meant_jail jail (m.definition j)) (unbanned w.at addrs j) j) w.jails }
   done word (Attempt jail addr) w = found_all word jail (record { addr = addr; time = w.at; line = [] } ∷ []) w
@@ -182,10 +221,10 @@ module _ {J : Type 0} (m : Moves J) where
   done word (Bantime jail secs) w = at_jail jail (alone (m.spanned secs)) w
   done word (Maxretry jail number) w = at_jail jail (alone (λ j. m.limited (m.definition j).findtime number j)) w
   done word (Idle jail idle) w = at_jail jail (alone (m.idle idle)) w
+  done word (Ignore jail cidr add) w = at_jail jail (alone (m.ignored cidr add)) w
   done word (Config defs) w = record w { purge = defs.purge; jails = configured defs.jails w.jails }
   done word (Ended job outcome) w = w
   done word Stop w = w
-  done word (Ignore jail cidr add) w = w
 
   -- a world with each jail changed
   abbrev pub each_jail : (J → J) → World J → World J
@@ -195,13 +234,15 @@ module _ {J : Type 0} (m : Moves J) where
   abbrev pub raised : ℕ → World J → World J
   raised secs w = record w { at = max w.at secs }
 
+  -- a world at a reading, once the bans that are due have ended
+  abbrev pub at_reading : ℕ → World J → World J
+  at_reading secs w = let now = raised secs w in each_jail (ended_by_time now.at) now
+
   -- The step: the moment is raised, due bans end, what happened is done, and what is over for long is dropped.
   abbrev pub step_by : World J → Input → World J
   step_by w input =
       cond (is_spent w) w (
-      let now = raised input.secs w in
-      let ended = each_jail (ended_by_time now.at) now in
-      let after = done input.word input.what ended in
+      let after = done input.word input.what (at_reading input.secs w) in
       each_jail (m.dropped after.at after.purge) after)
 
   -- the world of a first configuration: nothing happened yet

@@ -1,5 +1,5 @@
 -- What a step tells, in its order: failures that count, bans that begin and bans that end. Lines and jobs are made of it.
-use Rattle.std.specs.Prelude.{ℕ, cond, List, [], ◌∷◌, ◌++◌, length, drop, filter, map, bytes_eq, Option}
+use Rattle.std.specs.Prelude.{ℕ, max, cond, List, [], ◌∷◌, ◌++◌, length, drop, filter, map, bytes_eq, Option}
 use Rattle.f2b_base.specs.declared.addr.Addr.{Addr}
 use Rattle.f2b_base.specs.declared.ban.Failure.{Failure}
 use Rattle.f2b_base.specs.declared.input.Input.{Input}
@@ -10,7 +10,7 @@ use Rattle.f2b_model.specs.declared.happening.Happening.TheVariants.{Counts, Beg
 use Rattle.f2b_model.specs.Lists.{in_order}
 use Rattle.f2b_model.specs.State.{World}
 use Rattle.f2b_model.specs.Moves.{counts}
-use Rattle.f2b_model.specs.Steps.{Moves, is_spent, is_due, ends_before, is_meant, is_meant_jail, ended_by_time, at_jail, each_jail, raised}
+use Rattle.f2b_model.specs.Steps.{Moves, named, is_spent, is_due, ends_before, is_meant, is_meant_jail, at_jail, is_followed, followed_to, at_reading}
 
 -- what each jail tells, jail by jail
 abbrev pub told_each : {J : Type 0} → (J → List Happening) → List J → List Happening
@@ -18,17 +18,13 @@ told_each t [] = []
 told_each t (j ∷ js) = t j ++ told_each t js
 
 module _ {J : Type 0} (m : Moves J) where
-  -- the jail's name
-  abbrev pub named : J → List ℕ
-  named j = (m.definition j).name
-
   -- the bans that began in a move: those behind the ones that were active before
   abbrev pub told_new : J → J → List Happening
-  told_new old new = map (Begins (named new)) (drop (length (m.active old)) (m.active new))
+  told_new old new = map (Begins (named m new)) (drop (length (m.active old)) (m.active new))
 
   -- a found failure tells where it counts, and then the ban that began
   abbrev pub told_found : ℕ → ℕ → Failure → ℕ → J → List Happening
-  told_found at word f n j = cond (counts at (m.definition j) (m.active j) f) (Counts (named j) f.addr ∷ told_new j (m.found at word n f j).jail) []
+  told_found at word f n j = cond (counts at (m.definition j) (m.active j) f) (Counts (named m j) f.addr ∷ told_new j (m.found at word n f j).jail) []
 
   -- a ban by command
   abbrev pub told_banned : ℕ → ℕ → Addr → ℕ → J → List Happening
@@ -36,11 +32,11 @@ module _ {J : Type 0} (m : Moves J) where
 
   -- the bans that end by time, by end and serial
   abbrev pub told_ends : ℕ → J → List Happening
-  told_ends at j = map (Ends (named j)) (in_order ends_before (filter (is_due at) (m.active j)))
+  told_ends at j = map (Ends (named m j)) (in_order ends_before (filter (is_due at) (m.active j)))
 
   -- the bans that end by command, by serial
   abbrev pub told_unbanned : Option (List ℕ) → Option (List Addr) → J → List Happening
-  told_unbanned jail addrs j = cond (is_meant_jail jail (m.definition j)) (map (Ends (named j)) (filter (is_meant addrs) (m.active j))) []
+  told_unbanned jail addrs j = cond (is_meant_jail jail (m.definition j)) (map (Ends (named m j)) (filter (is_meant addrs) (m.active j))) []
 
   -- what the first jail of a name tells
   abbrev pub told_in : List ℕ → (J → List Happening) → List J → List Happening
@@ -61,7 +57,7 @@ module _ {J : Type 0} (m : Moves J) where
 
   -- what happened. A configuration tells nothing, also of the bans that go with a lost jail
   abbrev pub told_done : ℕ → What → World J → List Happening
-  told_done word (Read jail path place fs) w = told_all_found word jail fs w
+  told_done word (Read jail path place fs) w = cond (is_followed m jail path w) (told_all_found word jail fs (followed_to m jail path place w)) []
   told_done word (Attempt jail addr) w = told_all_found word jail (record { addr = addr; time = w.at; line = [] } ∷ []) w
   told_done word (BanThese jail addrs) w = told_all_banned word jail addrs w
   told_done word (Unban jail addrs) w = told_each (told_unbanned jail addrs) w.jails
@@ -71,6 +67,4 @@ module _ {J : Type 0} (m : Moves J) where
   abbrev pub jails_told : World J → Input → List Happening
   jails_told w input =
       cond (is_spent w) [] (
-      let now = raised m input.secs w in
-      let ended = each_jail m (ended_by_time m now.at) now in
-      told_each (told_ends now.at) now.jails ++ told_done input.word input.what ended)
+      told_each (told_ends (max w.at input.secs)) w.jails ++ told_done input.word input.what (at_reading m input.secs w))

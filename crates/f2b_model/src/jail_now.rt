@@ -1,6 +1,6 @@
 //! The middle state of a jail.
 
-use f2b_base::{Ban, Failure, JailDef, Past, Seq};
+use f2b_base::{Ban, Failure, JailDef, Past, Seq, WatchView};
 
 /// What still matters of a jail's failures and bans, beside its definition.
 #[derive(Debug, Drop, PartialEq, Eq)]
@@ -14,6 +14,8 @@ pub struct JailNow {
     pub total_banned: u64,
     /// When the last failure was counted, in seconds since 1970, or 0.
     pub moment: u64,
+    /// How far its logs are followed, in the order of the definition.
+    pub watches: Seq<WatchView>,
     /// The open failures later than twice the findtime before `moment`, by address (IPv4 first, then the number), time, arrival.
     pub failures: Seq<Failure>,
     /// The active bans by serial, at most one for an address.
