@@ -11,19 +11,19 @@ use Rattle.f2b_model.specs.Steps.{Outs, moves_now, with_outs, is_spent, ended_by
 use Rattle.f2b_model.specs.Told.{told_each, told_ends, told_done, jails_told}
 use Rattle.jail_core.specs.Kept.{IsTaken}
 use Rattle.jail_core.specs.Reading.{happened, told_happened}
-use Rattle.jail_core.proofs.ReadLemmas.{found_at_once, told_at_once}
+use Rattle.jail_core.proofs.LogLemmas.{read_at_once, told_read_at_once}
 
 -- what is done of a taken input
 done_is : (word : ℕ) (what : What) (w : JailsNow) → IsTaken what → done moves_now word what w ≡ with_outs w (happened w.at word what w.next_ban w.jails)
 done_is word Tick w taken = refl
-done_is word (Read jail path place found) w taken = found_at_once word jail found w
+done_is word (Read jail path place found) w taken = read_at_once word jail path place found w
 done_is word (Ended job outcome) w taken = absurd taken
 done_is word (Config defs) w taken = absurd taken
 done_is word Stop w taken = absurd taken
 done_is word (BanThese jail addrs) w taken = absurd taken
 done_is word (Unban jail addrs) w taken = absurd taken
 done_is word (Attempt jail addr) w taken = absurd taken
-done_is word (Ignore jail cidr add) w taken = absurd taken
+done_is word (Ignore jail cidr add) w taken = refl
 done_is word (Findtime jail secs) w taken = absurd taken
 done_is word (Bantime jail secs) w taken = absurd taken
 done_is word (Maxretry jail number) w taken = absurd taken
@@ -31,14 +31,14 @@ done_is word (Idle jail idle) w taken = absurd taken
 
 told_is : (word : ℕ) (what : What) (w : JailsNow) → IsTaken what → told_done moves_now word what w ≡ told_happened w.at word what w.next_ban w.jails
 told_is word Tick w taken = refl
-told_is word (Read jail path place found) w taken = told_at_once word jail found w
+told_is word (Read jail path place found) w taken = told_read_at_once word jail path place found w
 told_is word (Ended job outcome) w taken = absurd taken
 told_is word (Config defs) w taken = absurd taken
 told_is word Stop w taken = absurd taken
 told_is word (BanThese jail addrs) w taken = absurd taken
 told_is word (Unban jail addrs) w taken = absurd taken
 told_is word (Attempt jail addr) w taken = absurd taken
-told_is word (Ignore jail cidr add) w taken = absurd taken
+told_is word (Ignore jail cidr add) w taken = refl
 told_is word (Findtime jail secs) w taken = absurd taken
 told_is word (Bantime jail secs) w taken = absurd taken
 told_is word (Maxretry jail number) w taken = absurd taken

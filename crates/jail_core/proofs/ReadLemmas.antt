@@ -50,7 +50,7 @@ in_jail_same name n (j ∷ js) =
     by_test (bytes_eq j.definition.name name) _ (λ t. rw t refl) (λ t. rw t (ap (λ (o : Outs JailNow). record { jails = j ∷ o.jails; next = o.next }) (in_jail_same name n js)))
 
 -- two moves on the jail of one name are one move, where the first leaves the definition
-in_jail_twice : (name : List ℕ) (f g : ℕ → JailNow → Out JailNow) → ((n : ℕ) (j : JailNow) → (f n j).jail.definition ≡ j.definition) → (n : ℕ) (js : List JailNow)
+pub in_jail_twice : (name : List ℕ) (f g : ℕ → JailNow → Out JailNow) → ((n : ℕ) (j : JailNow) → (f n j).jail.definition ≡ j.definition) → (n : ℕ) (js : List JailNow)
     → in_jail moves_now name g (in_jail moves_now name f n js).next (in_jail moves_now name f n js).jails ≡ in_jail moves_now name (λ m j. g (f m j).next (f m j).jail) n js
 in_jail_twice name f g same n [] = refl
 in_jail_twice name f g same n (j ∷ js) =

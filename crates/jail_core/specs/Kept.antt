@@ -2,7 +2,7 @@
 use Rattle.std.specs.Prelude.{◌≡◌, ◌≤◌, true, List}
 use Rattle.f2b_base.specs.declared.ban.Failure.{Failure}
 use Rattle.f2b_base.specs.declared.input.What.{What}
-use Rattle.f2b_base.specs.declared.input.What.TheVariants.{Tick, Read}
+use Rattle.f2b_base.specs.declared.input.What.TheVariants.{Tick, Read, Ignore}
 use Rattle.f2b_base.specs.declared.jail.JailDef.{JailDef}
 use Rattle.f2b_base.specs.Span.{IsRule}
 use Rattle.f2b_model.specs.declared.jail_now.JailNow.{JailNow}
@@ -25,8 +25,9 @@ pub record IsKept (j : JailNow) : Type 0 where
 abbrev pub AreKept : List JailNow → Type 0
 AreKept js = AllOf IsKept js
 
--- what the core takes: time that passed, and what was read of a log
+-- what the core takes: time that passed, what was read of a log, and a mask of addresses that are never banned
 abbrev pub IsTaken : What → Type 0
 IsTaken Tick = Unit {0}
 IsTaken (Read jail path place found) = Unit {0}
+IsTaken (Ignore jail cidr add) = Unit {0}
 IsTaken _ = ⊥

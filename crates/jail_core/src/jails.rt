@@ -2,16 +2,18 @@
 ghost use Rattle.std.specs.Prelude.{◌≡◌, ◌≤◌, ◌<◌, ◌+◌, ◌^◌, ◌++◌, length, map, bytes_eq, OnOk, IfOk};
 ghost use Rattle.std.specs.List.{list_any};
 ghost use Rattle.f2b_model.specs.NowMoves.{dropped_now};
-ghost use Rattle.f2b_model.specs.Steps.{ended_by_time, in_jail, is_due, moves_now};
+ghost use Rattle.f2b_model.specs.Steps.{alone, ended_by_time, in_jail, is_due, moves_now};
 ghost use Rattle.f2b_model.specs.Told.{told_each, told_ends, told_in};
 ghost use Rattle.f2b_model.specs.declared.jail_now.JailNow.{JailNow};
 ghost use Rattle.jail_core.specs.Kept.{AreKept, IsKept};
-ghost use Rattle.jail_core.specs.Reading.{found_each, happened, jail_place, told_each_found, told_happened};
+ghost use Rattle.jail_core.specs.Reading.{found_each, happened, jail_place, read_each, told_each_found, told_happened, told_read};
 
 use crate::bans::drop_past;
 use crate::ends::{end_due, is_any_due};
 use crate::failures::found;
-use f2b_base::{Failure, NoMemory, Seq, Text, What};
+use crate::ignores::ignore;
+use crate::watches::follow;
+use f2b_base::{Cidr, Failure, NoMemory, Place, Seq, Text, What};
 use f2b_model::{Happening, JailNow};
 use std::alloc::Global;
 
@@ -111,26 +113,84 @@ fn read_jail(
     Ok(next)
 }
 
-/// Failures found in the jail of that name, if there is one. Gives the next serial.
+/// What was read of a log: how far it was followed, and the failures that were found.
+#[derive(Clone, Copy)]
+struct Reading<'a> {
+    path: &'a Text,
+    place: &'a Place,
+    failures: &'a [Failure],
+}
+
+/// What was read of a log, in its jail. Nothing happens where the jail does not watch it. Gives the next serial.
+fn read_log(
+    jail: &mut JailNow,
+    told: &mut Seq<Happening>,
+    reading: &Reading<'_>,
+    at: u64,
+    word: u64,
+    serial: u64,
+) -> Result<u64, NoMemory>
+    requires kept { IsKept jail.old }
+    requires room { serial + length reading.now.failures.now < 2 ^ 64 }
+    ensures jail { IfOk result (λ next. read_each at word reading.now.path.now reading.now.place.now reading.now.failures.now serial jail.old ≡ record { jail = jail.new; next = next }) }
+    ensures told { OnOk result (told.new ≡ told.old ++ told_read at word reading.now.path.now reading.now.place.now reading.now.failures.now serial jail.old) }
+    ensures kept { OnOk result (IsKept jail.new) }
+{
+    if !follow(jail, reading.path, reading.place)? {
+        return Ok(serial);
+    }
+    let next = read_jail(jail, told, reading.failures, at, word, serial)?;
+    Ok(next)
+}
+
+/// What was read of a log of the jail of that name, if there is one. Gives the next serial.
 fn read(
     jails: &mut [JailNow],
     told: &mut Seq<Happening>,
     name: &Text,
-    failures: &[Failure],
+    reading: &Reading<'_>,
     at: u64,
     word: u64,
     serial: u64,
 ) -> Result<u64, NoMemory>
     requires kept { AreKept jails.old }
-    requires room { serial + length failures.now < 2 ^ 64 }
-    ensures jails { IfOk result (λ next. in_jail moves_now name.now (found_each at word failures.now) serial jails.old ≡ record { jails = jails.new; next = next }) }
-    ensures told { OnOk result (told.new ≡ told.old ++ told_in moves_now name.now (told_each_found at word failures.now serial) jails.old) }
+    requires room { serial + length reading.now.failures.now < 2 ^ 64 }
+    ensures jails { IfOk result (λ next. in_jail moves_now name.now (read_each at word reading.now.path.now reading.now.place.now reading.now.failures.now) serial jails.old ≡ record { jails = jails.new; next = next }) }
+    ensures told { OnOk result (told.new ≡ told.old ++ told_in moves_now name.now (told_read at word reading.now.path.now reading.now.place.now reading.now.failures.now serial) jails.old) }
     ensures kept { OnOk result (AreKept jails.new) }
 {
     let place = place_of(jails, name);
     if place < jails.len() {
-        let next = read_jail(&mut jails[place], told, failures, at, word, serial)?;
+        let next = read_log(&mut jails[place], told, reading, at, word, serial)?;
         return Ok(next);
+    }
+    Ok(serial)
+}
+
+/// Changes the addresses of a jail that are never banned.
+fn ignore_in(jail: &mut JailNow, cidr: Cidr, add: bool) -> Result<(), NoMemory>
+    requires { IsKept jail.old }
+    ensures jail { OnOk result (jail.new ≡ moves_now.ignored cidr add jail.old) }
+    ensures kept { OnOk result (IsKept jail.new) }
+{
+    ignore(&mut jail.definition, cidr, add)
+}
+
+/// Changes the addresses that are never banned in the jail of that name, if there is one. Gives the serial back.
+fn ignore_at(
+    jails: &mut [JailNow],
+    name: &Text,
+    cidr: Cidr,
+    add: bool,
+    serial: u64,
+) -> Result<u64, NoMemory>
+    requires { AreKept jails.old }
+    ensures jails { IfOk result (λ next. in_jail moves_now name.now (alone moves_now (moves_now.ignored cidr add)) serial jails.old ≡ record { jails = jails.new; next = next }) }
+    ensures kept { OnOk result (AreKept jails.new) }
+{
+    let place = place_of(jails, name);
+    if place < jails.len() {
+        ignore_in(&mut jails[place], cidr, add)?;
     }
     Ok(serial)
 }
@@ -151,9 +211,23 @@ pub fn do_what(
     ensures kept { OnOk result (AreKept jails.new.items) }
 {
     match what {
-        What::Read { jail, found, .. } => {
+        What::Read {
+            jail,
+            path,
+            place,
+            found,
+        } => {
             let failures = found.as_slice();
-            let next = read(jails.as_mut_slice(), told, jail, failures, at, word, serial)?;
+            let reading = Reading {
+                path,
+                place,
+                failures,
+            };
+            let next = read(jails.as_mut_slice(), told, jail, &reading, at, word, serial)?;
+            Ok(next)
+        }
+        What::Ignore { jail, cidr, add } => {
+            let next = ignore_at(jails.as_mut_slice(), jail, *cidr, *add, serial)?;
             Ok(next)
         }
         _ => Ok(serial),

@@ -10,10 +10,12 @@ mod addresses;
 mod bans;
 mod ends;
 mod failures;
+mod ignores;
 mod jails;
 mod runs;
 mod step;
 #[cfg(test)]
 mod tests;
+mod watches;
 
 pub use step::Core;

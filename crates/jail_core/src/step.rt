@@ -5,6 +5,7 @@ ghost use Rattle.f2b_model.specs.Told.{jails_told};
 ghost use Rattle.jail_core.specs.Kept.{IsBounded, IsTaken};
 
 use crate::jails::{do_what, drop_jails, end_jails, is_ban_due};
+use crate::watches::fresh_watches;
 use f2b_base::{Input, JailDef, NoMemory, Seq};
 use f2b_model::{Happening, JailNow};
 use std::alloc::Global;
@@ -36,6 +37,7 @@ impl Core {
         requires { IsBounded definition }
         ensures { IfOk result (λ core. core ≡ first_jails_now (record { purge = purge; jails = definition ∷ [] })) }
     {
+        let watches = fresh_watches(alloc, definition.watches.as_slice())?;
         let mut jails = Vec::new(alloc);
         jails.push(JailNow {
             definition,
@@ -43,6 +45,7 @@ impl Core {
             total_failed: 0,
             total_banned: 0,
             moment: 0,
+            watches,
             failures: Seq::new(alloc),
             bans: Seq::new(alloc),
             past: Seq::new(alloc),

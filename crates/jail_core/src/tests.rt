@@ -4,7 +4,7 @@ ghost use Rattle.jail_core.specs.Kept.{IsBounded, IsTaken};
 
 use crate::Core;
 use f2b_base::{
-    Addr, BanRule, DateSpec, Failure, Input, JailDef, NoMemory, Place, Seq, Text, What,
+    Addr, BanRule, DateSpec, Failure, Input, JailDef, NoMemory, Place, Seq, Text, WatchDef, What,
 };
 use f2b_model::Happening;
 use std::alloc::Global;
@@ -16,9 +16,14 @@ const ADDR: Addr = Addr::V4(0xc000_0207);
 fn definition(alloc: Global) -> Result<JailDef, NoMemory>
     ensures { IfOk result IsBounded }
 {
+    let mut watches = Seq::new(alloc);
+    watches.push(WatchDef {
+        path: Text::from_str(alloc, "/var/log/auth.log")?,
+        tail: true,
+    })?;
     Ok(JailDef {
         name: Text::from_str(alloc, "sshd")?,
-        watches: Seq::new(alloc),
+        watches,
         zone: 0,
         date: DateSpec::Default,
         pref: None,
@@ -57,7 +62,7 @@ fn reading(alloc: Global, secs: u64, dates: &[u64]) -> Result<Input, NoMemory>
         word: 0,
         what: What::Read {
             jail: Text::from_str(alloc, "sshd")?,
-            path: Text::new(alloc),
+            path: Text::from_str(alloc, "/var/log/auth.log")?,
             place: Place::Tail,
             found,
         },
