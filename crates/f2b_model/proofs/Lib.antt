@@ -13,3 +13,12 @@ pub mod WindowLemmas
 pub mod StandLemmas
 pub mod PartLemmas
 pub mod Rows
+pub mod PassLemmas
+pub mod SameLemmas
+pub mod JobLemmas
+pub mod OrderLemmas
+pub mod BackLemmas
+pub mod TurnLemmas
+pub mod AlternateLemmas
+pub mod LaneMoveLemmas
+pub mod ToldOrderLemmas

@@ -10,10 +10,12 @@
 //! But for copies and comparisons, no function here does anything.
 #![tactic(auto)]
 
+mod fill;
 mod happening;
 mod jail_now;
 mod laws;
 
+pub use fill::Fill;
 pub use happening::Happening;
 pub use jail_now::JailNow;
 pub use laws::{full_law, step_law};
