@@ -22,3 +22,5 @@ pub mod TurnLemmas
 pub mod AlternateLemmas
 pub mod LaneMoveLemmas
 pub mod ToldOrderLemmas
+pub mod InLemmas
+pub mod LaneStepLemmas
