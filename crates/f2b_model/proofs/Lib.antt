@@ -24,3 +24,5 @@ pub mod LaneMoveLemmas
 pub mod ToldOrderLemmas
 pub mod InLemmas
 pub mod LaneStepLemmas
+pub mod LaneOrderLemmas
+pub mod LaneNowLemmas
