@@ -45,7 +45,7 @@ try_now : (at job : ℕ) (outcome : Outcome) (l : Lanes Ledger) → lanes_now (t
 try_now at job outcome l = elim (cases_Bool (is_head_id job (pending l.jobs))) [
   | inl y ↦
       rw y (ap (λ (jobs : List Job). record { up = l.up; stopping = l.stopping; jobs = jobs; next_job = l.next_job })
-          (pending-with_ending l.jobs (record { job = job; how = Tried outcome; at = at })))
+      (pending-with_ending l.jobs (record { job = job; how = Tried outcome; at = at })))
   | inr n ↦ rw n refl
 ]
 

@@ -97,7 +97,7 @@ module _ {L : Type 0} (b : Books L) where
   stop_kept at Stop mid after told l was now = none_up at mid (issue b at (told_orders l.up told) l)
   stop_kept at (Config defs) mid after told l was now =
       absurd (both_ways (lanes_configured b at mid after (lanes_of defs) (issue b at (told_orders l.up told) l)).stopping
-          (configured_stopping at mid after (lanes_of defs) (issue b at (told_orders l.up told) l)) now)
+      (configured_stopping at mid after (lanes_of defs) (issue b at (told_orders l.up told) l)) now)
   stop_kept at _ mid after told l was now = was now
 
 -- ---- sound

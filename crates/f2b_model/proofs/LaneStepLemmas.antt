@@ -77,11 +77,13 @@ up_after_down b at held x (lane ∷ ls) l i =
 pub kept_up : {L : Type 0} (b : Books L) (at : ℕ) (held : List Held) (new : List UpLane) (x : UpLane) (l : Lanes L)
     → IsIn x (others_down b at held new l).up → IsIn x l.up × (is_among new x ≡ true)
 kept_up b at held new x l i =
-    let more = up_after_down b at held x (filter (λ lane. not (is_among new lane)) l.up) l i in
-    (more.0, elim (cases_Bool (is_among new x)) [
-      | inl y ↦ y
-      | inr n ↦ absurd (both_ways _ more.1 (in_any (λ y. is_lane (lane_id y) x) x _ (in_filter (λ lane. not (is_among new lane)) x l.up more.0 (ap not n)) (same_lane-same (lane_id x))))
-    ])
+    let more = up_after_down b at held x (filter (λ lane. not (is_among new lane)) l.up) l i in (
+      more.0,
+      elim (cases_Bool (is_among new x)) [
+        | inl y ↦ y
+        | inr n ↦ absurd (both_ways _ more.1 (in_any (λ y. is_lane (lane_id y) x) x _ (in_filter (λ lane. not (is_among new lane)) x l.up more.0 (ap not n)) (same_lane-same (lane_id x))))
+      ],
+    )
 
 -- ---- a configuration
 

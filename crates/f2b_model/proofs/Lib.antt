@@ -26,3 +26,5 @@ pub mod InLemmas
 pub mod LaneStepLemmas
 pub mod LaneOrderLemmas
 pub mod LaneNowLemmas
+pub mod LaneBackLemmas
+pub mod LaneLawLemmas

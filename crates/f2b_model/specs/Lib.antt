@@ -18,3 +18,4 @@ pub mod Render
 pub mod Orders
 pub mod Lanes
 pub mod LaneSound
+pub mod JobLaws
