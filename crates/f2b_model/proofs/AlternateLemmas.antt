@@ -10,7 +10,7 @@ use Rattle.f2b_base.specs.declared.job.Job.{Job}
 use Rattle.f2b_base.specs.declared.job.JobKind.{JobKind}
 use Rattle.f2b_base.specs.declared.job.JobKind.TheVariants.{Start, Stop, Ban, Unban}
 use Rattle.f2b_model.specs.Families.{same_lane}
-use Rattle.f2b_model.specs.Jobs.{Ending, endings_of, is_settled, due_after, stands, pending, head, settled}
+use Rattle.f2b_model.specs.Jobs.{Ending, endings_of, is_settled, due_after, stands, head}
 use Rattle.f2b_model.specs.Turns.{order_of, touches, concerns, turn, follow, is_ban_or_unban, bans_and_unbans, Alternate, last_is_ban}
 
 step_alternates : (kind : JobKind) (b c : Bool) (after : Bool → Option Bool) (kinds : List JobKind) → ((d : Bool) → after d ≡ Some c → Alternate d kinds) → option_and_then after (turn kind b) ≡ Some c

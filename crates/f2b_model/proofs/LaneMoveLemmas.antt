@@ -1,9 +1,9 @@
 -- What the orders of bans and lanes touch, and that lanes that go down or come up keep the jobs in turn.
-use Rattle.std.proofs.Common.{ℕ, ◌≡◌, inl, inr, Bool, true, false, not, ◌&&◌, ◌||◌, Option, Some, None, List, [], ◌∷◌, ◌++◌, map, filter, refl, sym, ap, ap₂, ◌∙◌}
+use Rattle.std.proofs.Common.{ℕ, ◌≡◌, inl, inr, Bool, true, false, not, ◌&&◌, ◌||◌, Some, None, List, [], ◌∷◌, ◌++◌, map, filter, refl, sym, ap, ◌∙◌}
 use Rattle.std.specs.Prelude.{option_and_then}
 use Rattle.std.specs.List.{list_any}
 use Rattle.std.specs.Str.{bytes_eq}
-use Rattle.std.proofs.lemmas.Bool.{cases_Bool, or_parts, and_parts, and_from, and_left, and_right}
+use Rattle.std.proofs.lemmas.Bool.{cases_Bool, and_parts, and_from, and_left, and_right}
 use Rattle.std.proofs.lemmas.List.{map-append}
 use Rattle.std.proofs.lemmas.List.Folds.{list_any-append}
 use Rattle.f2b_base.specs.declared.addr.Addr.{Addr}
@@ -14,7 +14,7 @@ use Rattle.f2b_base.specs.declared.job.UpLane.{UpLane}
 use Rattle.f2b_model.specs.Families.{in_family, same_lane}
 use Rattle.f2b_model.specs.Full.{same_addr}
 use Rattle.f2b_model.specs.Jobs.{Ledger}
-use Rattle.f2b_model.specs.LaneSound.{AtMostOne, AreApart, IsHeldOnce, IsInTurn, is_banned_in}
+use Rattle.f2b_model.specs.LaneSound.{AtMostOne, IsHeldOnce, IsInTurn, is_banned_in}
 use Rattle.f2b_model.specs.Lanes.{Lanes, books, issue, lane_down, lane_up}
 use Rattle.f2b_model.specs.Orders.{Held, is_held_of, is_active, lane_id, is_lane, is_up, takes, order, ban_orders, lane_orders, down_orders, up_orders}
 use Rattle.f2b_model.specs.Turns.{Order, order_of, numbered, touches, turn, follow}

@@ -1,5 +1,5 @@
 -- A step keeps the jobs in order, and after a stop no lane is up.
-use Rattle.std.proofs.Common.{ℕ, ◌≡◌, ◌+◌, ◌≤◌, inl, inr, Bool, true, false, not, Option, Some, None, List, [], ◌∷◌, length, filter, refl, sym, ◌∙◌, arith}
+use Rattle.std.proofs.Common.{ℕ, ◌≡◌, ◌≤◌, inl, inr, Bool, true, false, not, Option, Some, None, List, [], ◌∷◌, filter, refl, ◌∙◌, arith}
 use Rattle.std.proofs.lemmas.Bool.{cases_Bool, both_ways}
 use Rattle.f2b_base.specs.declared.addr.Addr.{Addr}
 use Rattle.f2b_base.specs.declared.input.What.{What}
@@ -9,10 +9,9 @@ use Rattle.f2b_base.specs.declared.job.LaneId.{LaneId}
 use Rattle.f2b_base.specs.declared.job.Outcome.{Outcome}
 use Rattle.f2b_base.specs.declared.job.UpLane.{UpLane}
 use Rattle.f2b_model.specs.declared.happening.Happening.{Happening}
-use Rattle.f2b_model.specs.Jobs.{Ending, Tried, Ledger, pending, head, has_id, job_by_id, leads, is_head_id}
+use Rattle.f2b_model.specs.Jobs.{Tried, Ledger, pending, head, has_id, job_by_id, leads, is_head_id}
 use Rattle.f2b_model.specs.LaneSound.{IsBanStep, IsFitForLanes, IsOrdered, AreSoundLanes, never}
-use Rattle.f2b_model.specs.Lanes.{Books, Lanes, books, issue, lane_down, lane_up, all_down, all_up, try_ended, others_down, missing_up, lanes_configured, lanes_done, lanes_step, lanes_of, is_among, first_lanes}
-use Rattle.f2b_model.specs.Lists.{IsIn}
+use Rattle.f2b_model.specs.Lanes.{Books, Lanes, books, issue, lane_down, lane_up, all_down, all_up, try_ended, others_down, lanes_configured, lanes_done, lanes_step, lanes_of, is_among, first_lanes}
 use Rattle.f2b_model.specs.Orders.{Held, lane_id, is_lane, is_up, down_orders, up_orders, told_orders}
 use Rattle.f2b_model.specs.Turns.{Order}
 use Rattle.f2b_model.specs.Until.{last_moment}

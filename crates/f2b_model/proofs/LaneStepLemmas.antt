@@ -1,5 +1,5 @@
 -- A step keeps the jobs in turn.
-use Rattle.std.proofs.Common.{ℕ, ◌≡◌, ◌⊎◌, inl, inr, Bool, true, false, not, ◌&&◌, ◌||◌, Some, List, [], ◌∷◌, ◌++◌, map, filter, refl, sym, ap, ◌∙◌}
+use Rattle.std.proofs.Common.{ℕ, ◌≡◌, inl, inr, Bool, true, false, not, ◌&&◌, ◌||◌, Some, List, [], ◌∷◌, map, filter, refl, sym, ap, ◌∙◌}
 use Rattle.std.specs.List.{list_any, flat_map}
 use Rattle.std.specs.Str.{bytes_eq}
 use Rattle.std.specs.Cmp.Lexicographic.{bytes_decides}
@@ -17,8 +17,8 @@ use Rattle.f2b_base.specs.declared.job.UpLane.{UpLane}
 use Rattle.f2b_model.specs.declared.happening.Happening.{Happening}
 use Rattle.f2b_model.specs.Families.{in_family, same_action, same_up}
 use Rattle.f2b_model.specs.Jobs.{Ledger, pending, is_head_id}
-use Rattle.f2b_model.specs.LaneSound.{AreApart, IsHeldOnce, has_jail, IsBanStep, IsFitForLanes, IsInTurn, is_banned_in}
-use Rattle.f2b_model.specs.Lanes.{Books, Lanes, books, issue, lane_down, lane_up, all_down, all_up, try_ended, others_down, missing_up, lanes_configured, lanes_step, lanes_of_jail, lanes_of, is_among}
+use Rattle.f2b_model.specs.LaneSound.{AreApart, IsHeldOnce, has_jail, IsBanStep, IsFitForLanes, IsInTurn}
+use Rattle.f2b_model.specs.Lanes.{Books, Lanes, books, issue, lane_down, lane_up, all_down, all_up, try_ended, others_down, lanes_configured, lanes_step, lanes_of_jail, lanes_of, is_among}
 use Rattle.f2b_model.specs.Lists.{IsIn}
 use Rattle.f2b_model.specs.Orders.{Held, is_active, lane_id, is_lane, is_up, told_orders}
 use Rattle.f2b_model.proofs.InLemmas.{any_in, in_any, none_in, in_filter, filter_in, in_append}

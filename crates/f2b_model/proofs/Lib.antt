@@ -28,3 +28,4 @@ pub mod LaneOrderLemmas
 pub mod LaneNowLemmas
 pub mod LaneBackLemmas
 pub mod LaneLawLemmas
+mod LaneRows

@@ -1,5 +1,5 @@
 -- The orders of what a step of the jails tells keep the jobs in turn.
-use Rattle.std.proofs.Common.{ℕ, ◌≡◌, inl, inr, Bool, true, false, ◌&&◌, if◌then◌else◌, Option, Some, None, List, [], ◌∷◌, ◌++◌, refl, sym, ap, ◌∙◌}
+use Rattle.std.proofs.Common.{ℕ, ◌≡◌, inl, inr, Bool, true, false, ◌&&◌, if◌then◌else◌, Option, Some, None, List, [], ◌∷◌, ◌++◌, refl, ap, ◌∙◌}
 use Rattle.std.specs.Prelude.{option_and_then}
 use Rattle.std.proofs.lemmas.Bool.{cases_Bool, and_parts}
 use Rattle.std.proofs.lemmas.Option.{same_Some}
@@ -12,7 +12,7 @@ use Rattle.f2b_model.specs.declared.happening.Happening.{Happening}
 use Rattle.f2b_model.specs.declared.happening.Happening.TheVariants.{Counts, Begins, Ends}
 use Rattle.f2b_model.specs.Families.{in_family}
 use Rattle.f2b_model.specs.Jobs.{Ledger}
-use Rattle.f2b_model.specs.LaneSound.{AreApart, Follows, follow_one, follow_told, IsInTurn}
+use Rattle.f2b_model.specs.LaneSound.{AreApart, Follows, follow_told, IsInTurn}
 use Rattle.f2b_model.specs.Lanes.{Lanes, books, issue}
 use Rattle.f2b_model.specs.Orders.{Held, is_held_of, is_active, is_up, order, ban_orders, told_orders}
 use Rattle.f2b_model.specs.Turns.{Order, turn, follow}
