@@ -1,20 +1,25 @@
 -- The lanes that hold just the pending jobs.
-use Rattle.std.proofs.Common.{◌≡◌, inl, inr, Bool, true, false, Option, Some, None, List, [], ◌∷◌, map, refl, sym, ap, ◌∙◌, subst}
+use Rattle.std.proofs.Common.{ℕ, ◌+◌, ◌<◌, ◌≤◌, arith, ◌≡◌, inl, inr, Bool, true, false, Option, Some, None, List, [], ◌∷◌, map, refl, sym, ap, ◌∙◌, subst}
 use Rattle.std.specs.Prelude.{option_and_then, is_some}
 use Rattle.std.specs.List.{filter_map, cons_option}
 use Rattle.std.proofs.lemmas.Bool.{cases_Bool}
 use Rattle.f2b_base.specs.declared.addr.Addr.{Addr}
+use Rattle.f2b_base.specs.declared.input.What.{What}
 use Rattle.f2b_base.specs.declared.job.Job.{Job}
 use Rattle.f2b_base.specs.declared.job.LaneId.{LaneId}
+use Rattle.f2b_model.specs.declared.happening.Happening.{Happening}
 use Rattle.f2b_model.specs.Families.{same_lane}
-use Rattle.f2b_model.specs.Jobs.{Ending, Ledger, stands, pending, as_made, ArePending}
-use Rattle.f2b_model.specs.LaneSound.{AllStand, AreInOrder, AreSoundLanes, is_banned_in}
-use Rattle.f2b_model.specs.Lanes.{Lanes, lanes_now, lanes_from}
+use Rattle.f2b_model.specs.Jobs.{Ending, Ledger, stands, pending, as_made, ArePending, AllIdsBelow}
+use Rattle.f2b_model.specs.LaneSound.{AllStand, AreInOrder, IsOrdered, AreSoundLanes, is_banned_in}
+use Rattle.f2b_model.specs.Lanes.{Lanes, books, books_now, lanes_step, lanes_now, lanes_from}
 use Rattle.f2b_model.specs.Orders.{Held}
 use Rattle.f2b_model.specs.Turns.{Order, order_of, touches, turn, follow}
+use Rattle.f2b_model.specs.Until.{last_moment}
 use Rattle.f2b_model.proofs.AlternateLemmas.{order_stands}
 use Rattle.f2b_model.proofs.BackLemmas.{pending-back_from, back_ordered}
-use Rattle.f2b_model.proofs.OrderLemmas.{pending_ordered, stands_lane}
+use Rattle.f2b_model.proofs.LaneNowLemmas.{lanes_now_step}
+use Rattle.f2b_model.proofs.LaneOrderLemmas.{order_kept}
+use Rattle.f2b_model.proofs.OrderLemmas.{pending_ordered, rises, stands_lane}
 use Rattle.f2b_model.proofs.SameLemmas.{same_lane-true}
 
 -- the pending jobs stand by id, with tries and due moments in their bounds
@@ -109,3 +114,22 @@ back_sound base held l sound = (
   where
     opened : (id : LaneId) (addr : Addr) → (d : Bool) × (follow id addr d (map order_of (pending l.jobs)) ≡ Some (is_banned_in l.up held id addr))
     opened id addr = follow_open id addr l.jobs.endings l.jobs.made (base id addr) (is_banned_in l.up held id addr) sound.jobs.order (sound.turn.turns id addr)
+
+-- ---- the step of pending jobs alone
+
+-- a step keeps the bounds of pending jobs
+pub now_bounds : (at : ℕ) (what : What) (mid after : List Held) (told : List Happening) (n : Lanes (List Job)) → at ≤ last_moment → ArePending 0 n.jobs n.next_job
+    → ArePending 0 (lanes_step books_now at what mid after told n).jobs (lanes_step books_now at what mid after told n).next_job
+now_bounds at what mid after told n fits rise =
+    let whole : Lanes Ledger = lanes_from n in
+    let ordered : IsOrdered whole.jobs whole.next_job = back_ordered n.jobs n.next_job rise in
+    let stepped : Lanes Ledger = lanes_step books at what mid after told whole in
+    let same : lanes_now stepped ≡ lanes_step books_now at what mid after told n = lanes_now_step at what mid after told whole ordered.below ∙ ap (lanes_step books_now at what mid after told) (lanes_again n rise) in
+    subst (λ (x : Lanes (List Job)). ArePending 0 x.jobs x.next_job) same (pending_ordered stepped.jobs stepped.next_job (order_kept at what mid after told whole fits ordered))
+
+-- each pending job's id is below the next
+pub ids_below : (from : ℕ) (jobs : List Job) (next : ℕ) → ArePending from jobs next → AllIdsBelow next jobs
+ids_below from [] next rise = tt
+ids_below from (job ∷ jobs) next rise =
+    let after : job.id + 1 ≤ next = rises (job.id + 1) jobs next rise.2 in
+    (omega (arith, after), ids_below (job.id + 1) jobs next rise.2)

@@ -28,4 +28,5 @@ pub mod LaneOrderLemmas
 pub mod LaneNowLemmas
 pub mod LaneBackLemmas
 pub mod LaneLawLemmas
+pub mod ConfiguredLemmas
 mod LaneRows

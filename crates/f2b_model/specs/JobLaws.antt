@@ -1,14 +1,17 @@
 -- What is proved of lanes and jobs.
-use Rattle.std.specs.Prelude.{◌≡◌, ℕ, ◌≤◌, ◌==◌, Bool, false, Option, Some, None, List, [], ◌++◌}
+use Rattle.std.specs.Prelude.{◌≡◌, ℕ, ◌≤◌, ◌↔◌, ◌==◌, Bool, false, Option, Some, None, List, [], ◌++◌}
 use Rattle.std.specs.List.{list_any}
 use Rattle.f2b_base.specs.declared.addr.Addr.{Addr}
 use Rattle.f2b_base.specs.declared.input.What.{What}
+use Rattle.f2b_base.specs.declared.input.What.TheVariants.{Config}
+use Rattle.f2b_base.specs.declared.jail.Defs.{Defs}
 use Rattle.f2b_base.specs.declared.job.Job.{Job}
 use Rattle.f2b_base.specs.declared.job.LaneId.{LaneId}
+use Rattle.f2b_base.specs.declared.job.UpLane.{UpLane}
 use Rattle.f2b_model.specs.declared.happening.Happening.{Happening}
 use Rattle.f2b_model.specs.Jobs.{Ending, Ledger, pending, settled, head, next_due, settle_in, with_jobs, with_ending, StandFor, ArePending}
-use Rattle.f2b_model.specs.LaneSound.{AreSoundLanes, IsBanStep, IsFitForLanes, IsOrdered, is_banned_in, never}
-use Rattle.f2b_model.specs.Lanes.{Lanes, books, books_now, lanes_step, first_lanes, lanes_now, lanes_from}
+use Rattle.f2b_model.specs.LaneSound.{AreApart, AreSoundLanes, IsBanStep, IsFitForLanes, IsOrdered, is_banned_in, never}
+use Rattle.f2b_model.specs.Lanes.{Lanes, books, books_now, lanes_step, first_lanes, lanes_of, lanes_now, lanes_from}
 use Rattle.f2b_model.specs.Lists.{IsIn}
 use Rattle.f2b_model.specs.Orders.{Held}
 use Rattle.f2b_model.specs.Turns.{Order, numbered, bans_and_unbans, Alternate, last_is_ban}
@@ -45,7 +48,12 @@ pub record JobLaw : Type 0 where
   -- the step of lanes is seen in their pending jobs as its step
   pub now : (base : LaneId → Addr → Bool) (held : List Held) (at : ℕ) (what : What) (mid after : List Held) (told : List Happening) (l : Lanes Ledger) → AreSoundLanes base held l
       → lanes_now (lanes_step books at what mid after told l) ≡ lanes_step books_now at what mid after told (lanes_now l)
+  -- after a configuration exactly its lanes are up
+  pub up : (at : ℕ) (defs : Defs) (mid after : List Held) (told : List Happening) (l : Lanes Ledger) → AreApart (lanes_of defs)
+      → (lane : UpLane) → IsIn lane (lanes_step books at (Config defs) mid after told l).up ↔ IsIn lane (lanes_of defs)
   -- pending jobs stand by id, and are those of the lanes that hold just them, which are sound
   pub bounds : (base : LaneId → Addr → Bool) (held : List Held) (l : Lanes Ledger) → AreSoundLanes base held l → ArePending 0 (lanes_now l).jobs (lanes_now l).next_job
   pub again : (n : Lanes (List Job)) → ArePending 0 n.jobs n.next_job → lanes_now (lanes_from n) ≡ n
   pub back : (base : LaneId → Addr → Bool) (held : List Held) (l : Lanes Ledger) → AreSoundLanes base held l → (left : LaneId → Addr → Bool) × AreSoundLanes left held (lanes_from (lanes_now l))
+  pub bounds_kept : (at : ℕ) (what : What) (mid after : List Held) (told : List Happening) (n : Lanes (List Job)) → at ≤ last_moment → ArePending 0 n.jobs n.next_job
+      → ArePending 0 (lanes_step books_now at what mid after told n).jobs (lanes_step books_now at what mid after told n).next_job

@@ -3,7 +3,7 @@ use Rattle.std.specs.Prelude.{◌≡◌, ℕ, ◌+◌, ◌<◌, ◌≤◌, Bool,
 use Rattle.std.specs.List.{list_any}
 use Rattle.f2b_base.specs.declared.addr.Addr.{Addr}
 use Rattle.f2b_base.specs.declared.input.What.{What}
-use Rattle.f2b_base.specs.declared.input.What.TheVariants.{Ended, Config, Stop}
+use Rattle.f2b_base.specs.declared.input.What.TheVariants.{Config, Stop}
 use Rattle.f2b_base.specs.declared.jail.Defs.{Defs}
 use Rattle.f2b_base.specs.declared.jail.JailDef.{JailDef}
 use Rattle.f2b_base.specs.declared.job.Job.{Job}
@@ -64,10 +64,9 @@ led_to _ mid after = after
 abbrev pub has_jail : Defs → List ℕ → Bool
 has_jail defs name = list_any (λ (d : JailDef). bytes_eq d.name name) defs.jails
 
--- A stop and an ending of a job change no ban, and a configuration none of its jails.
+-- a stop changes no ban, and a configuration none of its jails
 abbrev pub AreAlike : What → List Held → List Held → Type 0
 AreAlike Stop mid after = (jail : List ℕ) (addr : Addr) → is_active mid jail addr ≡ is_active after jail addr
-AreAlike (Ended job outcome) mid after = (jail : List ℕ) (addr : Addr) → is_active mid jail addr ≡ is_active after jail addr
 AreAlike (Config defs) mid after = (jail : List ℕ) (addr : Addr) → has_jail defs jail ≡ true → is_active mid jail addr ≡ is_active after jail addr
 AreAlike _ mid after = Unit {0}
 
