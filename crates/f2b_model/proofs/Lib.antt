@@ -29,4 +29,5 @@ pub mod LaneNowLemmas
 pub mod LaneBackLemmas
 pub mod LaneLawLemmas
 pub mod ConfiguredLemmas
+pub mod FollowLemmas
 mod LaneRows

@@ -8,6 +8,7 @@ use Rattle.f2b_base.specs.declared.jail.ActionDef.{ActionDef}
 use Rattle.f2b_base.specs.declared.job.LaneId.{LaneId}
 use Rattle.f2b_base.specs.declared.job.UpLane.{UpLane}
 
+-- whether two families are one
 abbrev pub same_family : Family → Family → Bool
 same_family Both Both = true
 same_family Inet4 Inet4 = true
@@ -22,11 +23,11 @@ in_family Inet4 (V6 number) = false
 in_family Inet6 (V4 number) = false
 in_family Inet6 (V6 number) = true
 
--- a lane is a jail, the name of an action and a family
+-- whether two lanes are one: a lane is a jail, the name of an action and a family
 abbrev pub same_lane : LaneId → LaneId → Bool
 same_lane a b = bytes_eq a.jail b.jail && (bytes_eq a.action b.action && same_family a.family b.family)
 
--- the same name and family, texts and timeout
+-- whether two actions are one, in name, family, texts and timeout
 abbrev pub same_action : ActionDef → ActionDef → Bool
 same_action a b =
     bytes_eq a.name b.name
@@ -37,6 +38,6 @@ same_action a b =
     && (bytes_eq a.unban b.unban
     && (bytes_eq a.check b.check && a.timeout == b.timeout))))))
 
--- the same jail and the same action
+-- whether two lanes that are up are one, in jail and action
 abbrev pub same_up : UpLane → UpLane → Bool
 same_up a b = bytes_eq a.jail b.jail && same_action a.action b.action

@@ -29,6 +29,7 @@ IsNext now running jobs None = (job : Job) → IsIn job jobs → MayStart now ru
 IsNext now running jobs (Some next) =
     IsIn next jobs × MayStart now running jobs next × ((job : Job) → IsIn job jobs → MayStart now running jobs job → next.id ≤ job.id)
 
+-- what users of lanes and jobs rely on
 pub record JobLaw : Type 0 where
   -- no jobs and no lanes are sound, and each step of sound lanes is
   pub first : AreSoundLanes never [] first_lanes

@@ -34,6 +34,7 @@ is_success (Status status) = int_eq status (pos 0)
 is_success NotStarted = false
 is_success TimedOut = false
 
+-- how a job is settled at once: by a try that succeeds
 abbrev pub settles_how : How → Bool
 settles_how (Tried outcome) = is_success outcome
 
@@ -63,6 +64,7 @@ due_after made (first ∷ second ∷ later) = capped (second.at + 4)
 abbrev pub stands_by : List Ending → Job → Option Job
 stands_by ends job = if is_settled ends then None else Some (record job { tries = length ends; due = due_after job.due ends })
 
+-- the same by all endings
 abbrev pub stands : List Ending → Job → Option Job
 stands endings job = stands_by (endings_of job.id endings) job
 
@@ -76,9 +78,11 @@ settled l = filter (λ job. is_none (stands l.endings job)) l.made
 
 -- ---- the longer lists
 
+-- new jobs stand behind the others
 abbrev pub with_jobs : Ledger → List Job → Ledger
 with_jobs l jobs = record l { made = l.made ++ jobs }
 
+-- so does a new ending
 abbrev pub with_ending : Ledger → Ending → Ledger
 with_ending l e = record l { endings = l.endings ++ e ∷ [] }
 
@@ -92,22 +96,25 @@ pub record StandFor (jobs : List Job) (l : Ledger) : Type 0 where
 abbrev pub head : LaneId → List Job → Option Job
 head lane jobs = find (λ job. same_lane job.lane lane) jobs
 
+-- the job of an id
 abbrev pub job_by_id : ℕ → List Job → Option Job
 job_by_id id jobs = find (λ job. job.id == id) jobs
 
+-- whether there is a job, and it has that id
 abbrev pub has_id : ℕ → Option Job → Bool
 has_id id None = false
 has_id id (Some job) = job.id == id
 
--- the job is the first of its lane
+-- whether the job is the first of its lane
 abbrev pub is_head : List Job → Job → Bool
 is_head jobs job = has_id job.id (head job.lane jobs)
 
+-- whether there is a job, and the first of its lane has that id
 abbrev pub leads : ℕ → List Job → Option Job → Bool
 leads id jobs None = false
 leads id jobs (Some job) = has_id id (head job.lane jobs)
 
--- the job of that id is the first of its lane
+-- whether there is a job of that id, and it is the first of its lane
 abbrev pub is_head_id : ℕ → List Job → Bool
 is_head_id id jobs = leads id jobs (job_by_id id jobs)
 
@@ -137,9 +144,11 @@ after_try job Done = None
 after_try job GivenUp = None
 after_try job (Again due) = Some (record job { tries = job.tries + 1; due = due })
 
+-- a job after an ending, which may be another job's
 abbrev pub after_ending : Ending → Job → Option Job
 after_ending e job = if e.job == job.id then after_try job (settled_as e job) else Some job
 
+-- the pending jobs after an ending
 abbrev pub settle_in : Ending → List Job → List Job
 settle_in e jobs = filter_map (after_ending e) jobs
 
@@ -151,16 +160,19 @@ waited zero = 0
 waited (suc zero) = 2
 waited (suc (suc tries)) = 4
 
--- one moment for its making and all its endings
+-- one moment for the making of a job and all its endings
 abbrev pub made_at : Job → ℕ
 made_at job = job.due - waited job.tries
 
+-- the job as it was made then
 abbrev pub as_made : Job → Job
 as_made job = record job { tries = 0; due = made_at job }
 
+-- a start of a job that failed
 abbrev pub failed_at : ℕ → ℕ → Ending
 failed_at id at = record { job = id; how = Tried NotStarted; at = at }
 
+-- as many failed starts as the job has tries
 abbrev pub tries_of : Job → List Ending
 tries_of job = replicate job.tries (failed_at job.id (made_at job))
 

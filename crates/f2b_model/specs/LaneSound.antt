@@ -21,6 +21,7 @@ use Rattle.f2b_model.specs.Until.{last_moment}
 
 -- ---- at most one
 
+-- none passes the test
 abbrev pub NonePasses : {X : Type 0} → (X → Bool) → List X → Type 0
 NonePasses p xs = list_any p xs ≡ false
 
@@ -119,6 +120,7 @@ abbrev pub AreInOrder : List Ending → List Job → Type 0
 AreInOrder es [] = Unit {0}
 AreInOrder es (job ∷ jobs) = (is_some (stands es job) ≡ true → AllStand job.lane es jobs) × AreInOrder es jobs
 
+-- Ids rise and are below the next one, endings are of jobs that were made, and the jobs of a lane are settled in order of id.
 pub record IsOrdered (l : Ledger) (next : ℕ) : Type 0 where
   pub made : AreMade 0 l.made next
   pub below : AreBelow next l.endings
@@ -126,8 +128,8 @@ pub record IsOrdered (l : Ledger) (next : ℕ) : Type 0 where
 
 -- ---- sound
 
+-- Jobs go in turn and in order, and after a stop no lane is up until a configuration comes.
 pub record AreSoundLanes (base : LaneId → Addr → Bool) (held : List Held) (l : Lanes Ledger) : Type 0 where
   pub turn : IsInTurn base held l
   pub jobs : IsOrdered l.jobs l.next_job
-  -- after a stop no lane is up until a configuration comes
   pub stop : l.stopping ≡ true → l.up ≡ []

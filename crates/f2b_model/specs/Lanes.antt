@@ -36,6 +36,7 @@ books = record { push = with_jobs; settle = with_ending; pending = pending }
 abbrev pub books_now : Books (List Job)
 books_now = record { push = λ jobs new. jobs ++ new; settle = λ jobs e. settle_in e jobs; pending = λ jobs. jobs }
 
+-- the lanes of a jail
 abbrev pub lanes_of_jail : JailDef → List UpLane
 lanes_of_jail d = map (λ (action : ActionDef). record { jail = d.name; action = action }) d.actions
 

@@ -29,6 +29,7 @@ pub record Held : Type 0 where
   pub jail : List ℕ
   pub ban : Banned
 
+-- whether it is the ban of an address in a jail
 abbrev pub is_held_of : List ℕ → Addr → Held → Bool
 is_held_of jail addr h = bytes_eq h.jail jail && same_addr h.ban.addr addr
 
@@ -36,12 +37,15 @@ is_held_of jail addr h = bytes_eq h.jail jail && same_addr h.ban.addr addr
 abbrev pub is_active : List Held → List ℕ → Addr → Bool
 is_active held jail addr = list_any (is_held_of jail addr) held
 
+-- the name of a lane that is up
 abbrev pub lane_id : UpLane → LaneId
 lane_id lane = record { jail = lane.jail; action = lane.action.name; family = lane.action.family }
 
+-- whether it is the lane of that name
 abbrev pub is_lane : LaneId → UpLane → Bool
 is_lane id lane = same_lane (lane_id lane) id
 
+-- whether the lane of that name is up
 abbrev pub is_up : List UpLane → LaneId → Bool
 is_up up id = list_any (is_lane id) up
 
@@ -51,16 +55,19 @@ takes lane h = bytes_eq h.jail lane.jail && in_family lane.action.family h.ban.a
 
 -- ---- one order
 
+-- the command of a kind of job
 abbrev pub template : JobKind → ActionDef → List ℕ
 template Start action = action.start
 template Stop action = action.stop
 template Ban action = action.ban
 template Unban action = action.unban
 
+-- the address of a ban, if there is one
 abbrev pub addr_in : Option Held → Option Addr
 addr_in None = None
 addr_in (Some h) = Some h.ban.addr
 
+-- the family of an address
 abbrev pub family_of : Addr → Family
 family_of (V4 number) = Inet4
 family_of (V6 number) = Inet6

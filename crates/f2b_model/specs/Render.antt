@@ -10,10 +10,12 @@ use Rattle.f2b_model.specs.declared.fill.Fill.{Fill}
 
 -- ---- values
 
+-- the address, or nothing
 abbrev pub ip_text : Option Addr → List ℕ
 ip_text None = []
 ip_text (Some addr) = printed addr
 
+-- a family as commands name it
 abbrev pub family_text : Family → List ℕ
 family_text Both = codes "inet4"
 family_text Inet4 = codes "inet4"
@@ -38,7 +40,7 @@ value_of f name = option_map (λ entry. entry.1) (find (λ entry. bytes_eq entry
 
 -- ---- templates
 
--- what a `<` after this text begins is a group of a pattern
+-- whether a `<` after this text begins the name of a group of a pattern
 abbrev pub opens_group : List ℕ → Bool
 opens_group before = ends_with nat_eq before (codes "(?") || ends_with nat_eq before (codes "(?P")
 
@@ -56,10 +58,12 @@ abbrev pub filled : Option (List ℕ) → List ℕ → List ℕ
 filled None part = 60 ∷ part
 filled (Some value) part = value ++ after_first (λ b. b == 62) part
 
+-- the parts behind a `<`, by the part before each
 abbrev pub filled_after : Fill → List ℕ → List (List ℕ) → List ℕ
 filled_after f before [] = []
 filled_after f before (part ∷ parts) = filled (part_value f before part) part ++ filled_after f part parts
 
+-- all parts, of which the first is behind no `<`
 abbrev pub filled_parts : Fill → List (List ℕ) → List ℕ
 filled_parts f [] = []
 filled_parts f (first ∷ parts) = first ++ filled_after f first parts

@@ -16,6 +16,7 @@ pub record Order : Type 0 where
   pub text : List ℕ
   pub timeout : ℕ
 
+-- the order that a job was made from
 abbrev pub order_of : Job → Order
 order_of job = record { lane = job.lane; kind = job.kind; addr = job.addr; text = job.text; timeout = job.timeout }
 
@@ -51,6 +52,7 @@ abbrev pub follow : LaneId → Addr → Bool → List Order → Option Bool
 follow lane addr b [] = Some b
 follow lane addr b (o ∷ os) = if touches lane addr o then option_and_then (λ c. follow lane addr c os) (turn o.kind b) else follow lane addr b os
 
+-- whether a job bans or takes a ban back
 abbrev pub is_ban_or_unban : JobKind → Bool
 is_ban_or_unban Ban = true
 is_ban_or_unban Unban = true
@@ -68,6 +70,7 @@ Alternate false (Ban ∷ kinds) = Alternate true kinds
 Alternate true (Unban ∷ kinds) = Alternate false kinds
 Alternate _ _ = ⊥
 
+-- whether a job bans
 abbrev pub is_ban : JobKind → Bool
 is_ban Ban = true
 is_ban Unban = false
