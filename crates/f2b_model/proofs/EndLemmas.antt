@@ -102,7 +102,7 @@ all_swap {B = B} R (x ∷ xs) ys a = both ys a.0 (all_swap R xs ys a.1)
     both [] p q = tt
     both (z ∷ zs) p q = ((p.0, q.0), both zs p.1 q.1)
 
-all_not : (addr : Addr) (bs : List Ban) → is_banned addr bs ≡ false → AllOf (λ (b : Ban). same_addr b.addr addr ≡ false) bs
+pub all_not : (addr : Addr) (bs : List Ban) → is_banned addr bs ≡ false → AllOf (λ (b : Ban). same_addr b.addr addr ≡ false) bs
 all_not addr [] h = tt
 all_not addr (b ∷ bs) h =
     by_test (same_addr b.addr addr) _

@@ -16,7 +16,7 @@ use Rattle.f2b_model.specs.Nows.{comes_before, jail_now, jails_now_of, jail_from
 use Rattle.f2b_model.specs.Moves.{fresh}
 use Rattle.f2b_model.specs.NowMoves.{fresh_now}
 use Rattle.f2b_model.specs.Steps.{moves, moves_now, names, is_spent, jails_step, jails_steps, jails_step_now, jails_steps_now, first_jails, first_jails_now}
-use Rattle.f2b_model.specs.Sound.{IsSoundJail, IsGoodJail, AreSoundJails, AreFitDefs, IsFit}
+use Rattle.f2b_model.specs.Sound.{IsSoundJail, IsGoodJail, AreSoundJails, IsFit}
 use Rattle.f2b_model.proofs.ListLemmas.{by_test, filter_both, in_order_filter, in_order_is, in_order_same}
 use Rattle.f2b_model.proofs.FullLemmas.{full_of_part, full_in_order}
 use Rattle.f2b_model.proofs.MarkLemmas.{open_of-all, active_of-all, kept_of-all, failures_order}
@@ -116,11 +116,12 @@ first_good : (ds : List JailDef) → AllOf (λ (d : JailDef). 1 ≤ d.maxretry) 
 first_good [] fit = tt
 first_good (d ∷ ds) fit = (jail_shows.good_fresh 0 d fit.0, first_good ds fit.1)
 
-pub first_sound : (defs : Defs) → AreFitDefs defs → AreSoundJails (first_jails defs)
-first_sound defs fit = record {
+pub first_sound : (defs : Defs) → AllOf (λ (d : JailDef). 1 ≤ d.maxretry) defs.jails → AreDistinct bytes_eq (map (λ (d : JailDef). d.name) defs.jails)
+    → AreSoundJails (first_jails defs)
+first_sound defs least distinct = record {
   at = omega arith;
-  jails = first_good defs.jails fit.maxretry;
-  names = subst (AreDistinct bytes_eq) (sym (fresh_names defs.jails)) fit.names;
+  jails = first_good defs.jails least;
+  names = subst (AreDistinct bytes_eq) (sym (fresh_names defs.jails)) distinct;
 }
 
 -- and its middle state is that of the configuration

@@ -14,3 +14,22 @@ pub mod WindowLemmas
 pub mod StandLemmas
 pub mod PartLemmas
 pub mod Rows
+pub mod PassLemmas
+pub mod SameLemmas
+pub mod JobLemmas
+pub mod OrderLemmas
+pub mod BackLemmas
+pub mod TurnLemmas
+pub mod AlternateLemmas
+pub mod LaneMoveLemmas
+pub mod ToldOrderLemmas
+pub mod InLemmas
+pub mod LaneStepLemmas
+pub mod LaneOrderLemmas
+pub mod LaneNowLemmas
+pub mod LaneBackLemmas
+pub mod LaneLawLemmas
+pub mod ConfiguredLemmas
+pub mod FollowLemmas
+pub mod LeadLemmas
+mod LaneRows

@@ -54,7 +54,7 @@ same_addr_sym (V4 a) (V6 b) = refl
 same_addr_sym (V6 a) (V4 b) = refl
 same_addr_sym (V6 a) (V6 b) = grind (arith, nat_tests)
 
-once_filter : (p : Ban → Bool) (bs : List Ban) → IsOnceEach bs → IsOnceEach (filter p bs)
+pub once_filter : (p : Ban → Bool) (bs : List Ban) → IsOnceEach bs → IsOnceEach (filter p bs)
 once_filter p [] h = tt
 once_filter p (b ∷ bs) h = by_test (p b) _ (λ e. rw e (banned_filter b.addr p bs h.0, once_filter p bs h.1)) (λ e. rw e (once_filter p bs h.1))
 

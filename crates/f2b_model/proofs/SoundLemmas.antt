@@ -131,7 +131,7 @@ begun_orderly at word serial addr failures j h free o =
     rw (open_of-forget (is_of addr) j.failures, active_of-push j.bans b)
     (orderly_begun at j.moment b (open_of j.failures) (active_of j.bans) (kept_of j.endings) free (until_later j.definition.rule at b.count word serial h) o)
 
-not_true : (b : Bool) → not b ≡ true → b ≡ false
+pub not_true : (b : Bool) → not b ≡ true → b ≡ false
 not_true true h = absurd (let k : false ≡ true = h in cc)
 not_true false h = refl
 

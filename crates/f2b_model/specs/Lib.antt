@@ -12,3 +12,12 @@ pub mod Sound
 pub mod Windows
 pub mod Stands
 pub mod Laws
+pub mod Families
+pub mod Jobs
+pub mod Turns
+pub mod Render
+pub mod Orders
+pub mod Lanes
+pub mod LaneSound
+pub mod Active
+pub mod JobLaws

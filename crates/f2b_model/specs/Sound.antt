@@ -1,9 +1,10 @@
 -- Sound states.
-use Rattle.std.specs.Prelude.{◌≡◌, ℕ, ◌<◌, ◌≤◌, false, List, [], ◌∷◌, map, bytes_eq}
+use Rattle.std.specs.Prelude.{◌≡◌, ℕ, ◌<◌, ◌≤◌, Bool, false, ◌&&◌, List, [], ◌∷◌, map, bytes_eq}
 use Rattle.f2b_base.specs.declared.addr.Addr.{Addr}
 use Rattle.f2b_base.specs.declared.ban.Ban.{Ban}
 use Rattle.f2b_base.specs.declared.ban.Failure.{Failure}
 use Rattle.f2b_base.specs.declared.input.Input.{Input}
+use Rattle.f2b_base.specs.declared.jail.ActionDef.{ActionDef}
 use Rattle.f2b_base.specs.declared.jail.Defs.{Defs}
 use Rattle.f2b_base.specs.declared.jail.JailDef.{JailDef}
 use Rattle.f2b_base.specs.declared.jail.WatchDef.{WatchDef}
@@ -12,6 +13,7 @@ use Rattle.f2b_base.specs.declared.ban.Until.{Until}
 use Rattle.f2b_base.specs.declared.ban.Until.TheVariants.{Never, At}
 use Rattle.f2b_base.specs.declared.input.What.{What}
 use Rattle.f2b_base.specs.declared.input.What.TheVariants.{Maxretry, Config}
+use Rattle.f2b_model.specs.Families.{same_family}
 use Rattle.f2b_model.specs.Lists.{AllOf, AreDistinct}
 use Rattle.f2b_model.specs.Full.{IsFull}
 use Rattle.f2b_model.specs.State.{Jail, JailsState, open_of, active_of, kept_of}
@@ -62,6 +64,10 @@ pub record AreSoundJails (s : JailsState) : Type 0 where
   pub jails : AllOf (IsGoodJail s.at) s.jails
   pub names : AreDistinct bytes_eq (names moves s.jails)
 
+-- whether two actions of a jail have one name and one family
+abbrev pub same_kind : ActionDef → ActionDef → Bool
+same_kind a b = bytes_eq a.name b.name && same_family a.family b.family
+
 -- what is asked of a configuration
 pub record AreFitDefs (defs : Defs) : Type 0 where
   -- no address is full at once
@@ -70,6 +76,8 @@ pub record AreFitDefs (defs : Defs) : Type 0 where
   pub names : AreDistinct bytes_eq (map (λ (d : JailDef). d.name) defs.jails)
   -- no two logs of a jail have one path
   pub paths : AllOf (λ (d : JailDef). AreDistinct bytes_eq (map (λ (w : WatchDef). w.path) d.watches)) defs.jails
+  -- no two actions of a jail have one name and one family
+  pub actions : AllOf (λ (d : JailDef). AreDistinct same_kind d.actions) defs.jails
 
 -- what is asked of what happens
 abbrev pub IsFitWhat : What → Type 0

@@ -10,10 +10,14 @@
 //! But for copies and comparisons, no function here does anything.
 #![tactic(auto)]
 
+mod fill;
 mod happening;
 mod jail_now;
+mod job_laws;
 mod laws;
 
+pub use fill::Fill;
 pub use happening::Happening;
 pub use jail_now::JailNow;
+pub use job_laws::job_law;
 pub use laws::{full_law, jails_law};

@@ -23,7 +23,7 @@ first_keeps definition turns answer kept is = record {
   now = is.now;
   word = is.word;
   core = is.core ∙ sym (first_shows (record { purge = 86400; jails = definition ∷ [] }));
-  sound = first_sound (record { purge = 86400; jails = definition ∷ [] }) (is.maxretry, tt);
+  sound = first_sound (record { purge = 86400; jails = definition ∷ [] }) (is.maxretry, tt) (refl, tt);
   seen = is.seen;
 }
 

@@ -1,0 +1,20 @@
+-- The active bans of all jails.
+use Rattle.std.specs.Prelude.{List, [], ◌∷◌, ◌++◌, map}
+use Rattle.f2b_base.specs.declared.ban.Ban.{Ban}
+use Rattle.f2b_model.specs.Orders.{Held}
+use Rattle.f2b_model.specs.State.{World}
+use Rattle.f2b_model.specs.Steps.{Moves, named}
+
+module _ {J : Type 0} (m : Moves J) where
+  -- the active bans of a jail
+  abbrev pub held_in : J → List Held
+  held_in j = map (λ (b : Ban). record { jail = named m j; ban = b }) (m.active j)
+
+  -- the active bans of jails, jail by jail
+  abbrev pub held_by : List J → List Held
+  held_by [] = []
+  held_by (j ∷ js) = held_in j ++ held_by js
+
+  -- the active bans of a world
+  abbrev pub held : World J → List Held
+  held w = held_by w.jails

@@ -1,0 +1,83 @@
+-- How the Ban and Unban jobs of an address follow one another in a lane.
+use Rattle.std.specs.Prelude.{ℕ, ◌+◌, Bool, true, false, ◌&&◌, if◌then◌else◌, Option, Some, None, option_and_then, List, [], ◌∷◌, map, filter}
+use Rattle.f2b_base.specs.declared.addr.Addr.{Addr}
+use Rattle.f2b_base.specs.declared.job.Job.{Job}
+use Rattle.f2b_base.specs.declared.job.JobKind.{JobKind}
+use Rattle.f2b_base.specs.declared.job.JobKind.TheVariants.{Start, Stop, Ban, Unban}
+use Rattle.f2b_base.specs.declared.job.LaneId.{LaneId}
+use Rattle.f2b_model.specs.Families.{same_lane}
+use Rattle.f2b_model.specs.Full.{same_addr}
+
+-- a job without its id, its tries and its due moment
+pub record Order : Type 0 where
+  pub lane : LaneId
+  pub kind : JobKind
+  pub addr : Option Addr
+  pub text : List ℕ
+  pub timeout : ℕ
+
+-- the order that a job was made from
+abbrev pub order_of : Job → Order
+order_of job = record { lane = job.lane; kind = job.kind; addr = job.addr; text = job.text; timeout = job.timeout }
+
+-- the orders as jobs, with ids that count up from `next`, no tries, and due at once
+abbrev pub numbered : ℕ → ℕ → List Order → List Job
+numbered next at [] = []
+numbered next at (o ∷ os) =
+    (record { id = next; lane = o.lane; kind = o.kind; addr = o.addr; text = o.text; timeout = o.timeout; tries = 0; due = at }) ∷ numbered (next + 1) at os
+
+-- whether an order's address is this one: an order of no address, as Start and Stop, is of each
+abbrev pub concerns : Option Addr → Addr → Bool
+concerns None addr = true
+concerns (Some of) addr = same_addr of addr
+
+-- whether an order is of the lane and the address
+abbrev pub touches : LaneId → Addr → Order → Bool
+touches lane addr o = same_lane o.lane lane && concerns o.addr addr
+
+-- whether the address is banned in the lane after a job of that kind, or none where such a job may not come: Ban comes where the
+-- address is not banned, Unban where it is, Start and Stop where it is not
+abbrev pub turn : JobKind → Bool → Option Bool
+turn Ban false = Some true
+turn Ban true = None
+turn Unban true = Some false
+turn Unban false = None
+turn Start false = Some false
+turn Start true = None
+turn Stop false = Some false
+turn Stop true = None
+
+-- whether the address is banned in the lane after these orders, where `b` says whether it was so before
+abbrev pub follow : LaneId → Addr → Bool → List Order → Option Bool
+follow lane addr b [] = Some b
+follow lane addr b (o ∷ os) = if touches lane addr o then option_and_then (λ c. follow lane addr c os) (turn o.kind b) else follow lane addr b os
+
+-- whether a job bans or takes a ban back
+abbrev pub is_ban_or_unban : JobKind → Bool
+is_ban_or_unban Ban = true
+is_ban_or_unban Unban = true
+is_ban_or_unban Start = false
+is_ban_or_unban Stop = false
+
+-- the Ban and Unban jobs of an address in a lane, in order
+abbrev pub bans_and_unbans : LaneId → Addr → List Job → List JobKind
+bans_and_unbans lane addr jobs = map (λ job. job.kind) (filter (λ job. touches lane addr (order_of job) && is_ban_or_unban job.kind) jobs)
+
+-- Ban and Unban in turn, beginning with Ban where the address is not banned before
+abbrev pub Alternate : Bool → List JobKind → Type 0
+Alternate b [] = Unit {0}
+Alternate false (Ban ∷ kinds) = Alternate true kinds
+Alternate true (Unban ∷ kinds) = Alternate false kinds
+Alternate _ _ = ⊥
+
+-- whether a job bans
+abbrev pub is_ban : JobKind → Bool
+is_ban Ban = true
+is_ban Unban = false
+is_ban Start = false
+is_ban Stop = false
+
+-- whether the last is a Ban, or what was before where there is none
+abbrev pub last_is_ban : Bool → List JobKind → Bool
+last_is_ban b [] = b
+last_is_ban b (kind ∷ kinds) = last_is_ban (is_ban kind) kinds
