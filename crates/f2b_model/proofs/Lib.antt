@@ -32,4 +32,5 @@ pub mod LaneLawLemmas
 pub mod ConfiguredLemmas
 pub mod FollowLemmas
 pub mod LeadLemmas
+pub mod HeldLemmas
 mod LaneRows
