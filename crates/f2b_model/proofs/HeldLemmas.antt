@@ -36,7 +36,7 @@ use Rattle.f2b_model.proofs.NameLemmas.{moves_now_names, by_time_name, each_name
 use Rattle.f2b_model.proofs.SameLemmas.{bytes_eq-true, same_addr-true}
 use Rattle.f2b_model.proofs.StepLemmas.{all_of-map}
 
-bytes_swap : (a b : List ℕ) → bytes_eq a b ≡ bytes_eq b a
+pub bytes_swap : (a b : List ℕ) → bytes_eq a b ≡ bytes_eq b a
 bytes_swap a b =
     same_test (bytes_eq a b) (bytes_eq b a)
     (λ h. (bytes_decides b a).1 (sym (bytes_eq-true a b h)))
@@ -319,7 +319,7 @@ done_alike word (Ended job outcome) w fit d = tt
 
 -- ---- no address is held twice
 
-at_most_append : {X : Type 0} (p : X → Bool) (xs ys : List X) → AtMostOne p xs → AtMostOne p ys → (list_any p xs ≡ true → NonePasses p ys) → AtMostOne p (xs ++ ys)
+pub at_most_append : {X : Type 0} (p : X → Bool) (xs ys : List X) → AtMostOne p xs → AtMostOne p ys → (list_any p xs ≡ true → NonePasses p ys) → AtMostOne p (xs ++ ys)
 at_most_append p [] ys a b h = b
 at_most_append p (x ∷ xs) ys a b h = (
   λ t. (let first : list_any p (x ∷ xs) ≡ true = rw t refl in list_any-append p xs ys ∙ (rw (a.0 t, h first) refl)),

@@ -155,9 +155,11 @@ none_banned (x ∷ xs) = (refl, none_banned xs)
 own_banned : (bs : List Ban) → AllOf (λ (b : Ban). is_banned b.addr bs ≡ true) bs
 own_banned [] = tt
 own_banned (b ∷ bs) =
-    let here = same_addr_same b.addr in
-    ((rw here refl), all_of-more (λ (c : Ban). is_banned c.addr bs ≡ true) (λ (c : Ban). is_banned c.addr (b ∷ bs) ≡ true)
-    (λ c h. by_test (same_addr b.addr c.addr) _ (λ e. rw e refl) (λ e. rw e h)) bs (own_banned bs))
+    let here = same_addr_same b.addr in (
+      (rw here refl),
+      all_of-more (λ (c : Ban). is_banned c.addr bs ≡ true) (λ (c : Ban). is_banned c.addr (b ∷ bs) ≡ true)
+          (λ c h. by_test (same_addr b.addr c.addr) _ (λ e. rw e refl) (λ e. rw e h)) bs (own_banned bs),
+    )
 
 pub leads_by_time : (at : ℕ) (j : JailNow) → IsOnceEach j.bans → Leads j.definition.name (told_ends moves_now at j) j.bans (ended_by_time moves_now at j).bans
 leads_by_time at j once =

@@ -33,4 +33,7 @@ pub mod ConfiguredLemmas
 pub mod FollowLemmas
 pub mod LeadLemmas
 pub mod HeldLemmas
+pub mod BanStepLemmas
+pub mod FitLemmas
+pub mod WholeLemmas
 mod LaneRows

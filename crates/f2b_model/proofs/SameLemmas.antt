@@ -47,14 +47,14 @@ addr_same : (a : Addr) → same_addr a a ≡ true
 addr_same (V4 x) = eq-eqb x x refl
 addr_same (V6 x) = eq-eqb x x refl
 
-family_same : (f : Family) → same_family f f ≡ true
-family_same Both = refl
-family_same Inet4 = refl
-family_same Inet6 = refl
+pub same_family-same : (f : Family) → same_family f f ≡ true
+same_family-same Both = refl
+same_family-same Inet4 = refl
+same_family-same Inet6 = refl
 
 pub same_lane-same : (a : LaneId) → same_lane a a ≡ true
 same_lane-same a = and_from (bytes_eq a.jail a.jail) _ ((bytes_decides a.jail a.jail).1 refl)
-    (and_from (bytes_eq a.action a.action) (same_family a.family a.family) ((bytes_decides a.action a.action).1 refl) (family_same a.family))
+    (and_from (bytes_eq a.action a.action) (same_family a.family a.family) ((bytes_decides a.action a.action).1 refl) (same_family-same a.family))
 
 -- ---- a test that decides equality is the same both ways
 

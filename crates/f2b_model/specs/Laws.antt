@@ -1,19 +1,26 @@
 -- What is proved of the model.
-use Rattle.std.specs.Prelude.{◌≡◌, ℕ, ◌+◌, ◌-◌, ◌*◌, ◌<◌, ◌≤◌, ◌↔◌, true, List, [], ◌∷◌, ◌++◌, length, filter}
+use Rattle.std.specs.Prelude.{◌≡◌, ℕ, ◌+◌, ◌-◌, ◌*◌, ◌<◌, ◌≤◌, ◌↔◌, true, false, List, [], ◌∷◌, ◌++◌, length, filter, None}
 use Rattle.f2b_base.specs.declared.addr.Addr.{Addr}
 use Rattle.f2b_base.specs.declared.ban.Failure.{Failure}
 use Rattle.f2b_base.specs.declared.input.Input.{Input}
 use Rattle.f2b_base.specs.declared.jail.Defs.{Defs}
 use Rattle.f2b_base.specs.declared.jail.JailDef.{JailDef}
+use Rattle.f2b_base.specs.declared.job.LaneId.{LaneId}
 use Rattle.f2b_model.specs.declared.jail_now.JailNow.{JailNow}
 use Rattle.f2b_model.specs.Lists.{AllOf, placed}
 use Rattle.f2b_model.specs.Full.{IsFull, IsFullByChoice, is_full, is_late}
 use Rattle.f2b_model.specs.State.{JailsState}
 use Rattle.f2b_model.specs.Nows.{comes_before, JailsNow, jails_now_of, jails_from}
-use Rattle.f2b_model.specs.Steps.{moves, moves_now, jails_step, jails_steps, jails_step_now, first_jails, first_jails_now}
-use Rattle.f2b_model.specs.Sound.{AreFitDefs, IsFit, IsNumbered, AreSoundJails}
+use Rattle.f2b_model.specs.Steps.{moves, moves_now, is_spent, at_reading, jails_step, jails_steps, jails_step_now, first_jails, first_jails_now}
+use Rattle.f2b_model.specs.Sound.{AreFitDefs, IsFit, IsNumbered, IsSound, IsSoundView, AreSoundJails}
 use Rattle.f2b_model.specs.Stands.{StandsFor, IsShown}
 use Rattle.f2b_model.specs.Told.{jails_told}
+use Rattle.f2b_model.specs.Active.{held}
+use Rattle.f2b_model.specs.LaneSound.{IsBanStep, is_banned_in}
+use Rattle.f2b_model.specs.Jobs.{pending, settled, head}
+use Rattle.f2b_model.specs.Turns.{bans_and_unbans, Alternate, last_is_ban}
+use Rattle.f2b_model.specs.Views.{view_of, back, empty_view}
+use Rattle.f2b_model.specs.Whole.{State, now_of, step, steps, step_now, told, told_now, empty_state}
 use Rattle.f2b_model.specs.Windows.{IsRising, IsFullBy, HasRun}
 
 -- in each jail the serials of the active bans rise, and all are below the next one
@@ -34,6 +41,9 @@ pub record JailsLaw : Type 0 where
   pub later : (s : JailsState) (inputs : List Input) → AllOf IsFit inputs → AreSoundJails s → jails_now_of (jails_steps (jails_from (jails_now_of s)) inputs) ≡ jails_now_of (jails_steps s inputs)
   -- what always holds of a middle state
   pub bounds : (s : JailsState) → AreSoundJails s → AllOf (IsShown s.at) (jails_now_of s).jails
+  -- what a step tells leads from the active bans before it to those after it: so lanes can follow it
+  pub leads : (s : JailsState) (input : Input) → is_spent s ≡ false → IsFit input → AreSoundJails s
+      → IsBanStep input.what (held moves s) (held moves (at_reading moves input.secs s)) (held moves (jails_step s input)) (jails_told moves s input)
   pub numbered : (n : JailsNow) (input : Input) → AreNumbered n → AreNumbered (jails_step_now n input)
 
 pub record FullLaw : Type 0 where
@@ -49,3 +59,27 @@ pub record FullLaw : Type 0 where
       → StandsFor now findtime (filter (is_late now findtime) (placed comes_before f kept)) (whole ++ f ∷ [])
   pub full : (now findtime maxretry : ℕ) (kept whole : List Failure) (f : Failure) → (IsFull findtime maxretry f.addr whole → ⊥) → now < f.time + findtime
       → StandsFor now findtime kept (whole ++ f ∷ []) → IsFull findtime maxretry f.addr (whole ++ f ∷ []) ↔ IsFull findtime maxretry f.addr kept
+
+pub record WholeLaw : Type 0 where
+  -- the step of a state is seen in the middle state as its step, and tells the same
+  pub now : (s : State) (input : Input) → IsFit input → IsSound s → now_of (step s input) ≡ step_now (now_of s) input
+  pub tells : (s : State) (input : Input) → IsFit input → IsSound s → told s input ≡ told_now (now_of s) input
+  -- a step keeps soundness
+  pub sound : (s : State) (input : Input) → IsFit input → IsSound s → IsSound (step s input)
+  -- the empty state is sound, and its view is empty
+  pub empty : IsSound empty_state
+  pub empty_is : view_of empty_state ≡ empty_view
+  -- a state's view gives back a sound state with that view
+  pub again : (s : State) → IsSound s → view_of (back (view_of s)) ≡ view_of s
+  pub again_sound : (s : State) → IsSound s → IsSound (back (view_of s))
+  pub shown : (s : State) → IsSound s → IsSoundView (view_of s)
+  -- whatever comes, the state that a view gives back goes on as the state that it was taken of: many runs are one
+  pub later : (s : State) (inputs : List Input) → AllOf IsFit inputs → IsSound s → view_of (steps (back (view_of s)) inputs) ≡ view_of (steps s inputs)
+  -- what a step tells depends on the view alone
+  pub told_alike : (s t : State) (input : Input) → IsFit input → IsSound s → IsSound t → view_of s ≡ view_of t → told s input ≡ told t input
+  -- over all jobs that were ever made, the bans and unbans of an address in a lane alternate, beginning with a ban
+  pub alternate : (inputs : List Input) → AllOf IsFit inputs → (id : LaneId) (addr : Addr) → Alternate false (bans_and_unbans id addr (steps empty_state inputs).lanes.jobs.made)
+  -- where a lane has no pending job, the addresses whose last settled job is a ban are the active ones of its family where it is up, and none where it is down
+  pub settled : (inputs : List Input) → AllOf IsFit inputs → (id : LaneId) (addr : Addr) → head id (pending (steps empty_state inputs).lanes.jobs) ≡ None
+      → last_is_ban false (bans_and_unbans id addr (settled (steps empty_state inputs).lanes.jobs))
+      ≡ is_banned_in (steps empty_state inputs).lanes.up (held moves (steps empty_state inputs).world) id addr

@@ -20,4 +20,6 @@ pub mod Orders
 pub mod Lanes
 pub mod LaneSound
 pub mod Active
+pub mod Whole
+pub mod Views
 pub mod JobLaws

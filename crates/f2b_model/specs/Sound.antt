@@ -8,6 +8,8 @@ use Rattle.f2b_base.specs.declared.jail.ActionDef.{ActionDef}
 use Rattle.f2b_base.specs.declared.jail.Defs.{Defs}
 use Rattle.f2b_base.specs.declared.jail.JailDef.{JailDef}
 use Rattle.f2b_base.specs.declared.jail.WatchDef.{WatchDef}
+use Rattle.f2b_base.specs.declared.job.LaneId.{LaneId}
+use Rattle.f2b_base.specs.declared.view.View.{View}
 use Rattle.f2b_base.specs.declared.ban.Past.{Past}
 use Rattle.f2b_base.specs.declared.ban.Until.{Until}
 use Rattle.f2b_base.specs.declared.ban.Until.TheVariants.{Never, At}
@@ -20,6 +22,10 @@ use Rattle.f2b_model.specs.State.{Jail, JailsState, open_of, active_of, kept_of}
 use Rattle.f2b_model.specs.Until.{last_moment}
 use Rattle.f2b_model.specs.Moves.{is_banned}
 use Rattle.f2b_model.specs.Steps.{moves, names}
+use Rattle.f2b_model.specs.Active.{held}
+use Rattle.f2b_model.specs.LaneSound.{AreSoundLanes}
+use Rattle.f2b_model.specs.Views.{view_of, back}
+use Rattle.f2b_model.specs.Whole.{State}
 
 -- what the step asks of a jail, so that its middle state tells all: no address is full, and the moment is not to come
 pub record IsSoundJail (at : ℕ) (j : Jail) : Type 0 where
@@ -99,3 +105,18 @@ IsRisingSerials (b ∷ bs) = AllOf (λ (c : Ban). b.serial < c.serial) bs × IsR
 pub record IsNumbered (next : ℕ) (bs : List Ban) : Type 0 where
   pub rising : IsRisingSerials bs
   pub below : AllOf (λ (b : Ban). b.serial < next) bs
+
+-- The jails are sound, and the lanes are for the bans that are active. `base` says who was banned in a lane before the first job.
+pub record IsSoundFrom (base : LaneId → Addr → Bool) (s : State) : Type 0 where
+  pub jails : AreSoundJails s.world
+  pub lanes : AreSoundLanes base (held moves s.world) s.lanes
+
+-- a sound state
+pub record IsSound (s : State) : Type 0 where
+  pub base : LaneId → Addr → Bool
+  pub from : IsSoundFrom base s
+
+-- a view that the state of it has, which is sound
+pub record IsSoundView (v : View) : Type 0 where
+  pub sound : IsSound (back v)
+  pub same : view_of (back v) ≡ v

@@ -1,7 +1,7 @@
 //! The laws of the model, each as the contract of a function that does nothing.
-ghost use Rattle.f2b_model.specs.Laws.{FullLaw, JailsLaw};
+ghost use Rattle.f2b_model.specs.Laws.{FullLaw, JailsLaw, WholeLaw};
 
-/// A state's middle state is all that matters of it, whatever comes, and what a step keeps.
+/// The jails' middle state is all that matters of them, whatever comes, what a step keeps, and what it tells the lanes.
 pub fn jails_law()
     ensures { JailsLaw }
 {}
@@ -9,4 +9,9 @@ pub fn jails_law()
 /// When an address is full, in its three forms, and what may be forgotten.
 pub fn full_law()
     ensures { FullLaw }
+{}
+
+/// The whole model: a view is all that matters of a state, over any number of runs, and the jobs of lanes go in turn.
+pub fn whole_law()
+    ensures { WholeLaw }
 {}

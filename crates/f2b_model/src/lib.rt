@@ -1,11 +1,15 @@
-//! What the server's failures and bans mean: the state, the step that each input makes, and what a step tells.
+//! What the server means: the state, the step that each input makes, what a step tells, and the jobs that it orders.
 //!
-//! The definitions stand in `specs/` and are what contracts of other crates cite. A `State` keeps every failure and ban that ever
-//! was, with marks. A `Now` is its middle state: what still matters of it, which is what code keeps. One step is defined once, over
-//! either. The laws in `laws.rt` say that both steps agree, what soundness is kept, and when an address is full.
+//! The definitions stand in `specs/` and are what contracts of other crates cite. A `State` keeps all that ever happened: every
+//! failure and ban with marks, every job and every ending of one. A `Now` is its middle state: what still matters of it, which is what
+//! code keeps. A `View` is a `Now` as it is stored over a stop. One step is defined once, over either of the first two.
 //!
-//! This cut speaks of failures and bans alone. Jobs of actions, lanes, followed logs, the lists of addresses that are never banned
-//! and stopping are no part of the state yet: inputs that speak of them leave it as it is.
+//! The model has two halves. The jails (`JailsState`, `jails_step`) have failures, bans, ignore lists and places of logs, and know of no
+//! lane. The lanes (`Lanes`, `lanes_step`) have jobs, and know of no jail: they take what a step of the jails told, and which bans are
+//! active. `Whole` joins both.
+//!
+//! The laws in `laws.rt` and `job_laws.rt` say that the steps agree, what soundness they keep, when an address is full, that a view is
+//! all that matters however often the server is stopped, and that the bans and unbans of an address go in turn in each lane.
 //!
 //! But for copies and comparisons, no function here does anything.
 #![tactic(auto)]
@@ -20,4 +24,4 @@ pub use fill::Fill;
 pub use happening::Happening;
 pub use jail_now::JailNow;
 pub use job_laws::job_law;
-pub use laws::{full_law, jails_law};
+pub use laws::{full_law, jails_law, whole_law};

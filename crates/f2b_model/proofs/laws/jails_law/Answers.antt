@@ -1,3 +1,4 @@
+use Rattle.f2b_model.proofs.BanStepLemmas.{ban_step}
 use Rattle.f2b_model.proofs.LawLemmas.{now_step, sound_step, first_sound, first_shows, now_again, back_sound, now_later}
 use Rattle.f2b_model.proofs.NumberLemmas.{step_numbered}
 use Rattle.f2b_model.proofs.StandLemmas.{all_shown}
@@ -15,5 +16,6 @@ returns c = record {
   back = back_sound;
   later = now_later;
   bounds = λ s sound. all_shown s.at s.jails sound.jails;
+  leads = ban_step;
   numbered = step_numbered;
 }
