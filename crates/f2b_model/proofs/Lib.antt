@@ -36,4 +36,5 @@ pub mod HeldLemmas
 pub mod BanStepLemmas
 pub mod FitLemmas
 pub mod WholeLemmas
+mod Histories
 mod LaneRows
