@@ -30,4 +30,5 @@ pub mod LaneBackLemmas
 pub mod LaneLawLemmas
 pub mod ConfiguredLemmas
 pub mod FollowLemmas
+pub mod RenderLemmas
 mod LaneRows

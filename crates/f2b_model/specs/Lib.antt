@@ -19,3 +19,4 @@ pub mod Orders
 pub mod Lanes
 pub mod LaneSound
 pub mod JobLaws
+pub mod RenderLaws
