@@ -1,6 +1,6 @@
 -- After a configuration exactly its lanes are up.
-use Rattle.std.proofs.Common.{ℕ, ◌≡◌, ◌⊎◌, inl, inr, Bool, true, false, not, ◌&&◌, List, [], ◌∷◌, ◌++◌, filter, refl, sym, ap, ◌∙◌}
-use Rattle.std.specs.Prelude.{◌==◌, ◌↔◌}
+use Rattle.std.proofs.Common.{ℕ, ◌≡◌, ◌⊎◌, inl, inr, true, false, not, List, [], ◌∷◌, filter, sym, ap, ◌∙◌}
+use Rattle.std.specs.Prelude.{◌↔◌}
 use Rattle.std.specs.Str.{bytes_eq}
 use Rattle.std.proofs.lemmas.Bool.{cases_Bool, and_parts, eqb-true, both_ways}
 use Rattle.f2b_base.specs.declared.addr.Family.{Family}
@@ -11,7 +11,7 @@ use Rattle.f2b_base.specs.declared.job.UpLane.{UpLane}
 use Rattle.f2b_model.specs.declared.happening.Happening.{Happening}
 use Rattle.f2b_model.specs.Families.{same_action, same_family, same_up}
 use Rattle.f2b_model.specs.LaneSound.{AreApart}
-use Rattle.f2b_model.specs.Lanes.{Books, Lanes, issue, lane_up, all_up, others_down, missing_up, lanes_step, lanes_of, is_among}
+use Rattle.f2b_model.specs.Lanes.{Books, Lanes, issue, lane_up, all_up, others_down, missing_up, lanes_step, lanes_of}
 use Rattle.f2b_model.specs.Lists.{IsIn}
 use Rattle.f2b_model.specs.Orders.{Held, lane_id, is_lane, is_up, told_orders}
 use Rattle.f2b_model.proofs.InLemmas.{any_in, none_in, in_filter, filter_in, in_append, append_in_left, append_in_right}

@@ -1,16 +1,14 @@
 -- What a list of told things leads to, from what its parts lead to.
-use Rattle.std.proofs.Common.{ℕ, ◌≡◌, inl, inr, Bool, true, false, not, ◌&&◌, ◌||◌, if◌then◌else◌, Option, Some, None, List, [], ◌∷◌, ◌++◌, refl, sym, ap, ◌∙◌}
+use Rattle.std.proofs.Common.{ℕ, ◌≡◌, inl, inr, Bool, true, false, not, ◌&&◌, ◌||◌, Option, Some, None, List, [], ◌∷◌, ◌++◌, refl, ap, ◌∙◌}
 use Rattle.std.specs.Prelude.{option_and_then}
 use Rattle.std.proofs.lemmas.Bool.{cases_Bool, and_parts}
 use Rattle.f2b_base.specs.declared.addr.Addr.{Addr}
 use Rattle.f2b_base.specs.declared.ban.Ban.{Ban as Banned}
-use Rattle.f2b_base.specs.declared.job.JobKind.TheVariants.{Ban, Unban}
 use Rattle.f2b_model.specs.declared.happening.Happening.{Happening}
 use Rattle.f2b_model.specs.declared.happening.Happening.TheVariants.{Counts, Begins, Ends}
 use Rattle.f2b_model.specs.Full.{same_addr}
 use Rattle.f2b_model.specs.LaneSound.{Follows, follow_one, follow_told}
 use Rattle.f2b_model.specs.Orders.{Held, is_held_of, is_active}
-use Rattle.f2b_model.specs.Turns.{turn}
 use Rattle.f2b_model.proofs.SameLemmas.{bytes_eq-true, same_addr-true}
 
 then_told : (jail : List ℕ) (addr : Addr) (r : Option Bool) (xs ys : List Happening)

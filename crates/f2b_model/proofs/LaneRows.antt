@@ -1,5 +1,5 @@
 -- Worked rows of lanes, jobs and commands, which compute from the definitions alone.
-use Rattle.std.proofs.Common.{ℕ, zero, suc, ◌≡◌, false, Option, Some, None, List, [], ◌∷◌, ◌++◌, map, refl, pos}
+use Rattle.std.proofs.Common.{ℕ, zero, suc, ◌≡◌, Bool, true, false, ◌||◌, arith, Option, Some, None, List, [], ◌∷◌, ◌++◌, map, refl, pos}
 use Rattle.std.specs.Fmt.{digits}
 use Rattle.std.specs.Prelude.{codes, option_map}
 use Rattle.f2b_base.specs.declared.addr.Addr.TheVariants.{V4, V6}
@@ -21,10 +21,14 @@ use Rattle.f2b_base.specs.declared.job.Settled.TheVariants.{Done, GivenUp}
 use Rattle.f2b_base.specs.Addresses.{printed, octets}
 use Rattle.f2b_model.specs.declared.fill.Fill.{Fill}
 use Rattle.f2b_model.specs.declared.happening.Happening.TheVariants.{Begins, Ends}
-use Rattle.f2b_model.specs.Jobs.{Tried, Ledger, pending, settled_as, job_by_id, next_due}
-use Rattle.f2b_model.specs.Lanes.{Lanes, books, lanes_step, first_lanes, lanes_now, lanes_from}
-use Rattle.f2b_model.specs.Orders.{Held, fill_of}
+use Rattle.f2b_model.specs.Jobs.{Tried, Ledger, pending, settled, settled_as, job_by_id, next_due}
+use Rattle.f2b_model.specs.LaneSound.{AreApart, AreSoundLanes, IsHeldOnce, never}
+use Rattle.f2b_model.specs.Lanes.{Lanes, books, lanes_step, first_lanes, lanes_of, lanes_now, lanes_from}
+use Rattle.f2b_model.specs.Orders.{Held, is_held_of, fill_of}
 use Rattle.f2b_model.specs.Render.{rendered}
+use Rattle.f2b_model.specs.Turns.{bans_and_unbans, last_is_ban}
+use Rattle.f2b_model.proofs.FollowLemmas.{follows_nothing, follows_begin}
+use Rattle.f2b_model.proofs.LaneOrderLemmas.{sound_kept, first_sound}
 
 -- ---- a server with one jail `s`
 
@@ -171,6 +175,36 @@ same_again = refl
 
 then_next : next_id 1002 [] (lanes_from (lanes_now (calm 1002 (Ended 0 (Status (pos 0))) held banned))) ≡ Some 1
 then_next = refl
+
+-- ---- these steps meet what the laws ask
+
+apart : AreApart (lanes_of (record { purge = 86400; jails = jail (action 1 [] ∷ []) ∷ [] }))
+apart = record { one = λ id. ((λ h. refl), tt) }
+
+none_held : IsHeldOnce []
+none_held = record { one = λ jail addr. tt }
+
+once : IsHeldOnce held
+once = record { one = λ jail addr. ((λ h. refl), tt) }
+
+one_sound : AreSoundLanes never [] one_lane
+one_sound =
+    sound_kept never 1000 (configured (action 1 [] ∷ [])) [] [] [] [] first_lanes (omega arith) apart
+    (record { leads = follows_nothing [] [] (λ jail addr. refl); alike = λ jail addr h. refl; mid_once = none_held; after_once = none_held }) first_sound
+
+banned_sound : AreSoundLanes never held banned
+banned_sound =
+    sound_kept never 1001 Tick [] held held (Begins (codes "s") ban ∷ []) one_lane (omega arith) tt
+    (record { leads = follows_begin (codes "s") ban [] held refl (λ jail addr. or_false (is_held_of jail addr (record { jail = codes "s"; ban = ban }))); alike = tt; mid_once = once; after_once = once })
+    one_sound
+  where
+    or_false : (b : Bool) → (b || false) ≡ b
+    or_false true = refl
+    or_false false = refl
+
+-- the last settled job of the address is a Ban
+last_says : last_is_ban false (bans_and_unbans (record { jail = codes "s"; action = 1 ∷ []; family = Both }) (V4 7) (settled settled_all.jobs)) ≡ true
+last_says = refl
 
 -- ---- many lanes
 

@@ -37,4 +37,5 @@ pub mod BanStepLemmas
 pub mod FitLemmas
 pub mod WholeLemmas
 mod Histories
+pub mod RenderLemmas
 mod LaneRows

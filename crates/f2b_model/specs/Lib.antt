@@ -23,3 +23,4 @@ pub mod Active
 pub mod Whole
 pub mod Views
 pub mod JobLaws
+pub mod RenderLaws

@@ -1,7 +1,13 @@
-//! The laws of lanes and jobs, as the contract of a function that does nothing.
+//! The laws of lanes, jobs and commands, each as the contract of a function that does nothing.
 ghost use Rattle.f2b_model.specs.JobLaws.{JobLaw};
+ghost use Rattle.f2b_model.specs.RenderLaws.{RenderLaw};
 
 /// Jobs of bans go in turn in each lane, pending jobs stand for all jobs, and what a step keeps.
 pub fn job_law()
     ensures { JobLaw }
+{}
+
+/// Which parts of a command's template are tags, and that what a value contains is not read again.
+pub fn render_law()
+    ensures { RenderLaw }
 {}

@@ -23,5 +23,5 @@ mod laws;
 pub use fill::Fill;
 pub use happening::Happening;
 pub use jail_now::JailNow;
-pub use job_laws::job_law;
+pub use job_laws::{job_law, render_law};
 pub use laws::{full_law, jails_law, whole_law};
