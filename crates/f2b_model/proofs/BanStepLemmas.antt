@@ -1,5 +1,5 @@
 -- What the lanes take from a step of sound jails.
-use Rattle.std.proofs.Common.{◌≡◌, ℕ, ◌≤◌, false, List, [], ◌∷◌, ◌++◌, map, refl, sym, ◌∙◌, ap, subst}
+use Rattle.std.proofs.Common.{◌≡◌, ℕ, false, List, [], ◌∷◌, ◌++◌, map, refl, sym, ◌∙◌, ap, subst}
 use Rattle.std.specs.Prelude.{bytes_eq}
 use Rattle.f2b_base.specs.declared.ban.Ban.{Ban}
 use Rattle.f2b_base.specs.declared.input.Input.{Input}
@@ -8,11 +8,11 @@ use Rattle.f2b_model.specs.declared.jail_now.JailNow.{JailNow}
 use Rattle.f2b_model.specs.Active.{held_in, held_by, held}
 use Rattle.f2b_model.specs.LaneSound.{IsBanStep}
 use Rattle.f2b_model.specs.Lists.{AllOf, AreDistinct}
-use Rattle.f2b_model.specs.Nows.{JailsNow, jail_now, jails_now_of, jail_from, jails_from}
+use Rattle.f2b_model.specs.Nows.{JailsNow, jail_now, jails_now_of, jail_from}
 use Rattle.f2b_model.specs.Orders.{Held}
 use Rattle.f2b_model.specs.Sound.{AreSoundJails, IsFit, IsGoodJail, IsOnceEach}
 use Rattle.f2b_model.specs.State.{Jail, JailsState}
-use Rattle.f2b_model.specs.Steps.{moves, moves_now, named, names, is_spent, ended_by_time, raised, at_reading, jails_step, jails_step_now}
+use Rattle.f2b_model.specs.Steps.{moves, moves_now, names, is_spent, ended_by_time, raised, at_reading, jails_step, jails_step_now}
 use Rattle.f2b_model.specs.Told.{jails_told}
 use Rattle.f2b_model.proofs.HeldLemmas.{now_ban_step}
 use Rattle.f2b_model.proofs.LawLemmas.{now_step, sound_step}

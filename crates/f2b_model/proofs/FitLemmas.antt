@@ -1,5 +1,5 @@
 -- The lanes of a configuration whose jails have distinct names, and whose jails have no action twice, are apart.
-use Rattle.std.proofs.Common.{◌≡◌, ℕ, Bool, true, false, ◌&&◌, List, [], ◌∷◌, ◌++◌, map, refl, sym, ◌∙◌, ap, ap₂}
+use Rattle.std.proofs.Common.{◌≡◌, ℕ, true, false, ◌&&◌, List, [], ◌∷◌, map, refl, sym, ◌∙◌, ap}
 use Rattle.std.specs.Prelude.{bytes_eq}
 use Rattle.std.specs.List.{list_any, flat_map}
 use Rattle.std.specs.Cmp.Lexicographic.{bytes_decides}
@@ -12,7 +12,7 @@ use Rattle.f2b_base.specs.declared.jail.Defs.{Defs}
 use Rattle.f2b_base.specs.declared.jail.JailDef.{JailDef}
 use Rattle.f2b_base.specs.declared.job.LaneId.{LaneId}
 use Rattle.f2b_base.specs.declared.job.UpLane.{UpLane}
-use Rattle.f2b_model.specs.Families.{same_family, same_lane}
+use Rattle.f2b_model.specs.Families.{same_family}
 use Rattle.f2b_model.specs.LaneSound.{AreApart, AtMostOne, IsFitForLanes}
 use Rattle.f2b_model.specs.Lanes.{lanes_of, lanes_of_jail}
 use Rattle.f2b_model.specs.Lists.{AllOf, AreDistinct}

@@ -1,5 +1,5 @@
 -- What a step of the jails tells leads from the active bans before it to those after it.
-use Rattle.std.proofs.Common.{◌≡◌, ℕ, ◌≤◌, max, Bool, true, false, cond, not, ◌&&◌, ◌||◌, ◌==◌, Some, List, [], ◌∷◌, ◌++◌, map, refl, sym, ◌∙◌, ap, ap₂, subst, ℤ}
+use Rattle.std.proofs.Common.{◌≡◌, ℕ, max, Bool, true, false, cond, ◌&&◌, ◌||◌, ◌==◌, Some, List, [], ◌∷◌, ◌++◌, map, refl, sym, ◌∙◌, ap, ap₂, subst}
 use Rattle.std.specs.Prelude.{bytes_eq, option_and_then, Option, None}
 use Rattle.std.specs.List.{filter, list_any}
 use Rattle.std.specs.Cmp.Lexicographic.{bytes_decides}
@@ -13,26 +13,24 @@ use Rattle.f2b_base.specs.declared.input.What.{What}
 use Rattle.f2b_base.specs.declared.input.What.TheVariants.{Tick, Read, Ended, Config, Stop, Ban as BanThese, Unban, Attempt, Ignore, Findtime, Bantime, Maxretry, Idle}
 use Rattle.f2b_base.specs.declared.jail.Defs.{Defs}
 use Rattle.f2b_base.specs.declared.jail.JailDef.{JailDef}
-use Rattle.f2b_base.specs.declared.jail.Place.{Place}
 use Rattle.f2b_model.specs.declared.happening.Happening.{Happening}
 use Rattle.f2b_model.specs.declared.jail_now.JailNow.{JailNow}
 use Rattle.f2b_model.specs.Active.{held_in, held_by, held}
 use Rattle.f2b_model.specs.Full.{same_addr}
-use Rattle.f2b_model.specs.LaneSound.{AtMostOne, IsBanStep, IsHeldOnce, Follows, AreAlike, NonePasses, follow_told, has_jail, led_to}
+use Rattle.f2b_model.specs.LaneSound.{AtMostOne, IsBanStep, Follows, AreAlike, NonePasses, follow_told, led_to}
 use Rattle.f2b_model.specs.Lists.{AllOf, AreDistinct, in_order}
 use Rattle.f2b_model.specs.Moves.{Out, is_banned}
 use Rattle.f2b_model.specs.NowMoves.{dropped_now, found_now, banned_now}
-use Rattle.f2b_model.specs.Nows.{JailsNow, jail_now, jails_now_of}
-use Rattle.f2b_model.specs.Orders.{Held, is_held_of, is_active}
-use Rattle.f2b_model.specs.Sound.{AreSoundJails, IsFit, IsFitWhat, IsOnceEach}
-use Rattle.f2b_model.specs.State.{Jail, JailsState}
-use Rattle.f2b_model.specs.Steps.{moves, moves_now, named, names, is_spent, is_due, own_end, ends_before, is_meant_jail, ended_by_time, unbanned, in_jail, at_jail, alone, find_jail, is_followed, followed_to, found_all, ban_all, kept_or_fresh, configured, done, each_jail, raised, at_reading, jails_step, jails_step_now}
+use Rattle.f2b_model.specs.Nows.{JailsNow}
+use Rattle.f2b_model.specs.Orders.{is_held_of, is_active}
+use Rattle.f2b_model.specs.Sound.{IsFit, IsFitWhat, IsOnceEach}
+use Rattle.f2b_model.specs.Steps.{moves_now, named, names, is_spent, is_due, own_end, ends_before, is_meant_jail, ended_by_time, unbanned, in_jail, at_jail, alone, find_jail, is_followed, followed_to, found_all, ban_all, kept_or_fresh, configured, done, at_reading, jails_step_now}
 use Rattle.f2b_model.specs.Told.{told_each, told_ends, told_in, told_found, told_banned, told_unbanned, told_all_found, told_all_banned, told_done, jails_told}
 use Rattle.f2b_model.proofs.FollowLemmas.{follow_told-append, follows_nothing, follows_both}
 use Rattle.f2b_model.proofs.FullLemmas.{not_true_both, same_test}
-use Rattle.f2b_model.proofs.LeadLemmas.{Leads, leads_nothing, leads_by_time, leads_unbanned, leads_found, leads_banned, once_end_all}
+use Rattle.f2b_model.proofs.LeadLemmas.{Leads, leads_by_time, leads_unbanned, leads_found, leads_banned, once_end_all}
 use Rattle.f2b_model.proofs.ListLemmas.{by_test}
-use Rattle.f2b_model.proofs.NameLemmas.{moves_now_names, by_time_name, each_names, in_jail_names, followed_to_names, unbanned_name, configured_names, at_reading_names, now_names}
+use Rattle.f2b_model.proofs.NameLemmas.{moves_now_names, by_time_name, each_names, in_jail_names, followed_to_names, unbanned_name, configured_names, at_reading_names}
 use Rattle.f2b_model.proofs.SameLemmas.{bytes_eq-true, same_addr-true}
 use Rattle.f2b_model.proofs.StepLemmas.{all_of-map}
 

@@ -1,5 +1,5 @@
 -- Histories: what a server keeps after some inputs from the empty state. Each view was worked out by hand from the rules.
-use Rattle.std.proofs.Common.{ℕ, ◌≡◌, ◌+◌, true, false, Option, Some, None, List, [], ◌∷◌, ◌++◌, refl, ℤ, pos, negsuc}
+use Rattle.std.proofs.Common.{ℕ, ◌≡◌, true, false, Option, Some, None, List, [], ◌∷◌, ◌++◌, refl, pos, negsuc}
 use Rattle.std.specs.Fmt.{digits}
 use Rattle.std.specs.Net.Text.{hex_groups_text, hex}
 use Rattle.std.specs.Prelude.{codes}
@@ -15,13 +15,12 @@ use Rattle.f2b_base.specs.declared.ban.Past.{Past}
 use Rattle.f2b_base.specs.declared.ban.Until.TheVariants.{Never, At}
 use Rattle.f2b_base.specs.declared.input.Input.{Input}
 use Rattle.f2b_base.specs.declared.input.What.{What}
-use Rattle.f2b_base.specs.declared.input.What.TheVariants.{Tick, Read, Ended, Config, Stop as StopAll, Ban as BanThese, Unban as UnbanThese, Attempt, Ignore, Findtime, Bantime, Maxretry, Idle}
+use Rattle.f2b_base.specs.declared.input.What.TheVariants.{Tick, Read, Ended, Config, Stop as StopAll, Ban as BanThese, Unban as UnbanThese, Attempt, Ignore, Findtime, Bantime, Idle}
 use Rattle.f2b_base.specs.declared.jail.ActionDef.{ActionDef}
 use Rattle.f2b_base.specs.declared.jail.DateSpec.TheVariants.{Default}
 use Rattle.f2b_base.specs.declared.jail.JailDef.{JailDef}
 use Rattle.f2b_base.specs.declared.jail.Place.{Place}
 use Rattle.f2b_base.specs.declared.jail.Place.TheVariants.{Tail, Pos}
-use Rattle.f2b_base.specs.declared.jail.WatchDef.{WatchDef}
 use Rattle.f2b_base.specs.declared.job.Job.{Job}
 use Rattle.f2b_base.specs.declared.job.JobKind.{JobKind}
 use Rattle.f2b_base.specs.declared.job.JobKind.TheVariants.{Start, Stop, Ban, Unban}
@@ -30,7 +29,6 @@ use Rattle.f2b_base.specs.declared.job.Outcome.TheVariants.{Status, NotStarted, 
 use Rattle.f2b_base.specs.declared.job.UpLane.{UpLane}
 use Rattle.f2b_base.specs.declared.view.JailView.{JailView}
 use Rattle.f2b_base.specs.declared.view.View.{View}
-use Rattle.f2b_base.specs.declared.view.WatchView.{WatchView}
 use Rattle.f2b_base.specs.Addresses.{printed, octets, groups}
 use Rattle.f2b_base.specs.Span.{growth, plain_span, span_of}
 use Rattle.f2b_model.specs.Render.{rendered}

@@ -1,5 +1,5 @@
 -- What a move on a jail tells leads from the bans that were active to those that are.
-use Rattle.std.proofs.Common.{◌≡◌, ℕ, suc, Bool, true, false, not, ◌&&◌, ◌||◌, Some, List, [], ◌∷◌, ◌++◌, length, drop, map, refl, sym, ◌∙◌, ap, subst}
+use Rattle.std.proofs.Common.{◌≡◌, ℕ, Bool, true, false, not, ◌||◌, Some, List, [], ◌∷◌, ◌++◌, length, drop, map, refl, sym, ◌∙◌, ap, subst}
 use Rattle.std.specs.Prelude.{bytes_eq, cond, option_and_then, Option}
 use Rattle.std.specs.List.{filter}
 use Rattle.std.specs.Cmp.Lexicographic.{bytes_decides}
@@ -19,7 +19,7 @@ use Rattle.f2b_model.specs.Steps.{moves_now, is_due, own_end, ends_before, is_me
 use Rattle.f2b_model.specs.Told.{told_found, told_banned, told_ends, told_unbanned}
 use Rattle.f2b_model.proofs.EndLemmas.{all_not, all_placed_all, same_addr_same}
 use Rattle.f2b_model.proofs.FollowLemmas.{follow_told-append}
-use Rattle.f2b_model.proofs.FullLemmas.{both_true, same_test}
+use Rattle.f2b_model.proofs.FullLemmas.{both_true}
 use Rattle.f2b_model.proofs.ListLemmas.{by_test}
 use Rattle.f2b_model.proofs.OrderlyLemmas.{all_of-filter, once_filter, same_addr_sym}
 use Rattle.f2b_model.proofs.SoundLemmas.{same_addr_true, not_true}

@@ -1,5 +1,5 @@
 -- Each move keeps the name of its jail: so a step keeps the names of the jails, but for a configuration, whose names they are then.
-use Rattle.std.proofs.Common.{◌≡◌, ℕ, Bool, true, false, cond, ◌&&◌, ◌==◌, List, [], ◌∷◌, map, refl, sym, ◌∙◌, ap, ap₂, subst, ℤ}
+use Rattle.std.proofs.Common.{◌≡◌, ℕ, Bool, true, false, cond, ◌&&◌, ◌==◌, List, [], ◌∷◌, map, refl, ◌∙◌, ap, ap₂, ℤ}
 use Rattle.std.specs.Prelude.{bytes_eq, Option, Some, None}
 use Rattle.std.specs.List.{filter}
 use Rattle.f2b_base.specs.declared.addr.Addr.{Addr}
@@ -19,7 +19,7 @@ use Rattle.f2b_model.specs.NowMoves.{counted_now}
 use Rattle.f2b_model.specs.Nows.{jail_now, jail_from}
 use Rattle.f2b_model.specs.Sound.{IsFitWhat}
 use Rattle.f2b_model.specs.State.{Jail, World, open_of, active_of}
-use Rattle.f2b_model.specs.Steps.{Moves, moves, moves_now, named, names, is_spent, is_due, own_end, ends_before, is_meant, is_meant_jail, end_all, ended_by_time, unbanned, in_jail, at_jail, alone, find_jail, is_followed, followed_to, found_all, read_all, ban_all, kept_or_fresh, configured, done, each_jail, raised, at_reading, step_by}
+use Rattle.f2b_model.specs.Steps.{Moves, moves, moves_now, named, names, is_spent, is_due, own_end, ends_before, is_meant, is_meant_jail, end_all, ended_by_time, unbanned, in_jail, at_jail, alone, find_jail, is_followed, followed_to, found_all, read_all, ban_all, kept_or_fresh, configured, done, raised, at_reading, step_by}
 use Rattle.f2b_model.proofs.ListLemmas.{by_test}
 
 pub record KeepsName {J : Type 0} (m : Moves J) : Type 0 where

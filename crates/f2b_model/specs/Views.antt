@@ -1,5 +1,5 @@
 -- The view of a state, which is what a server keeps over a stop, and the state of a view.
-use Rattle.std.specs.Prelude.{ℕ, false, List, [], ◌∷◌, map}
+use Rattle.std.specs.Prelude.{false, List, [], ◌∷◌, map}
 use Rattle.f2b_base.specs.declared.jail.JailDef.{JailDef}
 use Rattle.f2b_base.specs.declared.view.JailView.{JailView}
 use Rattle.f2b_base.specs.declared.view.View.{View}

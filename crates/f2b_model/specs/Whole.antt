@@ -1,5 +1,5 @@
 -- The whole model: the jails, and the lanes of jobs beside them.
-use Rattle.std.specs.Prelude.{ℕ, ◌^◌, Bool, false, cond, ◌||◌, nat_lt, List, [], ◌∷◌}
+use Rattle.std.specs.Prelude.{◌^◌, Bool, cond, ◌||◌, nat_lt, List, [], ◌∷◌}
 use Rattle.f2b_base.specs.declared.input.Input.{Input}
 use Rattle.f2b_base.specs.declared.job.Job.{Job}
 use Rattle.f2b_model.specs.declared.happening.Happening.{Happening}

@@ -4,7 +4,8 @@ ghost use Rattle.jail_core.specs.Kept.{IsBounded, IsTaken};
 
 use crate::Core;
 use f2b_base::{
-    Addr, BanRule, DateSpec, Failure, Input, JailDef, NoMemory, Place, Seq, Text, WatchDef, What,
+    Addr, BanRule, Cidr, DateSpec, Failure, Input, JailDef, NoMemory, Place, Seq, Text, WatchDef,
+    What,
 };
 use f2b_model::Happening;
 use std::alloc::Global;
@@ -65,6 +66,24 @@ fn reading(alloc: Global, secs: u64, dates: &[u64]) -> Result<Input, NoMemory>
             path: Text::from_str(alloc, "/var/log/auth.log")?,
             place: Place::Tail,
             found,
+        },
+    })
+}
+
+/// A mask of addresses that are never banned, added in the jail.
+fn ignoring(alloc: Global, secs: u64) -> Result<Input, NoMemory>
+    ensures { IfOk result (λ input. IsTaken input.what) }
+{
+    Ok(Input {
+        secs,
+        word: 0,
+        what: What::Ignore {
+            jail: Text::from_str(alloc, "sshd")?,
+            cidr: Cidr {
+                base: ADDR,
+                bits: 32,
+            },
+            add: true,
         },
     })
 }
@@ -145,5 +164,15 @@ fn a_ban_ends_at_its_end(rt: HostRuntime) -> Result<(), Fail> {
         assert_eq!(rt; ended_at(rt.alloc(), secs)?, ended);
     }
     assert!(rt; !start(rt.alloc())?.spent());
+    Ok(())
+}
+
+#[test]
+fn a_list_of_ignored_addresses_ends_no_ban(rt: HostRuntime) -> Result<(), Fail> {
+    let alloc = rt.alloc();
+    let (core, _) = read(start(alloc)?, alloc, 1000, &[1000; 3])?;
+    let (core, told) = core.take(alloc, &ignoring(alloc, 1001)?)?;
+    assert_eq!(rt; told.len(), 0);
+    assert!(rt; core.ban_due(1600));
     Ok(())
 }
