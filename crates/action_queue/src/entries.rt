@@ -1,0 +1,80 @@
+//! The jobs by id and the queues of ids, changed together.
+ghost use Rattle.std.specs.Prelude.{◌≡◌, ◌<◌, ◌+◌, Some, None, OnOk, OnErr};
+ghost use Rattle.f2b_base.specs.declared.job.Job.{Job};
+ghost use Rattle.f2b_model.specs.Jobs.{after_try};
+ghost use Rattle.action_queue.specs.Index.{job_at, with_job};
+ghost use Rattle.action_queue.specs.Queues.{IsOnePerLane, Added, Dropped, SameIds, FollowsJob};
+ghost use Rattle.action_queue.specs.Tries.{IfAgain};
+
+use crate::queue::{Queue, add, drop_first};
+use f2b_base::{Job, NoMemory, Settled};
+use std::alloc::Global;
+use std::collections::BTreeMap;
+
+/// Puts the id of a job behind the others of the job's lane. After an error each lane has the ids that it had.
+pub(crate) fn enter(
+    alloc: Global,
+    jobs: &BTreeMap<u64, Job>,
+    queues: &mut Vec<Queue>,
+    id: u64,
+) -> Result<(), NoMemory>
+    ensures ok { OnOk result ((job : Job) → job_at id jobs.now.entries ≡ Some job → Added job.lane id queues.old.items queues.new.items) }
+    ensures err { OnErr result (SameIds queues.old.items queues.new.items) }
+{
+    match jobs.get(&id) {
+        Some(job) => add(alloc, queues, &job.lane, id),
+        None => Ok(()),
+    }
+}
+
+/// Does to a lane's first job what the ending of its try did.
+pub(crate) fn apply(
+    jobs: &mut BTreeMap<u64, Job>,
+    queues: &mut Vec<Queue>,
+    id: u64,
+    settled: Settled,
+)
+    requires { IfAgain settled ((job : Job) → job_at id jobs.old.entries ≡ Some job → job.tries < 2) }
+    ensures jobs { (job : Job) → job_at id jobs.old.entries ≡ Some job → jobs.new.entries ≡ with_job id (after_try job settled) jobs.old.entries }
+    ensures queues { (job : Job) → job_at id jobs.old.entries ≡ Some job → FollowsJob job.lane (after_try job settled) queues.old.items queues.new.items }
+{
+    match settled {
+        Settled::Again(due) => put_off(jobs, id, due),
+        Settled::Done => take_out(jobs, queues, id),
+        Settled::GivenUp => take_out(jobs, queues, id),
+    }
+}
+
+/// Adds a failed try to a job, which is due again at that moment.
+fn put_off(jobs: &mut BTreeMap<u64, Job>, id: u64, due: u64)
+    requires { (job : Job) → job_at id jobs.old.entries ≡ Some job → job.tries < 2 }
+    ensures { (job : Job) → job_at id jobs.old.entries ≡ Some job
+        → jobs.new.entries ≡ with_job id (Some (record job { tries = job.tries + 1; due = due })) jobs.old.entries }
+{
+    match jobs.get_mut(&id) {
+        Some(job) => {
+            job.tries += 1;
+            job.due = due;
+        }
+        None => {}
+    }
+}
+
+/// Takes a job out, and the first id of its lane.
+fn take_out(jobs: &mut BTreeMap<u64, Job>, queues: &mut Vec<Queue>, id: u64)
+    ensures jobs { jobs.new.entries ≡ with_job id None jobs.old.entries }
+    ensures queues { (job : Job) → job_at id jobs.old.entries ≡ Some job → IsOnePerLane queues.old.items → Dropped job.lane queues.old.items queues.new.items }
+{
+    leave(jobs, queues, id);
+    let _ = jobs.remove(&id);
+}
+
+/// Takes the first id of a job's lane out of its queue.
+fn leave(jobs: &BTreeMap<u64, Job>, queues: &mut Vec<Queue>, id: u64)
+    ensures { (job : Job) → job_at id jobs.now.entries ≡ Some job → IsOnePerLane queues.old.items → Dropped job.lane queues.old.items queues.new.items }
+{
+    match jobs.get(&id) {
+        Some(job) => drop_first(queues, &job.lane),
+        None => {}
+    }
+}
