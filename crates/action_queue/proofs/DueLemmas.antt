@@ -13,7 +13,7 @@ use Rattle.f2b_model.specs.Jobs.{head, has_id, is_head, next_due}
 use Rattle.f2b_model.proofs.FullLemmas.{lt_true, same_test}
 use Rattle.f2b_model.proofs.SameLemmas.{same_lane-true, same_lane-same}
 use Rattle.action_queue.specs.declared.queue.Queue.{Queue}
-use Rattle.action_queue.specs.Due.{is_number, is_front, is_ready, is_ready_id, IsLeast, IsLeastDue, is_lesser, better_of}
+use Rattle.action_queue.specs.Due.{is_number, is_front, is_due, is_ready_id, IsLeast, IsLeastDue, is_lesser, better_of}
 use Rattle.action_queue.specs.Index.{jobs_of, job_at, IsKeyed, IsIndex}
 use Rattle.action_queue.specs.Queues.{is_queue, ids_of, IsOnePerLane}
 use Rattle.action_queue.proofs.IndexLemmas.{ids_head, some_id}
@@ -174,9 +174,9 @@ any_front n (q ∷ qs) apart h = elim (or_cases (is_front n q) (list_any (is_fro
       )
 ]
 
-ready_some : (now : ℕ) (running : List ℕ) (o : Option Job) → is_ready now running o ≡ true → (job : Job) × (o ≡ Some job) × (is_ready now running (Some job) ≡ true)
-ready_some now running None h = absurd (let w : false ≡ true = h in cc)
-ready_some now running (Some job) h = (job, refl, h)
+due_some : (now : ℕ) (o : Option Job) → is_due now o ≡ true → (job : Job) × (o ≡ Some job) × (nat_le job.due now ≡ true)
+due_some now None h = absurd (let w : false ≡ true = h in cc)
+due_some now (Some job) h = (job, refl, h)
 
 head_lane : (lane : LaneId) (jobs : List Job) (job : Job) → head lane jobs ≡ Some job → same_lane job.lane lane ≡ true
 head_lane lane [] job is = absurd (let w : None ≡ Some job = is in cc)
@@ -201,29 +201,34 @@ due_is_next now running es qs o index least =
     forth : (n : ℕ) → (list_any (is_front n) qs && is_ready_id now running es n) ≡ true → list_any (λ job. test job && (job.id == n)) (jobs_of es) ≡ true
     forth n h =
         let parts = and_parts (list_any (is_front n) qs) (is_ready_id now running es n) h in
-        let ready = ready_some now running (job_at n es) parts.1 in
+        let ready = and_parts (not (list_any (λ id. id == n) running)) (is_due now (job_at n es)) parts.1 in
+        let due = due_some now (job_at n es) ready.1 in
         let front = any_front n qs index.single parts.0 in
         let first = some_id (head front.0 (jobs_of es)) n (sym (sym (ap (λ (ids : List ℕ). slice_get ids 0) (index.lists front.0)) ∙ front.1) ∙ ids_head front.0 (jobs_of es)) in
         let found : job_at first.0.id es ≡ Some first.0 = found_at (λ job. same_lane job.lane front.0) 0 es first.0 index.keyed first.1 in
-        let same : ready.0 ≡ first.0 = same_Some ready.0 first.0 (sym ready.1 ∙ ap (λ m. job_at m es) (sym first.2) ∙ found) in
+        let same : due.0 ≡ first.0 = same_Some due.0 first.0 (sym due.1 ∙ ap (λ m. job_at m es) (sym first.2) ∙ found) in
         let lane : first.0.lane ≡ front.0 = same_lane-true first.0.lane front.0 (head_lane front.0 (jobs_of es) first.0 first.1) in
         let leads : is_head (jobs_of es) first.0 ≡ true = ap (has_id first.0.id) (ap (λ l. head l (jobs_of es)) lane ∙ first.1) ∙ eq-eqb first.0.id first.0.id refl in
-        let goes : is_ready now running (Some first.0) ≡ true = ap (λ j. is_ready now running (Some j)) (sym same) ∙ ready.2 in
+        let on_time : nat_le first.0.due now ≡ true = ap (λ (j : Job). nat_le j.due now) (sym same) ∙ due.2 in
+        let free : not (list_any (λ id. id == first.0.id) running) ≡ true = ap (λ (m : ℕ). not (list_any (λ id. id == m) running)) first.2 ∙ ready.0 in
         member_any (λ job. test job && (job.id == n)) n es first.0 (ap (λ m. job_at m es) (sym first.2) ∙ found)
-        (and_from (test first.0) (first.0.id == n) (and_from (is_head (jobs_of es) first.0) _ leads goes) (eq-eqb first.0.id n first.2))
+        (and_from (test first.0) (first.0.id == n) (and_from (is_head (jobs_of es) first.0) _ leads (and_from (nat_le first.0.due now) _ on_time free)) (eq-eqb first.0.id n first.2))
 
     back : (n : ℕ) → list_any (λ job. test job && (job.id == n)) (jobs_of es) ≡ true → (list_any (is_front n) qs && is_ready_id now running es n) ≡ true
     back n h =
         let found = first_any (λ job. test job && (job.id == n)) (jobs_of es) h in
         let parts = and_parts (test found.0) (found.0.id == n) found.2 in
         let tests = and_parts (is_head (jobs_of es) found.0) _ parts.0 in
+        let ready = and_parts (nat_le found.0.due now) (not (list_any (λ id. id == found.0.id) running)) tests.1 in
         let id : found.0.id ≡ n = eqb-true found.0.id n parts.1 in
         let at : job_at n es ≡ Some found.0 = ap (λ m. job_at m es) (sym id) ∙ found_at (λ job. test job && (job.id == n)) 0 es found.0 index.keyed found.1 in
         let front : slice_get (ids_of found.0.lane qs) 0 ≡ Some n =
         ap (λ (ids : List ℕ). slice_get ids 0) (index.lists found.0.lane) ∙ ids_head found.0.lane (jobs_of es) ∙ id_some found.0.id (head found.0.lane (jobs_of es)) tests.0 ∙ ap (λ m. Some m) id in
-        and_from (list_any (is_front n) qs) (is_ready_id now running es n) (front_any n found.0.lane qs front) (ap (is_ready now running) at ∙ tests.1)
+        let free : not (list_any (λ id. id == n) running) ≡ true = ap (λ (m : ℕ). not (list_any (λ id. id == m) running)) (sym id) ∙ ready.1 in
+        let due : is_due now (job_at n es) ≡ true = ap (is_due now) at ∙ ready.0 in
+        and_from (list_any (is_front n) qs) (is_ready_id now running es n) (front_any n found.0.lane qs front) (and_from (not (list_any (λ id. id == n) running)) (is_due now (job_at n es)) free due)
 
--- the next job is the one under that number
+-- the next job is the one under that id
 pub next_by_id : (now : ℕ) (running : List ℕ) (es : List (ℕ × Job)) (id : ℕ) → IsKeyed 0 es → Some id ≡ option_map (λ job. job.id) (next_due now running (jobs_of es)) → job_at id es ≡ next_due now running (jobs_of es)
 next_by_id now running es id keyed is =
     let found = some_id (next_due now running (jobs_of es)) id is in

@@ -1,12 +1,13 @@
 -- Entries whose ids rise: what stands under an id, and what a new greatest id does.
-use Rattle.std.proofs.Common.{ℕ, zero, suc, ◌≡◌, ◌+◌, ◌<◌, ◌≤◌, inl, inr, Bool, true, false, Option, Some, None, List, [], ◌∷◌, ◌++◌, length, refl, sym, ap, ◌∙◌, arith}
-use Rattle.std.specs.Prelude.{◌==◌, find, slice_get}
+use Rattle.std.proofs.Common.{ℕ, zero, suc, ◌≡◌, ◌+◌, ◌<◌, ◌≤◌, inl, inr, Bool, true, false, Option, Some, None, List, [], ◌∷◌, ◌++◌, length, refl, sym, ap, ◌∙◌, subst, arith}
+use Rattle.std.specs.Prelude.{◌==◌, ◌-◌, nat_lt, find, slice_get, IsTrue}
 use Rattle.std.specs.Ordering.{nat_cmp}
 use Rattle.std.specs.BTreeMap.{is_at, insert_entry}
 use Rattle.std.proofs.lemmas.Bool.{cases_Bool, cases_order, cases_eq, eq-eqb, ne_eqb, lt-ltb, le-ltb}
-use Rattle.std.proofs.lemmas.Option.{same_Some}
+use Rattle.std.proofs.lemmas.Option.{same_Some, slice_get_within}
 use Rattle.f2b_base.specs.declared.job.Job.{Job}
 use Rattle.f2b_model.specs.Jobs.{job_by_id, AllIdsBelow}
+use Rattle.f2b_model.proofs.FullLemmas.{lt_true, true_lt}
 use Rattle.action_queue.specs.Index.{jobs_of, job_at, with_job, IsKeyed}
 
 -- ---- the test of a key
@@ -133,3 +134,12 @@ at_below id from (suc i) (e ∷ es) at keyed is below = at_below id (e.0 + 1) i 
 pub none_below : (id : ℕ) (es : List (ℕ × Job)) → (0 < length es → ⊥) → AllIdsBelow id (jobs_of es)
 none_below id [] none = tt
 none_below id (e ∷ es) none = absurd (none (omega arith))
+
+-- a number is above each id where it is above the last
+pub last_test : (id : ℕ) (es : List (ℕ × Job)) (last : ℕ × Job) (v : List Job) → IsKeyed 0 es → jobs_of es ≡ v → slice_get es (length es - 1) ≡ Some last
+    → (IsTrue (nat_lt last.0 id) → AllIdsBelow id v) × (AllIdsBelow id v → IsTrue (nat_lt last.0 id))
+last_test id es last v keyed view is =
+    let end : length es - 1 + 1 ≡ length es = omega (arith, slice_get_within es (length es - 1) last is) in (
+      (λ less. subst (AllIdsBelow id) view (below_last id 0 (length es - 1) es last keyed end is (lt_true last.0 id less))),
+      (λ below. true_lt last.0 id (at_below id 0 (length es - 1) es last keyed is (subst (AllIdsBelow id) (sym view) below))),
+    )

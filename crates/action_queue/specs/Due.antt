@@ -14,14 +14,14 @@ is_number id (Some number) = number == id
 abbrev pub is_front : ℕ → Queue → Bool
 is_front id q = is_number id (slice_get q.ids.items 0)
 
--- the job is there and due, and does not run
-abbrev pub is_ready : ℕ → List ℕ → Option Job → Bool
-is_ready now running None = false
-is_ready now running (Some job) = nat_le job.due now && not (list_any (λ id. id == job.id) running)
+-- the job is there and due
+abbrev pub is_due : ℕ → Option Job → Bool
+is_due now None = false
+is_due now (Some job) = nat_le job.due now
 
--- so is the job of that id
+-- the job of that id does not run, and is due
 abbrev pub is_ready_id : ℕ → List ℕ → List (ℕ × Job) → ℕ → Bool
-is_ready_id now running entries id = is_ready now running (job_at id entries)
+is_ready_id now running entries id = not (list_any (λ other. other == id) running) && is_due now (job_at id entries)
 
 -- the least number that passes the test, or none where none does
 abbrev pub IsLeast : Option ℕ → (ℕ → Bool) → Type 0

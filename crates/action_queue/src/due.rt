@@ -1,7 +1,8 @@
 //! The job to start next: the least id of a lane's first job that is due and does not run.
 ghost use Rattle.std.specs.Prelude.{◌≡◌, ◌==◌, slice_get};
 ghost use Rattle.std.specs.List.{list_any};
-ghost use Rattle.action_queue.specs.Due.{is_ready_id, is_lesser, better_of, IsLeastDue};
+ghost use Rattle.action_queue.specs.Due.{is_due, is_ready_id, is_lesser, better_of, IsLeastDue};
+ghost use Rattle.action_queue.specs.Index.{job_at};
 
 use crate::queue::{Queue, front_of};
 use f2b_base::Job;
@@ -53,12 +54,19 @@ fn is_lesser(id: u64, other: Option<u64>) -> bool
     }
 }
 
-/// Whether the job of that id is due and does not run.
+/// Whether the job of that id does not run, and is due.
 fn is_ready(jobs: &BTreeMap<u64, Job>, id: u64, now: u64, running: &[u64]) -> bool
     ensures { result ≡ is_ready_id now running.now jobs.now.entries id }
 {
+    !runs(running, id) && is_due(jobs, id, now)
+}
+
+/// Whether the job of that id is due.
+fn is_due(jobs: &BTreeMap<u64, Job>, id: u64, now: u64) -> bool
+    ensures { result ≡ is_due now (job_at id jobs.now.entries) }
+{
     match jobs.get(&id) {
-        Some(job) => job.due <= now && !runs(running, job.id),
+        Some(job) => job.due <= now,
         None => false,
     }
 }

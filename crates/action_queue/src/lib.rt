@@ -15,6 +15,8 @@ mod lanes;
 mod queue;
 #[cfg(test)]
 mod tests;
+#[cfg(test)]
+mod tests_many;
 mod tries;
 
 pub use lanes::Lanes;
