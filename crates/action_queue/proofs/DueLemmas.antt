@@ -2,7 +2,7 @@
 use Rattle.std.proofs.Common.{ℕ, ◌≡◌, ◌+◌, ◌<◌, ◌≤◌, inl, inr, Bool, true, false, not, ◌&&◌, ◌||◌, Option, Some, None, List, [], ◌∷◌, ◌++◌, length, take, get_or, refl, sym, ap, ◌∙◌, arith}
 use Rattle.std.specs.Prelude.{◌==◌, slice_get, option_map, find, nat_le, nat_lt}
 use Rattle.std.specs.List.{list_any}
-use Rattle.std.proofs.lemmas.Bool.{cases_Bool, cases_eq, cases_lt, eq-eqb, eqb-true, lt-ltb, le-ltb, both_ways, or_cases, or_left, or_right, and_parts, and_from}
+use Rattle.std.proofs.lemmas.Bool.{cases_Bool, cases_eq, cases_lt, eq-eqb, eqb-true, lt-ltb, both_ways, or_cases, or_left, or_right, and_parts, and_from}
 use Rattle.std.proofs.lemmas.List.Folds.{list_any-append}
 use Rattle.std.proofs.lemmas.List.{take_more}
 use Rattle.std.proofs.lemmas.Option.{same_Some}
@@ -10,12 +10,13 @@ use Rattle.f2b_base.specs.declared.job.LaneId.{LaneId}
 use Rattle.f2b_base.specs.declared.job.Job.{Job}
 use Rattle.f2b_model.specs.Families.{same_lane}
 use Rattle.f2b_model.specs.Jobs.{head, has_id, is_head, next_due}
+use Rattle.f2b_model.specs.LaneSound.{AtMostOne}
 use Rattle.f2b_model.proofs.FullLemmas.{lt_true, same_test}
 use Rattle.f2b_model.proofs.SameLemmas.{same_lane-true, same_lane-same}
 use Rattle.action_queue.specs.declared.queue.Queue.{Queue}
 use Rattle.action_queue.specs.Due.{is_number, is_front, is_due, is_ready_id, IsLeast, IsLeastDue, is_lesser, better_of}
 use Rattle.action_queue.specs.Index.{jobs_of, job_at, IsKeyed, IsIndex}
-use Rattle.action_queue.specs.Queues.{is_queue, ids_of, IsOnePerLane}
+use Rattle.action_queue.specs.Queues.{is_queue, ids_of}
 use Rattle.action_queue.proofs.IndexLemmas.{ids_head, some_id}
 use Rattle.action_queue.proofs.KeyLemmas.{at_same, at_apart, found_at}
 use Rattle.action_queue.proofs.QueueLemmas.{no_ids}
@@ -158,16 +159,16 @@ number_some : (n : ℕ) (o : Option ℕ) → is_number n o ≡ true → o ≡ So
 number_some n None h = cc
 number_some n (Some m) h = ap (λ x. Some x) (eqb-true m n h)
 
-any_front : (n : ℕ) (qs : List Queue) → IsOnePerLane qs → list_any (is_front n) qs ≡ true → (lane : LaneId) × (slice_get (ids_of lane qs) 0 ≡ Some n)
+any_front : (n : ℕ) (qs : List Queue) → ((lane : LaneId) → AtMostOne (is_queue lane) qs) → list_any (is_front n) qs ≡ true → (lane : LaneId) × (slice_get (ids_of lane qs) 0 ≡ Some n)
 any_front n [] apart h = absurd (let w : false ≡ true = h in cc)
 any_front n (q ∷ qs) apart h = elim (or_cases (is_front n q) (list_any (is_front n) qs) h) [
   | inl k ↦ (q.lane, (let at : is_queue q.lane q ≡ true = same_lane-same q.lane in rw at (number_some n (slice_get q.ids.items 0) k)))
   | inr k ↦
-      let on = any_front n qs (record { one = λ l. (apart.one l).1 }) k in (
+      let on = any_front n qs (λ l. (apart l).1) k in (
         on.0,
         elim (cases_Bool (is_queue on.0 q)) [
           | inl p ↦
-              let none : ids_of on.0 qs ≡ [] = no_ids on.0 qs ((apart.one on.0).0 p) in
+              let none : ids_of on.0 qs ≡ [] = no_ids on.0 qs ((apart on.0).0 p) in
               absurd (let w : None ≡ Some n = ap (λ (ids : List ℕ). slice_get ids 0) (sym none) ∙ on.1 in cc)
           | inr p ↦ rw p on.1
         ],
@@ -203,7 +204,7 @@ due_is_next now running es qs o index least =
         let parts = and_parts (list_any (is_front n) qs) (is_ready_id now running es n) h in
         let ready = and_parts (not (list_any (λ id. id == n) running)) (is_due now (job_at n es)) parts.1 in
         let due = due_some now (job_at n es) ready.1 in
-        let front = any_front n qs index.single parts.0 in
+        let front = any_front n qs index.sound.one parts.0 in
         let first = some_id (head front.0 (jobs_of es)) n (sym (sym (ap (λ (ids : List ℕ). slice_get ids 0) (index.lists front.0)) ∙ front.1) ∙ ids_head front.0 (jobs_of es)) in
         let found : job_at first.0.id es ≡ Some first.0 = found_at (λ job. same_lane job.lane front.0) 0 es first.0 index.keyed first.1 in
         let same : due.0 ≡ first.0 = same_Some due.0 first.0 (sym due.1 ∙ ap (λ m. job_at m es) (sym first.2) ∙ found) in

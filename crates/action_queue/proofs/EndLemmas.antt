@@ -1,5 +1,5 @@
 -- The ending of a try: the job goes, or waits for another try, and all others stay.
-use Rattle.std.proofs.Common.{ℕ, ◌≡◌, ◌+◌, ◌<◌, ◌≤◌, inl, inr, Bool, true, false, cond, Option, Some, None, List, [], ◌∷◌, drop, refl, sym, ap, ap₂, ◌∙◌, subst, arith}
+use Rattle.std.proofs.Common.{ℕ, ◌≡◌, ◌+◌, ◌<◌, inl, inr, true, false, cond, Option, Some, None, List, [], ◌∷◌, drop, refl, sym, ap, ap₂, ◌∙◌, subst, arith}
 use Rattle.std.specs.Prelude.{◌==◌, IfSome}
 use Rattle.std.specs.List.{cons_option}
 use Rattle.std.proofs.lemmas.Bool.{cases_Bool, cases_eq, false_from_ne_true, eq-eqb, ne_eqb, eqb-true, both_ways}
@@ -115,21 +115,21 @@ index_gone : (id : ℕ) (job : Job) (es : List (ℕ × Job)) (qs new : List Queu
 index_gone id job es qs new index is heads dropped = record {
   keyed = keyed_remove id 0 es index.keyed;
   lists = λ l. dropped.ids l ∙ ap (λ (ids : List ℕ). cond (same_lane job.lane l) (drop 1 ids) ids) (index.lists l) ∙ sym (ids_remove l id 0 es job index.keyed is heads);
-  single = dropped.single index.single;
+  sound = dropped.keeps index.sound;
 }
 
 index_put : (id : ℕ) (job w : Job) (es : List (ℕ × Job)) (qs : List Queue) → IsIndex es qs → job_at id es ≡ Some job → w.id ≡ job.id → w.lane ≡ job.lane → IsIndex (with_job id (Some w) es) qs
 index_put id job w es qs index is same_id same_l = record {
   keyed = keyed_put id 0 es w (same_id ∙ (key_found id 0 es job index.keyed is).0) index.keyed;
   lists = λ l. index.lists l ∙ sym (ids_put l id es job w is same_id same_l);
-  single = index.single;
+  sound = index.sound;
 }
 
 -- the queues stand for the jobs again, whatever the ending did to the lane's first job
 pub index_after : (id : ℕ) (job : Job) (settled : Settled) (es : List (ℕ × Job)) (qs new : List Queue) → IsIndex es qs → job_at id es ≡ Some job → has_id id (head job.lane (jobs_of es)) ≡ true
     → FollowsJob job.lane (after_try job settled) qs new → IsIndex (with_job id (after_try job settled) es) new
-index_after id job Done es qs new index is heads follows = index_gone id job es qs new index is heads (follows index.single)
-index_after id job GivenUp es qs new index is heads follows = index_gone id job es qs new index is heads (follows index.single)
+index_after id job Done es qs new index is heads follows = index_gone id job es qs new index is heads (follows index.sound)
+index_after id job GivenUp es qs new index is heads follows = index_gone id job es qs new index is heads (follows index.sound)
 index_after id job (Again due) es qs new index is heads follows = rw follows (index_put id job (record job { tries = job.tries + 1; due = due }) es qs index is refl refl)
 
 -- ---- the parts of `settle`

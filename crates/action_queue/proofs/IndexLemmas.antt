@@ -1,5 +1,5 @@
 -- Queues that stand for the jobs by id: the first job of a lane, and a job that is put last.
-use Rattle.std.proofs.Common.{ℕ, ◌≡◌, inl, inr, Bool, true, false, cond, Option, Some, None, List, [], ◌∷◌, ◌++◌, refl, sym, ap, ap₂, ◌∙◌, arith}
+use Rattle.std.proofs.Common.{ℕ, ◌≡◌, inl, inr, false, cond, Option, Some, None, List, [], ◌∷◌, ◌++◌, refl, sym, ap, ◌∙◌, arith}
 use Rattle.std.specs.Prelude.{slice_get, option_map}
 use Rattle.std.proofs.lemmas.Bool.{cases_Bool}
 use Rattle.std.proofs.lemmas.Option.{same_Some}
@@ -67,8 +67,8 @@ index_push job es qs new index below added = record {
       added.ids l
       ∙ ap (λ (ids : List ℕ). cond (same_lane job.lane l) (ids ++ job.id ∷ []) ids) (index.lists l)
       ∙ sym (ap (ids_in l) (jobs_last job.id job es) ∙ ids_last l (jobs_of es) job);
-  single = added.single index.single;
+  sound = added.keeps index.sound;
 }
 
 pub index_same : (es : List (ℕ × Job)) (qs new : List Queue) → IsIndex es qs → SameIds qs new → IsIndex es new
-index_same es qs new index same = record { keyed = index.keyed; lists = λ l. same.ids l ∙ index.lists l; single = same.single index.single }
+index_same es qs new index same = record { keyed = index.keyed; lists = λ l. same.ids l ∙ index.lists l; sound = same.keeps index.sound }

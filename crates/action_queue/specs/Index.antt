@@ -7,7 +7,7 @@ use Rattle.f2b_base.specs.declared.job.Job.{Job}
 use Rattle.f2b_base.specs.declared.job.LaneId.{LaneId}
 use Rattle.f2b_model.specs.Families.{same_lane}
 use Rattle.action_queue.specs.declared.queue.Queue.{Queue}
-use Rattle.action_queue.specs.Queues.{ids_of, IsOnePerLane}
+use Rattle.action_queue.specs.Queues.{ids_of, AreQueues}
 
 -- the jobs of a map's entries
 abbrev pub jobs_of : List (ℕ × Job) → List Job
@@ -35,4 +35,4 @@ IsKeyed from (e ∷ es) = (from ≤ e.0) × (e.1.id ≡ e.0) × IsKeyed (e.0 + 1
 pub record IsIndex (entries : List (ℕ × Job)) (queues : List Queue) : Type 0 where
   pub keyed : IsKeyed 0 entries
   pub lists : (lane : LaneId) → ids_of lane queues ≡ ids_in lane (jobs_of entries)
-  pub single : IsOnePerLane queues
+  pub sound : AreQueues queues

@@ -3,7 +3,7 @@ ghost use Rattle.std.specs.Prelude.{◌≡◌, ◌<◌, ◌+◌, Some, None, OnO
 ghost use Rattle.f2b_base.specs.declared.job.Job.{Job};
 ghost use Rattle.f2b_model.specs.Jobs.{after_try};
 ghost use Rattle.action_queue.specs.Index.{job_at, with_job};
-ghost use Rattle.action_queue.specs.Queues.{IsOnePerLane, Added, Dropped, SameIds, FollowsJob};
+ghost use Rattle.action_queue.specs.Queues.{AreQueues, Added, Dropped, SameIds, FollowsJob};
 ghost use Rattle.action_queue.specs.Tries.{IfAgain};
 
 use crate::queue::{Queue, add, drop_first};
@@ -63,7 +63,7 @@ fn put_off(jobs: &mut BTreeMap<u64, Job>, id: u64, due: u64)
 /// Takes a job out, and the first id of its lane.
 fn take_out(jobs: &mut BTreeMap<u64, Job>, queues: &mut Vec<Queue>, id: u64)
     ensures jobs { jobs.new.entries ≡ with_job id None jobs.old.entries }
-    ensures queues { (job : Job) → job_at id jobs.old.entries ≡ Some job → IsOnePerLane queues.old.items → Dropped job.lane queues.old.items queues.new.items }
+    ensures queues { (job : Job) → job_at id jobs.old.entries ≡ Some job → AreQueues queues.old.items → Dropped job.lane queues.old.items queues.new.items }
 {
     leave(jobs, queues, id);
     let _ = jobs.remove(&id);
@@ -71,7 +71,7 @@ fn take_out(jobs: &mut BTreeMap<u64, Job>, queues: &mut Vec<Queue>, id: u64)
 
 /// Takes the first id of a job's lane out of its queue.
 fn leave(jobs: &BTreeMap<u64, Job>, queues: &mut Vec<Queue>, id: u64)
-    ensures { (job : Job) → job_at id jobs.now.entries ≡ Some job → IsOnePerLane queues.old.items → Dropped job.lane queues.old.items queues.new.items }
+    ensures { (job : Job) → job_at id jobs.now.entries ≡ Some job → AreQueues queues.old.items → Dropped job.lane queues.old.items queues.new.items }
 {
     match jobs.get(&id) {
         Some(job) => drop_first(queues, &job.lane),

@@ -1,7 +1,7 @@
 //! The queues of lanes: the ids of each lane's jobs, in order. No job is looked at here.
 ghost use Rattle.std.specs.Prelude.{◌≡◌, position, slice_get, OnOk, OnErr};
 ghost use Rattle.f2b_model.specs.Families.{same_family, same_lane};
-ghost use Rattle.action_queue.specs.Queues.{is_queue, ids_of, IsOnePerLane, Added, Dropped, SameIds};
+ghost use Rattle.action_queue.specs.Queues.{is_queue, ids_of, AreQueues, Added, Dropped, SameIds};
 
 use f2b_base::{Family, LaneId, NoMemory, Plain};
 use std::alloc::Global;
@@ -85,31 +85,13 @@ pub(crate) fn add(
 
 /// Takes the first id of the lane out, and its queue where that was the last.
 pub(crate) fn drop_first(queues: &mut Vec<Queue>, lane: &LaneId)
-    ensures { IsOnePerLane queues.old.items → Dropped lane.now queues.old.items queues.new.items }
-{
-    drop_front(queues, lane);
-    forget_empty(queues, lane);
-}
-
-/// Takes the first id of the lane out.
-fn drop_front(queues: &mut Vec<Queue>, lane: &LaneId)
-    ensures { Dropped lane.now queues.old.items queues.new.items }
+    ensures { AreQueues queues.old.items → Dropped lane.now queues.old.items queues.new.items }
 {
     match place_of(queues, lane) {
-        Some(place) => {
+        Some(place) => if queues[place].ids.len() > 1 {
             let queue = &mut queues[place];
             let _ = queue.ids.pop_front();
-        }
-        None => {}
-    }
-}
-
-/// Takes the queue of the lane out, if nothing waits in it.
-fn forget_empty(queues: &mut Vec<Queue>, lane: &LaneId)
-    ensures { IsOnePerLane queues.old.items → SameIds queues.old.items queues.new.items }
-{
-    match place_of(queues, lane) {
-        Some(place) => if front_of(&queues[place].ids).is_none() {
+        } else {
             let _ = queues.remove(place);
         },
         None => {}

@@ -1,6 +1,5 @@
 -- A job more, and its id last in its lane.
 use Rattle.std.proofs.Common.{◌≡◌, sym, ap, ◌∙◌, subst, ◌++◌, ◌∷◌, [], Some, None}
-use Rattle.f2b_base.specs.declared.job.Job.{Job}
 use Rattle.f2b_model.specs.Jobs.{AllIdsBelow}
 use Rattle.action_queue.specs.Index.{jobs_of, job_at, with_job}
 use Rattle.action_queue.proofs.KeyLemmas.{insert_last, remove_last, last_at, jobs_last}
