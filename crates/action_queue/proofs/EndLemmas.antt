@@ -2,6 +2,7 @@
 use Rattle.std.proofs.Common.{ℕ, ◌≡◌, ◌+◌, ◌<◌, inl, inr, true, false, cond, Option, Some, None, List, [], ◌∷◌, drop, refl, sym, ap, ap₂, ◌∙◌, subst, arith}
 use Rattle.std.specs.Prelude.{◌==◌, IfSome}
 use Rattle.std.specs.List.{cons_option}
+use Rattle.std.specs.Option.{ForSome}
 use Rattle.std.proofs.lemmas.Bool.{cases_Bool, cases_eq, false_from_ne_true, eq-eqb, ne_eqb, eqb-true, both_ways}
 use Rattle.std.proofs.lemmas.Option.{same_Some}
 use Rattle.f2b_base.specs.declared.job.LaneId.{LaneId}
@@ -135,7 +136,7 @@ index_after id job (Again due) es qs new index is heads follows = rw follows (in
 -- ---- the parts of `settle`
 
 -- a job that is tried again is the one under its id
-pub again_each : (settled : Settled) (job : Job) (o : Option Job) → o ≡ Some job → IfAgain settled (job.tries < 2) → IfAgain settled ((j : Job) → o ≡ Some j → j.tries < 2)
+pub again_each : (settled : Settled) (job : Job) (o : Option Job) → o ≡ Some job → IfAgain settled (job.tries < 2) → IfAgain settled (ForSome o (λ j. j.tries < 2))
 again_each Done job o is few = tt
 again_each GivenUp job o is few = tt
 again_each (Again due) job o is few = λ j at. subst (λ (x : Job). x.tries < 2) (same_Some job j (sym is ∙ at)) few

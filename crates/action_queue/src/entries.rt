@@ -1,6 +1,7 @@
 //! The jobs by id and the queues of ids, changed together.
-ghost use Rattle.std.specs.Prelude.{◌≡◌, ◌<◌, ◌+◌, Some, None, OnOk, OnErr};
-ghost use Rattle.f2b_base.specs.declared.job.Job.{Job};
+ghost use Rattle.std.specs.Prelude.{◌≡◌, ◌<◌, None, OnOk, OnErr};
+ghost use Rattle.std.specs.Option.{ForSome};
+ghost use Rattle.f2b_base.specs.declared.job.Settled.TheVariants.{Again};
 ghost use Rattle.f2b_model.specs.Jobs.{after_try};
 ghost use Rattle.action_queue.specs.Index.{job_at, with_job};
 ghost use Rattle.action_queue.specs.Queues.{AreQueues, Added, Dropped, SameIds, FollowsJob};
@@ -18,7 +19,7 @@ pub(crate) fn enter(
     queues: &mut Vec<Queue>,
     id: u64,
 ) -> Result<(), NoMemory>
-    ensures ok { OnOk result ((job : Job) → job_at id jobs.now.entries ≡ Some job → Added job.lane id queues.old.items queues.new.items) }
+    ensures ok { OnOk result (ForSome (job_at id jobs.now.entries) (λ job. Added job.lane id queues.old.items queues.new.items)) }
     ensures err { OnErr result (SameIds queues.old.items queues.new.items) }
 {
     match jobs.get(&id) {
@@ -34,9 +35,9 @@ pub(crate) fn apply(
     id: u64,
     settled: Settled,
 )
-    requires { IfAgain settled ((job : Job) → job_at id jobs.old.entries ≡ Some job → job.tries < 2) }
-    ensures jobs { (job : Job) → job_at id jobs.old.entries ≡ Some job → jobs.new.entries ≡ with_job id (after_try job settled) jobs.old.entries }
-    ensures queues { (job : Job) → job_at id jobs.old.entries ≡ Some job → FollowsJob job.lane (after_try job settled) queues.old.items queues.new.items }
+    requires { IfAgain settled (ForSome (job_at id jobs.old.entries) (λ job. job.tries < 2)) }
+    ensures jobs { ForSome (job_at id jobs.old.entries) (λ job. jobs.new.entries ≡ with_job id (after_try job settled) jobs.old.entries) }
+    ensures queues { ForSome (job_at id jobs.old.entries) (λ job. FollowsJob job.lane (after_try job settled) queues.old.items queues.new.items) }
 {
     match settled {
         Settled::Again(due) => put_off(jobs, id, due),
@@ -47,9 +48,8 @@ pub(crate) fn apply(
 
 /// Adds a failed try to a job, which is due again at that moment.
 fn put_off(jobs: &mut BTreeMap<u64, Job>, id: u64, due: u64)
-    requires { (job : Job) → job_at id jobs.old.entries ≡ Some job → job.tries < 2 }
-    ensures { (job : Job) → job_at id jobs.old.entries ≡ Some job
-        → jobs.new.entries ≡ with_job id (Some (record job { tries = job.tries + 1; due = due })) jobs.old.entries }
+    requires { ForSome (job_at id jobs.old.entries) (λ job. job.tries < 2) }
+    ensures { ForSome (job_at id jobs.old.entries) (λ job. jobs.new.entries ≡ with_job id (after_try job (Again due)) jobs.old.entries) }
 {
     match jobs.get_mut(&id) {
         Some(job) => {
@@ -63,7 +63,7 @@ fn put_off(jobs: &mut BTreeMap<u64, Job>, id: u64, due: u64)
 /// Takes a job out, and the first id of its lane.
 fn take_out(jobs: &mut BTreeMap<u64, Job>, queues: &mut Vec<Queue>, id: u64)
     ensures jobs { jobs.new.entries ≡ with_job id None jobs.old.entries }
-    ensures queues { (job : Job) → job_at id jobs.old.entries ≡ Some job → AreQueues queues.old.items → Dropped job.lane queues.old.items queues.new.items }
+    ensures queues { ForSome (job_at id jobs.old.entries) (λ job. AreQueues queues.old.items → Dropped job.lane queues.old.items queues.new.items) }
 {
     leave(jobs, queues, id);
     let _ = jobs.remove(&id);
@@ -71,7 +71,7 @@ fn take_out(jobs: &mut BTreeMap<u64, Job>, queues: &mut Vec<Queue>, id: u64)
 
 /// Takes the first id of a job's lane out of its queue.
 fn leave(jobs: &BTreeMap<u64, Job>, queues: &mut Vec<Queue>, id: u64)
-    ensures { (job : Job) → job_at id jobs.now.entries ≡ Some job → AreQueues queues.old.items → Dropped job.lane queues.old.items queues.new.items }
+    ensures { ForSome (job_at id jobs.now.entries) (λ job. AreQueues queues.old.items → Dropped job.lane queues.old.items queues.new.items) }
 {
     match jobs.get(&id) {
         Some(job) => drop_first(queues, &job.lane),
