@@ -1,0 +1,5 @@
+pub mod QueueLemmas
+pub mod KeyLemmas
+pub mod IndexLemmas
+pub mod EndLemmas
+pub mod DueLemmas

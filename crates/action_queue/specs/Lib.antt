@@ -1,0 +1,4 @@
+pub mod Queues
+pub mod Index
+pub mod Tries
+pub mod Due

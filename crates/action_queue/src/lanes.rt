@@ -1,0 +1,161 @@
+//! `Lanes` and its methods. The jobs stand in a map by id; a queue for each lane that has jobs holds their ids, so that the first
+//! job of a lane is found without a look at the others.
+ghost use Rattle.std.specs.Prelude.{◌≡◌, ◌<◌, ◌^◌, ◌↔◌, true, [], ◌∷◌, ◌++◌, length, IsTrue, OnOk, OnErr, IfOk, IfSome};
+ghost use Rattle.std.specs.Option.{option_copied};
+ghost use Rattle.f2b_model.specs.Jobs.{head, job_by_id, is_head_id, next_due, AllIdsBelow, settled_as, settle_in};
+ghost use Rattle.action_queue.specs.Due.{is_number};
+ghost use Rattle.action_queue.specs.Tries.{ending_of};
+
+use crate::due::least_due;
+use crate::entries::{apply, enter};
+use crate::queue::{Queue, first_id};
+use crate::tries::settled_as;
+use f2b_base::{Job, LaneId, NoMemory, Outcome, Plain, Seq, Settled};
+use std::alloc::Global;
+use std::collections::BTreeMap;
+use std::marker::Model;
+
+/// The jobs that are not settled, by id.
+#[derive(Drop)]
+pub struct Lanes {
+    jobs: BTreeMap<u64, Job>,
+    queues: Vec<Queue>,
+}
+
+impl Model for Lanes {
+    ghost use Rattle.std.specs.Prelude.{List};
+    ghost use Rattle.f2b_base.specs.declared.job.Job.{Job};
+    ghost use Rattle.action_queue.specs.Index.{jobs_of, IsIndex};
+
+    ghost Value = { List Job };
+
+    ghost view = { λ l. jobs_of l.jobs.entries };
+
+    ghost invariant = { λ l. IsIndex l.jobs.entries l.queues.items };
+}
+
+impl Lanes {
+    /// No jobs. Takes no memory.
+    pub fn new(alloc: Global) -> Lanes
+        ensures { result ≡ [] }
+    {
+        Lanes {
+            jobs: BTreeMap::new(alloc),
+            queues: Vec::new(alloc),
+        }
+    }
+
+    /// How many jobs are not settled.
+    pub fn count(&self) -> u64
+        ensures { result ≡ length self.now }
+    {
+        self.jobs.len() as u64
+    }
+
+    /// The lane's first job.
+    pub fn head(&self, lane: &LaneId) -> Option<&Job>
+        ensures { option_copied result ≡ head lane.now self.now }
+    {
+        match first_id(&self.queues, lane) {
+            Some(id) => self.jobs.get(&id),
+            None => None,
+        }
+    }
+
+    /// The job of that id.
+    pub fn find(&self, id: u64) -> Option<&Job>
+        ensures { option_copied result ≡ job_by_id id self.now }
+    {
+        self.jobs.get(&id)
+    }
+
+    /// Whether the job of that id is there and is the first of its lane. Ask it before `settle`.
+    pub fn is_head(&self, id: u64) -> bool
+        ensures { result ≡ is_head_id id self.now }
+    {
+        match self.jobs.get(&id) {
+            Some(job) => is_number(first_id(&self.queues, &job.lane), id),
+            None => false,
+        }
+    }
+
+    /// Whether the id is greater than that of each job. Ask it before `push`.
+    pub fn is_above_all(&self, id: u64) -> bool
+        ensures { IsTrue result ↔ AllIdsBelow id self.now }
+    {
+        match self.jobs.last_key_value() {
+            Some((last, _)) => *last < id,
+            None => true,
+        }
+    }
+
+    /// Puts a job behind the others. An error changes nothing.
+    pub fn push(&mut self, alloc: Global, job: Job) -> Result<(), NoMemory>
+        requires { AllIdsBelow job.id self.old }
+        ensures ok { OnOk result (self.new ≡ self.old ++ job ∷ []) }
+        ensures err { OnErr result (self.new ≡ self.old) }
+    {
+        let id = job.id;
+        self.jobs.insert(id, job)?;
+        match enter(alloc, &self.jobs, &mut self.queues, id) {
+            Ok(()) => Ok(()),
+            Err(error) => {
+                let _ = self.jobs.remove(&id);
+                Err(error)
+            }
+        }
+    }
+
+    /// Takes the ending of a try of a lane's first job, at `now` in seconds since 1970, and says what it did to the job. Takes no
+    /// memory.
+    ///
+    /// Status 0 settles the job. After its first failed try it is due again 2 seconds later, after the second 4 seconds later, and
+    /// the third gives it up.
+    pub fn settle(&mut self, id: u64, outcome: Outcome, now: u64) -> Settled
+        requires head { is_head_id id self.old ≡ true }
+        requires now { now < 2 ^ 40 }
+        ensures jobs { self.new ≡ settle_in (ending_of id outcome now) self.old }
+        ensures answer { IfSome (job_by_id id self.old) (λ job. result ≡ settled_as (ending_of id outcome now) job) }
+    {
+        match self.jobs.get(&id) {
+            Some(job) => {
+                let settled = settled_as(job, id, outcome, now);
+                apply(&mut self.jobs, &mut self.queues, id, settled);
+                settled
+            }
+            None => Settled::GivenUp,
+        }
+    }
+
+    /// The job to start next at `now`, in seconds since 1970: that of the least id among the first jobs of lanes that are due and
+    /// whose ids are not among those that run. Takes no memory.
+    pub fn next_due(&self, now: u64, running: &[u64]) -> Option<&Job>
+        ensures { option_copied result ≡ next_due now running.now self.now }
+    {
+        match least_due(&self.jobs, &self.queues, now, running) {
+            Some(id) => self.jobs.get(&id),
+            None => None,
+        }
+    }
+
+    /// A copy of the jobs, by id.
+    pub fn jobs(&self, alloc: Global) -> Result<Seq<Job>, NoMemory>
+        ensures { IfOk result (λ jobs. jobs ≡ self.now) }
+    {
+        let mut jobs = Seq::new(alloc);
+        for job in self.jobs.values() {
+            jobs.push(job.copy()?)?;
+        }
+        Ok(jobs)
+    }
+}
+
+/// Whether the id is there, and this one.
+fn is_number(number: Option<u64>, id: u64) -> bool
+    ensures { result ≡ is_number id number }
+{
+    match number {
+        Some(number) => number == id,
+        None => false,
+    }
+}

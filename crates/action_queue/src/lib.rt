@@ -1,0 +1,22 @@
+//! Lanes of jobs: the commands that a server's actions still have to run, one after the other in each lane.
+//!
+//! A caller sees `Lanes` as the list of the jobs that are not settled, by id. It pushes a job behind the others, asks for the job
+//! to start next, and says how a try of it ended: the job is then done, given up after its third failed try, or due again 2 or 4
+//! seconds later. The job of a lane that comes next waits until the one before it is settled, and lanes do not wait for each other.
+//!
+//! A push, an ending and a search of one job take time by the logarithm of the number of jobs and by the number of lanes that
+//! wait; so does the choice of the next job, but for the ids that run. Nothing here knows a clock, a command or a process, or why
+//! a job was made: the caller says what time it is and what runs.
+#![tactic(auto)]
+
+mod due;
+mod entries;
+mod lanes;
+mod queue;
+#[cfg(test)]
+mod tests;
+#[cfg(test)]
+mod tests_many;
+mod tries;
+
+pub use lanes::Lanes;

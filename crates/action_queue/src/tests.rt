@@ -1,0 +1,281 @@
+//! Worked rows: tries and their pauses, lanes and their order, and the last moment. Each job bears a lane of its own letter.
+
+use crate::Lanes;
+use f2b_base::{Family, Job, JobKind, LaneId, Outcome, Plain, Settled, Text};
+use std::alloc::Global;
+use std::process::Abort;
+use std::test::Fail;
+
+/// The last moment that there is, in seconds since 1970.
+const LAST: u64 = (1 << 40) - 1;
+
+/// What a row does, and what it wants to see.
+#[derive(Clone, Copy)]
+enum Step {
+    /// Pushes the job of that id into a lane, due at a moment.
+    Push(u64, &'static str, u64),
+    /// A try of the job ends at a moment.
+    Ends(u64, Outcome, u64, Settled),
+    /// The id of the job to start next at a moment, where these run.
+    Next(u64, &'static [u64], Option<u64>),
+    /// How many jobs are not settled.
+    Count(u64),
+}
+
+// The lane of an action in the jail sshd.
+pub(crate) fn lane_of(alloc: Global, action: &str) -> Result<LaneId, Fail> {
+    Ok(LaneId {
+        jail: Text::from_str(alloc, "sshd")?,
+        action: Text::from_str(alloc, action)?,
+        family: Family::Both,
+    })
+}
+
+pub(crate) fn job_of(alloc: Global, id: u64, lane: LaneId, due: u64) -> Job {
+    Job {
+        id,
+        lane,
+        kind: JobKind::Ban,
+        addr: None,
+        text: Text::new(alloc),
+        timeout: 60,
+        tries: 0,
+        due,
+    }
+}
+
+// Pushes a job, whose id is the greatest.
+pub(crate) fn push(
+    rt: &impl Abort,
+    alloc: Global,
+    lanes: &mut Lanes,
+    job: Job,
+) -> Result<(), Fail> {
+    assert!(rt; lanes.is_above_all(job.id), "at job {}", job.id);
+    lanes.push(alloc, job)?;
+    Ok(())
+}
+
+// Ends a try of a job, which is the first of its lane.
+pub(crate) fn settle(
+    rt: &impl Abort,
+    lanes: &mut Lanes,
+    id: u64,
+    outcome: Outcome,
+    now: u64,
+) -> Settled {
+    assert!(rt; lanes.is_head(id), "at job {id}");
+    assert!(rt; now <= LAST, "at {now}");
+    lanes.settle(id, outcome, now)
+}
+
+fn take_step(
+    rt: &impl Abort,
+    alloc: Global,
+    lanes: &mut Lanes,
+    step: Step,
+    name: &str,
+) -> Result<(), Fail> {
+    match step {
+        Step::Push(id, action, due) => {
+            let job = job_of(alloc, id, lane_of(alloc, action)?, due);
+            push(rt, alloc, lanes, job)?;
+        }
+        Step::Ends(id, outcome, now, want) => {
+            assert_eq!(rt;
+                settle(rt, lanes, id, outcome, now),
+                want,
+                "{name}: {id} at {now}"
+            );
+        }
+        Step::Next(now, running, want) => {
+            let next = lanes.next_due(now, running).map(|job| job.id);
+            assert_eq!(rt; next, want, "{name}: next at {now}");
+        }
+        Step::Count(want) => assert_eq!(rt; lanes.count(), want, "{name}"),
+    }
+    Ok(())
+}
+
+fn take_row(rt: &impl Abort, alloc: Global, name: &str, steps: &[Step]) -> Result<(), Fail> {
+    let mut lanes = Lanes::new(alloc);
+    for &step in steps {
+        take_step(rt, alloc, &mut lanes, step, name)?;
+    }
+    Ok(())
+}
+
+const FAILED: Outcome = Outcome::Status(1);
+
+const SUCCEEDED: Outcome = Outcome::Status(0);
+
+#[test]
+fn a_job_has_three_tries(rt: HostRuntime) -> Result<(), Fail> {
+    use Step::{Count, Ends, Next, Push};
+    let rows: [(&str, &[Step]); 4] = [
+        (
+            "the third try succeeds",
+            &[
+                Push(7, "a", 1000),
+                Next(999, &[], None),
+                Next(1000, &[], Some(7)),
+                Next(1000, &[7], None),
+                Ends(7, FAILED, 1001, Settled::Again(1003)),
+                Next(1002, &[], None),
+                Next(1003, &[], Some(7)),
+                Ends(7, FAILED, 1004, Settled::Again(1008)),
+                Next(1007, &[], None),
+                Next(1008, &[], Some(7)),
+                Count(1),
+                Ends(7, SUCCEEDED, 1008, Settled::Done),
+                Count(0),
+                Next(LAST, &[], None),
+            ],
+        ),
+        (
+            "the third try fails",
+            &[
+                Push(7, "a", 1000),
+                Ends(7, FAILED, 1001, Settled::Again(1003)),
+                Ends(7, FAILED, 1004, Settled::Again(1008)),
+                Ends(7, FAILED, 1009, Settled::GivenUp),
+                Count(0),
+                Next(LAST, &[], None),
+            ],
+        ),
+        (
+            "no try starts, and the next job of the lane follows",
+            &[
+                Push(7, "a", 1000),
+                Push(8, "a", 1000),
+                Ends(7, Outcome::NotStarted, 1000, Settled::Again(1002)),
+                Ends(7, Outcome::NotStarted, 1002, Settled::Again(1006)),
+                Next(1005, &[], None),
+                Ends(7, Outcome::NotStarted, 1006, Settled::GivenUp),
+                Count(1),
+                Next(1006, &[], Some(8)),
+            ],
+        ),
+        (
+            "a timeout and a signal are failures, whatever the number",
+            &[
+                Push(1, "a", 0),
+                Ends(1, Outcome::TimedOut, 60, Settled::Again(62)),
+                Ends(1, Outcome::Status(137), 62, Settled::Again(66)),
+                Ends(1, Outcome::Status(-1), 66, Settled::GivenUp),
+            ],
+        ),
+    ];
+    for (name, steps) in rows {
+        take_row(&rt, rt.alloc(), name, steps)?;
+    }
+    Ok(())
+}
+
+#[test]
+fn lanes_do_not_wait_for_each_other(rt: HostRuntime) -> Result<(), Fail> {
+    use Step::{Count, Ends, Next, Push};
+    let rows: [(&str, &[Step]); 4] = [
+        (
+            "of equal moments the least id comes first, and one job of a lane at a time",
+            &[
+                Push(10, "a", 100),
+                Push(11, "b", 100),
+                Push(12, "a", 100),
+                Push(13, "c", 100),
+                Next(100, &[], Some(10)),
+                Next(100, &[10], Some(11)),
+                Next(100, &[11, 10], Some(13)),
+                Next(100, &[13, 10, 11], None),
+                Next(100, &[12, 14], Some(10)),
+                Ends(11, SUCCEEDED, 100, Settled::Done),
+                Next(100, &[10], Some(13)),
+                Ends(10, SUCCEEDED, 101, Settled::Done),
+                Next(101, &[], Some(12)),
+                Count(2),
+            ],
+        ),
+        (
+            "a later moment of an earlier job does not hold others up",
+            &[
+                Push(1, "a", 200),
+                Push(2, "b", 150),
+                Push(3, "c", 100),
+                Next(99, &[], None),
+                Next(100, &[], Some(3)),
+                Next(150, &[], Some(2)),
+                Next(200, &[], Some(1)),
+            ],
+        ),
+        (
+            "a job that waits keeps its lane waiting",
+            &[
+                Push(1, "a", 100),
+                Push(2, "a", 100),
+                Push(3, "b", 100),
+                Ends(1, Outcome::TimedOut, 160, Settled::Again(162)),
+                Next(161, &[], Some(3)),
+                Next(161, &[3], None),
+                Next(162, &[3], Some(1)),
+                Ends(3, SUCCEEDED, 163, Settled::Done),
+                Ends(1, FAILED, 163, Settled::Again(167)),
+                Ends(1, FAILED, 167, Settled::GivenUp),
+                Next(167, &[], Some(2)),
+                Ends(2, FAILED, 167, Settled::Again(169)),
+            ],
+        ),
+        (
+            "no moment is later than the last",
+            &[
+                Push(1, "a", LAST),
+                Push(2, "b", 0),
+                Next(LAST - 1, &[2], None),
+                Ends(2, FAILED, LAST - 2, Settled::Again(LAST)),
+                Ends(1, FAILED, LAST, Settled::Again(LAST)),
+                Next(LAST, &[], Some(1)),
+                Ends(2, FAILED, LAST - 4, Settled::Again(LAST)),
+                Ends(1, FAILED, LAST - 5, Settled::Again(LAST - 1)),
+                Next(LAST - 1, &[], Some(1)),
+            ],
+        ),
+    ];
+    for (name, steps) in rows {
+        take_row(&rt, rt.alloc(), name, steps)?;
+    }
+    Ok(())
+}
+
+#[test]
+fn finds_heads_of_lanes(rt: HostRuntime) -> Result<(), Fail> {
+    let alloc = rt.alloc();
+    let mut lanes = Lanes::new(alloc);
+    let named = lane_of(alloc, "a")?;
+    let mut other_jail = lane_of(alloc, "a")?;
+    other_jail.jail = Text::from_str(alloc, "nginx")?;
+    let mut other_family = lane_of(alloc, "a")?;
+    other_family.family = Family::Inet6;
+    for (id, lane) in [
+        (1, &named),
+        (2, &other_jail),
+        (3, &other_family),
+        (9, &named),
+    ] {
+        push(&rt, alloc, &mut lanes, job_of(alloc, id, lane.copy()?, 100))?;
+    }
+    for (lane, want) in [(&named, 1), (&other_jail, 2), (&other_family, 3)] {
+        assert_eq!(rt; lanes.head(lane).map(|job| job.id), Some(want), "at {want}");
+    }
+    assert_eq!(rt; lanes.head(&lane_of(alloc, "b")?), None);
+    assert_eq!(rt; lanes.find(9).map(|job| job.id), Some(9));
+    assert_eq!(rt; lanes.find(4), None);
+    assert!(rt; !lanes.is_head(9) && !lanes.is_head(4));
+    assert!(rt; !lanes.is_above_all(9) && lanes.is_above_all(10));
+    settle(&rt, &mut lanes, 1, FAILED, 100);
+    let jobs = lanes.jobs(alloc)?;
+    let shown = [(1, 1, 102), (2, 0, 100), (3, 0, 100), (9, 0, 100)];
+    assert_eq!(rt; jobs.len(), shown.len());
+    for (job, (id, tries, due)) in jobs.as_slice().iter().zip(shown) {
+        assert_eq!(rt; (job.id, job.tries, job.due), (id, tries, due));
+    }
+    Ok(())
+}

@@ -1,0 +1,59 @@
+//! A million jobs, and the time that they take: a test has a limit.
+
+use crate::Lanes;
+use crate::tests::{job_of, lane_of, push, settle};
+use f2b_base::{LaneId, NoMemory, Outcome, Plain, Settled};
+use std::alloc::Global;
+use std::test::Fail;
+
+const JOBS: u64 = 1_000_000;
+
+/// The actions of the lanes, in which jobs are pushed in turn.
+const ACTIONS: [&str; 32] = [
+    "a", "b", "c", "d", "e", "f", "g", "h", "i", "j", "k", "l", "m", "n", "o", "p", "q", "r", "s",
+    "t", "u", "v", "w", "x", "y", "z", "0", "1", "2", "3", "4", "5",
+];
+
+/// How many jobs run at a time.
+const RUNNING: usize = 16;
+
+// Starts jobs until as many run as may, or none is left to start.
+fn start(lanes: &Lanes, running: &mut Vec<u64>) -> Result<(), NoMemory> {
+    for _ in running.len()..RUNNING {
+        if let Some(job) = lanes.next_due(1000, running) {
+            running.push(job.id)?;
+        }
+    }
+    Ok(())
+}
+
+#[test]
+fn a_million_jobs_settle_within_seconds(rt: HostRuntime) -> Result<(), Fail> {
+    let alloc = rt.alloc();
+    let mut ids: Vec<LaneId> = Vec::new(alloc);
+    for action in ACTIONS {
+        ids.push(lane_of(alloc, action)?)?;
+    }
+    let mut lanes = Lanes::new(alloc);
+    for id in 0..JOBS {
+        let lane = ids.get((id % 32) as usize).ok_or("no lane")?;
+        push(
+            &rt,
+            alloc,
+            &mut lanes,
+            job_of(alloc, id, lane.copy()?, 1000),
+        )?;
+    }
+    assert_eq!(rt; lanes.count(), JOBS);
+    let mut running = Vec::new(alloc);
+    for want in 0..JOBS {
+        start(&lanes, &mut running)?;
+        assert!(rt; !running.is_empty(), "at job {want}");
+        let id = running.remove(0);
+        assert_eq!(rt; id, want);
+        let settled = settle(&rt, &mut lanes, id, Outcome::Status(0), 1000);
+        assert_eq!(rt; settled, Settled::Done);
+    }
+    assert_eq!(rt; lanes.count(), 0);
+    Ok(())
+}

@@ -1,0 +1,53 @@
+//! What the ending of a try makes of its job.
+ghost use Rattle.std.specs.Prelude.{◌≡◌, ◌<◌, ◌≤◌, ◌^◌};
+ghost use Rattle.f2b_model.specs.Jobs.{is_success, capped, wait_after, settled_as};
+ghost use Rattle.action_queue.specs.Tries.{ending_of, IfAgain};
+
+use f2b_base::{Job, Outcome, Settled};
+
+/// The last moment, in seconds since 1970.
+const LAST_MOMENT: u64 = 1_099_511_627_775;
+
+/// How many failed tries a job may have and be tried again.
+const MAX_FAILED: u8 = 2;
+
+/// What the ending of a try of the job, at `now` in seconds since 1970, does to it.
+pub(crate) fn settled_as(job: &Job, id: u64, outcome: Outcome, now: u64) -> Settled
+    requires { now < 2 ^ 40 }
+    ensures value { result ≡ settled_as (ending_of id outcome now) job.now }
+    ensures few { IfAgain result (job.now.tries < 2) }
+{
+    if is_success(outcome) {
+        return Settled::Done;
+    }
+    if job.tries >= MAX_FAILED {
+        return Settled::GivenUp;
+    }
+    Settled::Again(capped(now + wait_after(job.tries)))
+}
+
+/// Whether the try succeeded: its command ended with status 0.
+fn is_success(outcome: Outcome) -> bool
+    ensures { result ≡ is_success outcome }
+{
+    match outcome {
+        Outcome::Status(status) => status == 0,
+        Outcome::NotStarted => false,
+        Outcome::TimedOut => false,
+    }
+}
+
+/// The moment, or the last one where it is later.
+fn capped(moment: u64) -> u64
+    ensures { result ≡ capped moment }
+{
+    moment.min(LAST_MOMENT)
+}
+
+/// How many seconds a job waits after a failed try, by the failed tries before it.
+fn wait_after(tries: u8) -> u64
+    ensures value { result ≡ wait_after tries }
+    ensures few { result ≤ 4 }
+{
+    if tries == 0 { 2 } else { 4 }
+}
