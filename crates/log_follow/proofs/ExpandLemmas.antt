@@ -85,13 +85,13 @@ sorted_texts (first ∷ lent) sorted k d low high =
     rw (later, sooner) (sorted k first low below)
 
 -- the watch of one name more
-pub push_watch : (watch : WatchDef) (lent : List (Bor (List ℕ))) (k : ℕ) (item : Bor (List ℕ)) (d : Bor (List ℕ)) (watches next : List WatchDef) (directory path : List ℕ)
-    → k < length lent → get_or lent k d ≡ item → watches ≡ map (watch_at watch) (take k (texts lent)) → directory ≡ to_slash watch.path → path ≡ directory ++ item.now
+pub push_watch : (watch : WatchDef) (lent : List (Bor (List ℕ))) (k : ℕ) (d : Bor (List ℕ)) (watches next : List WatchDef) (directory path : List ℕ)
+    → k < length lent → watches ≡ map (watch_at watch) (take k (texts lent)) → directory ≡ to_slash watch.path → path ≡ directory ++ (get_or lent k d).now
     → next ≡ watches ++ record { path = path; tail = watch.tail } ∷ [] → next ≡ map (watch_at watch) (take (k + 1) (texts lent))
-push_watch watch lent k item d watches next directory path below is before front all more =
+push_watch watch lent k d watches next directory path below before front all more =
     let within : k < length (texts lent) = omega (arith, length-map lent (λ (t : Bor (List ℕ)). t.now)) in
-    let name : get_or (texts lent) k [] ≡ item.now = get_or-map (λ (t : Bor (List ℕ)). t.now) lent k d [] below ∙ ap (λ (t : Bor (List ℕ)). t.now) is in
-    let made : path ≡ to_slash watch.path ++ get_or (texts lent) k [] = all ∙ ap (λ (f : List ℕ). f ++ item.now) front ∙ ap (λ (n : List ℕ). to_slash watch.path ++ n) (sym name) in
+    let name : get_or (texts lent) k [] ≡ (get_or lent k d).now = get_or-map (λ (t : Bor (List ℕ)). t.now) lent k d [] below in
+    let made : path ≡ to_slash watch.path ++ get_or (texts lent) k [] = all ∙ ap (λ (f : List ℕ). f ++ (get_or lent k d).now) front ∙ ap (λ (n : List ℕ). to_slash watch.path ++ n) (sym name) in
     more
     ∙ ap (λ (ws : List WatchDef). ws ++ record { path = path; tail = watch.tail } ∷ []) before
     ∙ ap (λ (p : List ℕ). map (watch_at watch) (take k (texts lent)) ++ record { path = p; tail = watch.tail } ∷ []) made

@@ -75,8 +75,8 @@ after_same w (look ∷ looks) all =
 pub any_cut : (w : Watch) (one other : List FileLook) → AllGoOn w one → AllGoOn w other → bytes_in one ≡ bytes_in other
     → (lines_in (steps_of w one) ≡ lines_in (steps_of w other)) × (after_looks w one ≡ after_looks w other)
 any_cut w one other first second same = (
-    lines_once w one first ∙ ap (new_lines w.seen) same ∙ sym (lines_once w other second),
-    after_same w one first ∙ ap (λ (bytes : List ℕ). sees bytes w) same ∙ sym (after_same w other second)
+  lines_once w one first ∙ ap (new_lines w.seen) same ∙ sym (lines_once w other second),
+  after_same w one first ∙ ap (λ (bytes : List ℕ). sees bytes w) same ∙ sym (after_same w other second),
 )
 
 -- Places.

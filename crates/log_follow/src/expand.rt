@@ -45,7 +45,9 @@ pub fn expand_path(
 fn has_wildcard(path: &str) -> bool
     ensures { result ≡ has_wildcard path.now }
 {
-    path.as_bytes().iter().any(|byte| *byte == b'*' || *byte == b'?')
+    path.as_bytes()
+        .iter()
+        .any(|byte| *byte == b'*' || *byte == b'?')
 }
 
 // The path up to and with its last slash, and what follows it.

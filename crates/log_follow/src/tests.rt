@@ -98,17 +98,29 @@ fn a_line_in_five_looks(rt: HostRuntime) -> Result<(), Fail> {
 fn a_log_is_rotated(rt: HostRuntime) -> Result<(), Fail> {
     let alloc = rt.alloc();
     let same = [b'a'; 70];
-    let longer = [b"aaaaaaaaaaaaaaaaaaaaaaaaaaaaaaaaaaaaaaaaaaaaaaaaaaaaaaaaaaaaaaaaaaaaaa".as_slice(), b"\nbb\n"];
+    let longer = [
+        b"aaaaaaaaaaaaaaaaaaaaaaaaaaaaaaaaaaaaaaaaaaaaaaaaaaaaaaaaaaaaaaaaaaaaaa".as_slice(),
+        b"\nbb\n",
+    ];
     let rows: [(&[&[u8]], &str); 8] = [
         // Shorter, of the same length, longer.
         (&[b"abc", b"ab", b"ab\n"], ";(rotated);ab|;"),
         (&[b"abc", b"xyz", b"xyz\n"], ";(rotated);xyz|;"),
-        (&[b"abc", b"xyz456789", b"xyz456789\n"], ";(rotated);xyz456789|;"),
+        (
+            &[b"abc", b"xyz456789", b"xyz456789\n"],
+            ";(rotated);xyz456789|;",
+        ),
         // The bytes of the look that found it are not used, and come with the next.
-        (&[b"one\ntwo", b"1\n2\n", b"1\n2\n", b"1\n2\n3\n"], "one|;(rotated);1|2|;3|;"),
+        (
+            &[b"one\ntwo", b"1\n2\n", b"1\n2\n", b"1\n2\n3\n"],
+            "one|;(rotated);1|2|;3|;",
+        ),
         (&[b"one\n", b"", b"", b"two\n"], "one|;(rotated);;two|;"),
         // A log that was truncated and has grown since.
-        (&[b"one\ntwo\n", b"six\n", b"six\n"], "one|two|;(rotated);six|;"),
+        (
+            &[b"one\ntwo\n", b"six\n", b"six\n"],
+            "one|two|;(rotated);six|;",
+        ),
         (&[b"one\n", b"one\ntwo\n"], "one|;two|;"),
         (&[b"\xff\n", b"\xff\n\xfe\n"], "\u{fffd}|;\u{fffd}|;"),
     ];

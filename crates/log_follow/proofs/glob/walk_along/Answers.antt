@@ -11,12 +11,11 @@ returns-then-wanted-eq42 c =
 pub loop-wanted-preserved : goal.loop-wanted-preserved
 loop-wanted-preserved c =
     let i = c.loop-wanted.invariant in
-    let left : length c.in-Some-first.left.now < length c.loop-wanted.name.now = c.in-Some-first.ensures.shorter in
-    (
+    let left : length c.in-Some-first.left.now < length c.loop-wanted.name.now = c.in-Some-first.ensures.shorter in (
       c.in-Some.ensures.text,
       c.in-Some-first.ensures.text,
       steps_on c.args.pattern.now c.args.name.now c.loop-wanted.pattern.now c.loop-wanted.name.now c.in-Some.behind.now c.in-Some.wanted i.2 c.in-Some.ensures.some
-      c.in-Some-first.left.now c.in-Some-first.found c.if-wanted-eq42.false c.in-Some-first.ensures.some (sym c.stands_for.ensures ∙ c.if-stands_for.true),
+          c.in-Some-first.left.now c.in-Some-first.found c.if-wanted-eq42.false c.in-Some-first.ensures.some (sym c.stands_for.ensures ∙ c.if-stands_for.true),
       omega (arith, c.in-Some.ensures.shorter, i.3),
-      omega (arith, i.4)
+      omega (arith, i.4),
     )
