@@ -97,13 +97,8 @@ fn a_line_in_five_looks(rt: HostRuntime) -> Result<(), Fail> {
 #[test]
 fn a_log_is_rotated(rt: HostRuntime) -> Result<(), Fail> {
     let alloc = rt.alloc();
-    let same = [b'a'; 70];
-    let longer = [
-        b"aaaaaaaaaaaaaaaaaaaaaaaaaaaaaaaaaaaaaaaaaaaaaaaaaaaaaaaaaaaaaaaaaaaaaa".as_slice(),
-        b"\nbb\n",
-    ];
-    let rows: [(&[&[u8]], &str); 8] = [
-        // Shorter, of the same length, longer.
+    let rows: [(&[&[u8]], &str); 9] = [
+        // Another log: shorter, as long, longer.
         (&[b"abc", b"ab", b"ab\n"], ";(rotated);ab|;"),
         (&[b"abc", b"xyz", b"xyz\n"], ";(rotated);xyz|;"),
         (
@@ -115,26 +110,249 @@ fn a_log_is_rotated(rt: HostRuntime) -> Result<(), Fail> {
             &[b"one\ntwo", b"1\n2\n", b"1\n2\n", b"1\n2\n3\n"],
             "one|;(rotated);1|2|;3|;",
         ),
+        // Truncated, and grown again to less than was read, and to more.
         (&[b"one\n", b"", b"", b"two\n"], "one|;(rotated);;two|;"),
-        // A log that was truncated and has grown since.
         (
             &[b"one\ntwo\n", b"six\n", b"six\n"],
             "one|two|;(rotated);six|;",
         ),
+        (
+            &[b"one\n", b"two\nsix\n", b"two\nsix\n"],
+            "one|;(rotated);two|six|;",
+        ),
+        // The same log.
         (&[b"one\n", b"one\ntwo\n"], "one|;two|;"),
-        (&[b"\xff\n", b"\xff\n\xfe\n"], "\u{fffd}|;\u{fffd}|;"),
+        // Another that begins as the old one did, and is longer, passes for the same.
+        (&[b"one\n", b"one\nsix\n"], "one|;six|;"),
     ];
     for (files, wanted) in rows {
         assert_eq!(rt; told(alloc, &from_start(alloc), files)?.as_str(), wanted);
     }
 
-    // Another log that begins with the same 64 bytes and is no shorter passes for the same one.
-    let mut log = Vec::from_slice(alloc, same.as_slice())?;
-    for part in longer {
-        log.extend_from_slice(part)?;
-    }
-    let looks: [&[u8]; 2] = [same.as_slice(), log.as_slice()];
-    let text = told(alloc, &from_start(alloc), &looks)?;
-    assert_eq!(rt; text.as_str().len(), 70 + 70 + "|bb|;;".len());
+    let mut follower = Follower::new(alloc, &from_start(alloc))?;
+    let mut text = String::new(alloc);
+    look_on(alloc, &mut follower, &mut text, b"abc", 65_536)?;
+    assert_eq!(rt; follower.ask().from, 3);
+    look_on(alloc, &mut follower, &mut text, b"ab", 65_536)?;
+    assert_eq!(rt; follower.ask().from, 0);
     Ok(())
+}
+
+#[test]
+fn only_the_first_64_bytes_tell_logs_apart(rt: HostRuntime) -> Result<(), Fail> {
+    let alloc = rt.alloc();
+    let old = vec![in alloc; b'a'; 70]?;
+    let mut same = vec![in alloc; b'a'; 64]?;
+    same.extend_from_slice(b"bbbbbb\n")?;
+    let mut other = vec![in alloc; b'a'; 63]?;
+    other.extend_from_slice(b"bbbbbbb\n")?;
+
+    let mut follower = Follower::new(alloc, &from_start(alloc))?;
+    let mut text = String::new(alloc);
+    look_on(alloc, &mut follower, &mut text, &old, 65_536)?;
+    look_on(alloc, &mut follower, &mut text, &same, 65_536)?;
+    assert_eq!(rt; text.as_str().len(), 71, "the line of 70 bytes and a bar");
+    text.clear();
+    look_on(alloc, &mut follower, &mut text, &other, 65_536)?;
+    assert_eq!(rt; text.as_str(), "(rotated)");
+    Ok(())
+}
+
+#[test]
+fn a_log_is_followed_from_its_end(rt: HostRuntime) -> Result<(), Fail> {
+    let alloc = rt.alloc();
+    let mut log = vec![in alloc; b'x'; 100]?;
+    let mut follower = Follower::new(alloc, &Place::Tail)?;
+    let mut text = String::new(alloc);
+    assert_eq!(rt; follower.ask().from, 0);
+    look_on(alloc, &mut follower, &mut text, &log, 65_536)?;
+    assert_eq!(rt; text.as_str(), "(placed)");
+    let ask = follower.ask();
+    assert_eq!(rt; (ask.head, ask.from, ask.max), (64, 100, 65_536));
+    let place = follower.place(alloc)?;
+    let (position, head) = match &place {
+        Place::Pos { position, head } => (*position, head.as_slice()),
+        Place::Tail => (0, b"".as_slice()),
+    };
+    assert_eq!(rt; (position, head.len()), (100, 64));
+
+    // What came behind its end is a line, also for who begins again at the place that was kept.
+    log.extend_from_slice(b"yes\nno")?;
+    text.clear();
+    look_on(alloc, &mut follower, &mut text, &log, 65_536)?;
+    assert_eq!(rt; text.as_str(), "yes|");
+    assert!(rt; matches!(&place, Place::Pos { .. }));
+    Ok(())
+}
+
+// The lines of a log that grows in three parts, with an extra look at each.
+fn told_in_parts(
+    alloc: Global,
+    log: &[u8],
+    first: usize,
+    second: usize,
+    most: usize,
+) -> Result<String, Fail> {
+    let mut text = String::new(alloc);
+    let mut follower = Follower::new(alloc, &from_start(alloc))?;
+    for end in [first, second, log.len()] {
+        let file = log.get(..end).unwrap_or(log);
+        look_on(alloc, &mut follower, &mut text, file, most)?;
+        look_on(alloc, &mut follower, &mut text, file, 65_536)?;
+    }
+    Ok(text)
+}
+
+#[test]
+fn lines_come_whole_wherever_they_are_cut(rt: HostRuntime) -> Result<(), Fail> {
+    let alloc = rt.alloc();
+    let rows: [(&[u8], &str); 4] = [
+        (b"one\r\ntwo\n\nthr", "one|two||"),
+        (b"\r\r\na\rb\n\r\n", "\r|a\rb||"),
+        // Ill-formed: a byte alone, two of three bytes, a surrogate, one too far; and well-formed, which stays.
+        (
+            b"\xff\xe2\x82\n\xe2\x82\xac\n",
+            "\u{fffd}\u{fffd}\u{fffd}|\u{20ac}|",
+        ),
+        (
+            b"\xed\xa0\x80.\xf4\x90\x80\x80.\xc3\xa9\xc3\n",
+            "\u{fffd}\u{fffd}\u{fffd}.\u{fffd}\u{fffd}\u{fffd}\u{fffd}.\u{e9}\u{fffd}|",
+        ),
+    ];
+    for (log, wanted) in rows {
+        for first in 0..log.len() + 1 {
+            for second in first..log.len() + 1 {
+                let text = told_in_parts(alloc, log, first, second, 2)?;
+                assert_eq!(rt; text.as_str(), wanted, "cut at {first} and {second}");
+            }
+        }
+    }
+    Ok(())
+}
+
+// What becomes of a log of one long line and a short one, that has grown by these parts.
+fn told_long(alloc: Global, line: usize, end: &[u8], piece: usize) -> Result<String, Fail> {
+    let mut log = vec![in alloc; b'a'; line]?;
+    log.extend_from_slice(end)?;
+    log.extend_from_slice(b"short\n")?;
+    let mut text = String::new(alloc);
+    let mut follower = Follower::new(alloc, &from_start(alloc))?;
+    for _ in 0..200 {
+        look_on(alloc, &mut follower, &mut text, &log, piece)?;
+    }
+    Ok(text)
+}
+
+#[test]
+fn a_line_may_have_65536_bytes(rt: HostRuntime) -> Result<(), Fail> {
+    let alloc = rt.alloc();
+    let rows: [(usize, &[u8], &str); 8] = [
+        (65_535, b"\n", "(full)|short|"),
+        (65_536, b"\n", "(full)|short|"),
+        (65_537, b"\n", "(long)|short|"),
+        (65_534, b"\r\n", "(full)|short|"),
+        (65_535, b"\r\n", "(full)|short|"),
+        (65_536, b"\r\n", "(long)|short|"),
+        (131_072, b"\n", "(long)|short|"),
+        (8_000_000, b"\n", "(long)|short|"),
+    ];
+    for (line, end, wanted) in rows {
+        for piece in [65_536, 65_535, 50_000] {
+            let text = told_long(alloc, line, end, piece)?;
+            assert_eq!(rt; text.as_str(), wanted, "{line} bytes by {piece}");
+        }
+    }
+    Ok(())
+}
+
+#[test]
+fn patterns_stand_for_names(rt: HostRuntime) -> Result<(), Fail> {
+    let rows: [(&str, &str, bool); 20] = [
+        ("", "", true),
+        ("", "a", false),
+        ("a", "", false),
+        ("*", "", true),
+        ("**", "abc", true),
+        ("?", "", false),
+        ("?", "\u{20ac}", true),
+        ("??", "\u{20ac}", false),
+        ("a*.log", "a.log", true),
+        ("a*.log", "a1.log", true),
+        ("a*.log", "ba1.log", false),
+        ("a*.log", "a1.log.1", false),
+        ("*.log", ".log.log", true),
+        ("a*b*c", "abcbc", true),
+        ("a*b*c", "abcb", false),
+        ("*ab", "aab", true),
+        ("*a?c", "aabc", true),
+        ("[ab]", "a", false),
+        ("A", "a", false),
+        ("\u{e9}*", "\u{e9}t\u{e9}", true),
+    ];
+    for (pattern, name, wanted) in rows {
+        assert_eq!(rt; glob_match(pattern, name), wanted, "{pattern} and {name}");
+    }
+    Ok(())
+}
+
+#[test]
+fn many_stars_take_no_long_time(rt: HostRuntime) -> Result<(), Fail> {
+    let mut pattern = String::new(rt.alloc());
+    let mut name = String::new(rt.alloc());
+    for _ in 0..200 {
+        pattern.push_str("a*")?;
+        name.push_str("aaaaa")?;
+    }
+    assert!(rt; glob_match(pattern.as_str(), name.as_str()));
+    pattern.push('b')?;
+    assert!(rt; !glob_match(pattern.as_str(), name.as_str()));
+    Ok(())
+}
+
+// The paths that a path stands for, with a bar behind each.
+fn expanded(alloc: Global, path: &str, names: &[&str]) -> Result<String, Fail> {
+    let watch = WatchDef {
+        path: Text::from_str(alloc, path)?,
+        tail: true,
+    };
+    let mut listed = Seq::new(alloc);
+    for name in names {
+        listed.push(Text::from_str(alloc, name)?)?;
+    }
+    let mut text = String::new(alloc);
+    for watch in expand_path(alloc, &watch, &listed)?.as_slice() {
+        text.push_str(watch.path.as_str())?;
+        text.push(if watch.tail { '|' } else { '-' })?;
+    }
+    Ok(text)
+}
+
+#[test]
+fn a_path_stands_for_logs(rt: HostRuntime) -> Result<(), Fail> {
+    let alloc = rt.alloc();
+    let rows: [(&str, &[&str], &str); 6] = [
+        (
+            "/var/log/a*.log",
+            &["a2.log", "b.log", "a1.log"],
+            "/var/log/a1.log|/var/log/a2.log|",
+        ),
+        ("/var/log/a.log", &["a1.log"], "/var/log/a.log|"),
+        ("/a?", &["ab", "a", "aa", "aB"], "/aB|/aa|/ab|"),
+        ("/var/log/*", &[], ""),
+        ("a*", &["b", "ab"], "ab|"),
+        ("/v/*", &["10", "9", "1"], "/v/1|/v/10|/v/9|"),
+    ];
+    for (path, names, wanted) in rows {
+        assert_eq!(rt; expanded(alloc, path, names)?.as_str(), wanted);
+    }
+
+    let many = ["x"; 70];
+    assert_eq!(rt; expanded(alloc, "/*", &many)?.as_str().len(), 64 * 3);
+    Ok(())
+}
+
+#[test]
+fn laws_are_called() {
+    watch_law();
+    decode_law();
 }

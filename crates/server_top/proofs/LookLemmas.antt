@@ -8,7 +8,7 @@ use Rattle.f2b_world.specs.Told.{Standing, Called}
 use Rattle.f2b_world.specs.declared.answer.Look.{Look}
 use Rattle.f2b_world.specs.declared.answer.Look.TheVariants.{File, Absent, Failed as LookFailed, NoMemory as LookNoMemory}
 use Rattle.f2b_world.specs.declared.event.Event.TheVariants.{Look as LookAt, Pause}
-use Rattle.log_follow.specs.Followed.{StandsFor, place_of}
+use Rattle.log_follow.specs.Cut.{StandsFor, place_of}
 use Rattle.log_follow.specs.Lines.{new_lines}
 use Rattle.log_follow.specs.declared.line.Line.{Line}
 use Rattle.server_top.specs.Law.{Following, Point, AtClock, AtLook, AtPause, Run, IsNext, call_of, Halts, takes, looked, lines_read, seen_more, read_of, path_of, turned, failures_in}

@@ -12,8 +12,8 @@ use Rattle.f2b_model.specs.declared.jail_now.JailNow.{JailNow}
 use Rattle.f2b_world.specs.Told.{Standing, Called}
 use Rattle.f2b_world.specs.declared.event.Event.{Event}
 use Rattle.f2b_world.specs.declared.event.Event.TheVariants.{Clock}
-use Rattle.log_follow.specs.Followed.{StandsFor}
-use Rattle.log_follow.specs.declared.follower.Follower.{Follower}
+use Rattle.log_follow.specs.Cut.{StandsFor}
+use Rattle.log_follow.specs.declared.cutter.Cutter.{Cutter as Follower}
 use Rattle.server_top.specs.Law.{Following, Point, AtClock, AtLook, AtPause, Run, Call, call_of, next_call, IsNext, MayCome, feed, Goes, Halts, taken, told_lines, takes, read_at, clocked, ticked, latest}
 use Rattle.server_top.specs.Stages.{HasCause, IsAt, IsSaying, Keeps, Moves, MoveFails, Owes, Reaches, ReadsAt, Takes, TakeFails}
 use Rattle.server_top.specs.Starts.{standing}

@@ -214,7 +214,7 @@ abbrev pub failure_in : Finding → List Failure
 failure_in (Failed addr time index) = record { addr = addr; time = time; line = [] } ∷ []
 failure_in _ = []
 
--- a line that is too long or no text is missed
+-- a line that is too long is missed
 abbrev pub failures_of : Rules → ℕ → ℕ → Line → List Failure
 failures_of rules now findtime (Whole text) = failure_in (finding rules now findtime text)
 failures_of rules now findtime _ = []

@@ -18,7 +18,7 @@ use Rattle.filter_regex.specs.Rules.{Rules, patterns, rules_of}
 use Rattle.filter_regex.specs.declared.error.PatternPlace.{PatternPlace}
 use Rattle.f2b_world.specs.Reading.{reading}
 use Rattle.filter_regex.specs.declared.error.BuildKind.TheVariants.{Syntax, TooBig}
-use Rattle.log_follow.specs.Followed.{StandsFor}
+use Rattle.log_follow.specs.Cut.{StandsFor}
 use Rattle.log_follow.specs.Lines.{new_lines}
 use Rattle.log_follow.specs.declared.line.Line.{Line}
 use Rattle.server_top.specs.Law.{Following, Point, Over, Run, Goes, Halts, refused, taken, told_lines, latest, read_of, seen_more, turned, path_of, failures_in}

@@ -8,7 +8,7 @@ use Rattle.f2b_model.specs.Steps.{first_now}
 use Rattle.f2b_world.specs.Told.{Standing}
 use Rattle.flat_form.specs.Flat.{flat_jail}
 use Rattle.flat_form.specs.FlatText.{IsFlatJail}
-use Rattle.log_follow.specs.Followed.{StandsFor}
+use Rattle.log_follow.specs.Cut.{StandsFor}
 use Rattle.server_top.specs.Law.{Following, Point, AtConfig, AtStart, AtClock, Run, Goes, Halts, make_point, turned, latest}
 use Rattle.server_top.specs.Stages.{IsAt, Keeps, Reaches}
 use Rattle.server_top.specs.declared.follow.Follow.{Follow}

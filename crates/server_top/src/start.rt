@@ -17,7 +17,7 @@ use f2b_world::World;
 use filter_regex::{Filter, PatternError};
 use flat_form::flat_jail;
 use jail_core::Core;
-use log_follow::Follower;
+use log_follow::Cutter as Follower;
 use std::alloc::Global;
 
 // The jail of a configuration, or why the run is refused.
