@@ -1,5 +1,5 @@
 -- Patterns and names, character by character.
-use Rattle.std.proofs.Common.{ℕ, zero, suc, ◌≡◌, ◌==◌, ◌+◌, ◌<◌, ◌≤◌, Bool, true, false, ◌||◌, ◌&&◌, List, [], ◌∷◌, length, drop, refl, sym, ap, subst, ◌∙◌, arith, eq-eqb, add-one, inl, inr}
+use Rattle.std.proofs.Common.{ℕ, zero, suc, ◌≡◌, ◌==◌, ◌<◌, ◌≤◌, Bool, true, false, ◌||◌, List, [], ◌∷◌, length, drop, refl, sym, ap, subst, ◌∙◌, arith, eq-eqb, add-one, inl, inr}
 use Rattle.std.proofs.lemmas.Bool.{or_cases, or_right, and_parts, and_left, ne_eqb}
 use Rattle.std.proofs.lemmas.List.{drop-drop}
 use Rattle.log_follow.specs.Globs.{globs, any_end, one_and}

@@ -1,21 +1,19 @@
 -- Lists of looks: what they bring, and where they leave a watch.
-use Rattle.std.proofs.Common.{ℕ, ◌≡◌, ◌+◌, min, Bool, true, false, List, [], ◌∷◌, ◌++◌, length, drop, map, refl, sym, ap, ◌∙◌, arith, append_assoc, append-nil}
+use Rattle.std.proofs.Common.{ℕ, ◌≡◌, min, Bool, true, false, List, [], ◌∷◌, ◌++◌, map, refl, sym, ap, ◌∙◌, arith, append_assoc, append-nil}
 use Rattle.std.proofs.lemmas.List.{length-take}
-use Rattle.std.proofs.lemmas.Bool.{cases_Bool}
 use Rattle.std.proofs.lemmas.List.Elements.{All-nil}
 use Rattle.f2b_base.specs.declared.jail.Place.{Place}
 use Rattle.f2b_base.specs.declared.jail.Place.TheVariants.{Tail, Pos}
 use Rattle.f2b_base.specs.declared.outside.FileLook.{FileLook}
 use Rattle.log_follow.specs.Laws.{after_looks, steps_of, lines_in, lines_since, bytes_in, AllGoOn}
-use Rattle.log_follow.specs.Lines.{parts_of, rest_of, line_of, lines_of, new_lines}
-use Rattle.log_follow.specs.Watches.{Watch, IsPlace, Answers, begun, is_placed, position_in, head_in, place_by, place_in, ask_in, goes_on, sees, step_of, looked, looked_by, looked_on}
+use Rattle.log_follow.specs.Lines.{rest_of, line_of, lines_of, new_lines}
+use Rattle.log_follow.specs.Watches.{Watch, IsPlace, Answers, position_in, head_in, place_by, place_in, ask_in, goes_on, sees, step_of, looked, looked_by, looked_on}
 use Rattle.log_follow.specs.declared.line.Line.{Line}
 use Rattle.log_follow.specs.declared.step.Step.{Step}
-use Rattle.log_follow.specs.declared.step.Step.TheVariants.{Placed, Rotated, Lines, Nothing}
 use Rattle.log_follow.proofs.FollowLemmas.{new_lines-rest}
 use Rattle.log_follow.proofs.PieceLemmas.{is_end, rest_open, parts-open}
 use Rattle.log_follow.proofs.Theorems.{lines_grow, cut_anywhere}
-use Rattle.log_follow.proofs.WatchLemmas.{looked-tail, looked-other, looked-same, length-head_in, position_and_carry}
+use Rattle.log_follow.proofs.WatchLemmas.{looked-same, length-head_in, position_and_carry}
 
 -- The lines since a generation began.
 

@@ -1,18 +1,17 @@
 -- What a follower stands for, look by look.
-use Rattle.std.proofs.Common.{ℕ, ◌≡◌, ◌+◌, ◌-◌, ◌<◌, ◌≤◌, min, Bool, true, false, List, [], ◌∷◌, ◌++◌, length, take, refl, sym, ap, subst, ◌∙◌, arith, append-nil, length-append}
+use Rattle.std.proofs.Common.{ℕ, ◌≡◌, ◌+◌, ◌-◌, ◌≤◌, min, Bool, true, false, List, [], ◌++◌, length, take, sym, ap, subst, ◌∙◌, arith, append-nil, length-append}
 use Rattle.std.proofs.lemmas.List.{take_all}
-use Rattle.f2b_base.specs.declared.jail.Place.{Place}
 use Rattle.f2b_base.specs.declared.jail.Place.TheVariants.{Tail, Pos}
 use Rattle.f2b_base.specs.declared.outside.FileLook.{FileLook}
 use Rattle.log_follow.specs.Carried.{length_of, Carries}
 use Rattle.log_follow.specs.Followed.{StandsFor}
 use Rattle.log_follow.specs.Lines.{rest_of, new_lines}
-use Rattle.log_follow.specs.Watches.{Watch, begun, is_placed, position_in, reading_place, head_in, place_in, goes_on, sees, step_of, looked}
+use Rattle.log_follow.specs.Watches.{Watch, begun, position_in, head_in, place_in, goes_on, sees, step_of, looked}
 use Rattle.log_follow.specs.declared.carry.Carry.TheVariants.{Kept}
 use Rattle.log_follow.specs.declared.follower.Follower.{Follower}
 use Rattle.log_follow.specs.declared.line.Line.{Line}
 use Rattle.log_follow.specs.declared.step.Step.{Step}
-use Rattle.log_follow.specs.declared.step.Step.TheVariants.{Placed, Rotated, Lines, Nothing}
+use Rattle.log_follow.specs.declared.step.Step.TheVariants.{Placed, Rotated}
 use Rattle.log_follow.proofs.CarryLemmas.{length_of-carry_of}
 use Rattle.log_follow.proofs.FollowLemmas.{carry_of-none}
 use Rattle.log_follow.proofs.WatchLemmas.{looked-tail, looked-other, looked-same, head_in-sees, place_in-placed, place_in-tail, position_and_carry}

@@ -1,5 +1,5 @@
 -- What a look does to a watch, case by case.
-use Rattle.std.proofs.Common.{ℕ, zero, suc, ◌≡◌, ◌+◌, ◌-◌, ◌<◌, ◌≤◌, min, Bool, true, false, List, [], ◌∷◌, ◌++◌, length, take, drop, refl, sym, ap, ◌∙◌, arith, append_assoc, append-nil, length-append}
+use Rattle.std.proofs.Common.{ℕ, zero, suc, ◌≡◌, ◌+◌, ◌-◌, ◌≤◌, min, Bool, true, false, List, [], ◌∷◌, ◌++◌, length, take, refl, sym, ap, ◌∙◌, arith, append_assoc, length-append}
 use Rattle.std.specs.List.{flat_map}
 use Rattle.std.proofs.lemmas.List.{length-take, take_min}
 use Rattle.std.proofs.Math.Seq.{take-append-add}
@@ -7,10 +7,8 @@ use Rattle.f2b_base.specs.declared.jail.Place.{Place}
 use Rattle.f2b_base.specs.declared.jail.Place.TheVariants.{Tail, Pos}
 use Rattle.f2b_base.specs.declared.outside.FileLook.{FileLook}
 use Rattle.log_follow.specs.Lines.{parts_of, rest_of, new_lines}
-use Rattle.log_follow.specs.Watches.{Watch, IsPlace, begun, is_placed, base_position, base_head, whole_length, position_in, reading_place, head_in, place_by, place_in, goes_on, sees, step_of, looked_on, looked_by, looked}
-use Rattle.log_follow.specs.declared.line.Line.{Line}
-use Rattle.log_follow.specs.declared.step.Step.{Step}
-use Rattle.log_follow.specs.declared.step.Step.TheVariants.{Placed, Rotated, Lines, Nothing}
+use Rattle.log_follow.specs.Watches.{Watch, IsPlace, begun, is_placed, base_position, base_head, position_in, reading_place, head_in, place_by, place_in, goes_on, sees, step_of, looked_on, looked_by, looked}
+use Rattle.log_follow.specs.declared.step.Step.TheVariants.{Placed, Rotated}
 use Rattle.log_follow.proofs.Theorems.{with_end, parts_and_rest}
 
 -- The cases of a look.

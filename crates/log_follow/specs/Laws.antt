@@ -1,11 +1,11 @@
--- What is proved of watches, of text and of patterns.
-use Rattle.std.specs.Prelude.{ℕ, ◌≡◌, ◌+◌, ◌<◌, min, true, List, [], ◌∷◌, ◌++◌, length}
+-- What is proved of watches and of text.
+use Rattle.std.specs.Prelude.{ℕ, ◌≡◌, ◌+◌, min, true, List, [], ◌∷◌, ◌++◌, length}
 use Rattle.std.specs.Char.{IsScalar, encode_utf8}
 use Rattle.std.specs.Str.{StartsWithNoChar}
 use Rattle.f2b_base.specs.declared.outside.FileLook.{FileLook}
 use Rattle.log_follow.specs.Decoded.{decoded, replacement}
 use Rattle.log_follow.specs.Lines.{rest_of, lines_of, new_lines}
-use Rattle.log_follow.specs.Watches.{Watch, IsPlace, Answers, begun, is_placed, position_in, reading_place, head_in, place_in, ask_in, goes_on, looked}
+use Rattle.log_follow.specs.Watches.{Watch, IsPlace, Answers, is_placed, position_in, reading_place, head_in, place_in, ask_in, goes_on, looked}
 use Rattle.log_follow.specs.declared.line.Line.{Line}
 use Rattle.log_follow.specs.declared.step.Step.{Step}
 use Rattle.log_follow.specs.declared.step.Step.TheVariants.{Placed, Rotated, Lines, Nothing}

@@ -1,5 +1,4 @@
 pub mod Carried
-pub mod Cut
 pub mod Decoded
 pub mod Followed
 pub mod Globs

@@ -6,7 +6,6 @@
 #![tactic(auto)]
 
 mod carry;
-mod cutter;
 mod decode;
 mod expand;
 mod follower;
@@ -17,7 +16,6 @@ mod step;
 #[cfg(test)]
 mod tests;
 
-pub use cutter::Cutter;
 pub use expand::expand_path;
 pub use follower::Follower;
 pub use glob::glob_match;

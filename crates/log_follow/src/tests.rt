@@ -53,7 +53,9 @@ fn look_on(
     Ok(())
 }
 
-fn from_start(alloc: Global) -> Place {
+fn from_start(alloc: Global) -> Place
+    ensures { IsPlace result }
+{
     Place::Pos {
         position: 0,
         head: Bytes::new(alloc),
@@ -61,11 +63,9 @@ fn from_start(alloc: Global) -> Place {
 }
 
 // What the looks at these files bring, with a semicolon behind each.
-fn told(alloc: Global, place: &Place, files: &[&[u8]]) -> Result<String, Fail>
-    requires { IsPlace place.now }
-{
+fn told(alloc: Global, files: &[&[u8]]) -> Result<String, Fail> {
     let mut text = String::new(alloc);
-    let mut follower = Follower::new(alloc, place)?;
+    let mut follower = Follower::new(alloc, &from_start(alloc))?;
     for file in files {
         look_on(alloc, &mut follower, &mut text, file, 65_536)?;
         text.push(';')?;
@@ -126,7 +126,7 @@ fn a_log_is_rotated(rt: HostRuntime) -> Result<(), Fail> {
         (&[b"one\n", b"one\nsix\n"], "one|;six|;"),
     ];
     for (files, wanted) in rows {
-        assert_eq!(rt; told(alloc, &from_start(alloc), files)?.as_str(), wanted);
+        assert_eq!(rt; told(alloc, files)?.as_str(), wanted);
     }
 
     let mut follower = Follower::new(alloc, &from_start(alloc))?;
@@ -170,18 +170,18 @@ fn a_log_is_followed_from_its_end(rt: HostRuntime) -> Result<(), Fail> {
     let ask = follower.ask();
     assert_eq!(rt; (ask.head, ask.from, ask.max), (64, 100, 65_536));
     let place = follower.place(alloc)?;
-    let (position, head) = match &place {
-        Place::Pos { position, head } => (*position, head.as_slice()),
-        Place::Tail => (0, b"".as_slice()),
-    };
-    assert_eq!(rt; (position, head.len()), (100, 64));
+    match &place {
+        Place::Pos { position, head } => assert_eq!(rt; (*position, head.len()), (100, 64)),
+        Place::Tail => assert!(rt; false, "it is placed"),
+    }
 
     // What came behind its end is a line, also for who begins again at the place that was kept.
     log.extend_from_slice(b"yes\nno")?;
+    let mut again = Follower::new(alloc, &place)?;
     text.clear();
     look_on(alloc, &mut follower, &mut text, &log, 65_536)?;
-    assert_eq!(rt; text.as_str(), "yes|");
-    assert!(rt; matches!(&place, Place::Pos { .. }));
+    look_on(alloc, &mut again, &mut text, &log, 65_536)?;
+    assert_eq!(rt; text.as_str(), "yes|yes|");
     Ok(())
 }
 

@@ -13,8 +13,8 @@ use Rattle.f2b_model.proofs.LawLemmas.{now_step, sound_step}
 use Rattle.f2b_model.proofs.ToldLemmas.{told_by_now}
 use Rattle.f2b_world.specs.Told.{Standing}
 use Rattle.jail_core.specs.Kept.{IsTaken}
-use Rattle.log_follow.specs.Cut.{StandsFor}
-use Rattle.log_follow.specs.declared.cutter.Cutter.{Cutter as Follower}
+use Rattle.log_follow.specs.Followed.{StandsFor}
+use Rattle.log_follow.specs.declared.follower.Follower.{Follower}
 use Rattle.server_top.specs.Law.{Following, Run, Goes, taken, told_lines}
 use Rattle.server_top.specs.Said.{line_of}
 use Rattle.server_top.specs.Stages.{Keeps, Owes, Says, SayFails, StepsTo, Takes, TakeFails}
@@ -75,7 +75,7 @@ module _ (before after : Follow) (what : What) (news : List Happening) (steps : 
       word = steps.word ∙ keeps.word;
       core = same_core f keeps;
       sound = still_sound f keeps;
-      seen = (let P : Follower → Type 0 = λ x. StandsFor x f.seen in subst P (sym steps.follower) keeps.seen);
+      watch = (let P : Follower → Type 0 = λ x. StandsFor x f.watch in subst P (sym steps.follower) keeps.watch);
     };
   }
 

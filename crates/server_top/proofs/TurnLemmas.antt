@@ -12,8 +12,8 @@ use Rattle.f2b_model.specs.declared.jail_now.JailNow.{JailNow}
 use Rattle.f2b_world.specs.Told.{Standing, Called}
 use Rattle.f2b_world.specs.declared.event.Event.{Event}
 use Rattle.f2b_world.specs.declared.event.Event.TheVariants.{Clock}
-use Rattle.log_follow.specs.Cut.{StandsFor}
-use Rattle.log_follow.specs.declared.cutter.Cutter.{Cutter as Follower}
+use Rattle.log_follow.specs.Followed.{StandsFor}
+use Rattle.log_follow.specs.declared.follower.Follower.{Follower}
 use Rattle.server_top.specs.Law.{Following, Point, AtClock, AtLook, AtPause, Run, Call, call_of, next_call, IsNext, MayCome, feed, Goes, Halts, taken, told_lines, takes, read_at, clocked, ticked, latest}
 use Rattle.server_top.specs.Stages.{HasCause, IsAt, IsSaying, Keeps, Moves, MoveFails, Owes, Reaches, ReadsAt, Takes, TakeFails}
 use Rattle.server_top.specs.Starts.{standing}
@@ -97,7 +97,7 @@ read_keeps before mid answer f reads keeps = record {
   word = reads.word;
   core = reads.core ∙ keeps.core;
   sound = keeps.sound;
-  seen = (let P : Follower → Type 0 = λ x. StandsFor x f.seen in subst P (sym reads.follower) keeps.seen);
+  watch = (let P : Follower → Type 0 = λ x. StandsFor x f.watch in subst P (sym reads.follower) keeps.watch);
 }
 
 due_is : (mid : Follow) (f : Following) (due : Bool) → Keeps f mid → due ≡ is_ban_due moves_now mid.now mid.core → is_ban_due moves f.now f.state ≡ due

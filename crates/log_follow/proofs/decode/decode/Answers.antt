@@ -1,4 +1,4 @@
-use Rattle.std.proofs.Common.{◌++◌, ◌+◌, ℕ, List, refl, sym, ap, ◌∙◌, arith}
+use Rattle.std.proofs.Common.{◌++◌, ◌+◌, ℕ, List, sym, ap, ◌∙◌, arith}
 use Rattle.log_follow.proofs.CutLemmas.{take-rest}
 use Rattle.log_follow.proofs.DecodeLemmas.{decoded_text, fault_step}
 use Rattle.log_follow.proofs.decode.decode.Goals as goal
