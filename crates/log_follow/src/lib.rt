@@ -15,6 +15,8 @@ mod line;
 mod step;
 #[cfg(test)]
 mod tests;
+#[cfg(test)]
+mod tests_names;
 
 pub use expand::expand_path;
 pub use follower::Follower;

@@ -1,5 +1,5 @@
 use Rattle.std.proofs.Common.{ap}
-use Rattle.server_top.proofs.CauseLemmas.{if_ok_more, if_err_more}
+use Rattle.server_top.proofs.CauseLemmas.{cause_later, steady_call, if_ok_more, if_err_more}
 use Rattle.server_top.proofs.LookLemmas.{answers_ask, read_takes, read_fails, read_no_line}
 use Rattle.server_top.proofs.turn.read.Goals as goal
 
@@ -28,3 +28,10 @@ returns-clause-ok g c =
     read_no_line (g.W.Outside.stands c.args.world.now) (g.W.Outside.stands c.look.new.world) c.path.result.now c.in-Some.file c.ask-from.result.from c.in_ok-file.field-0
     c.args.follow c.in_ok-follow.follow c.in_ok-follow.what c.path.ensures (ap (λ a. a.from) c.ask-from.ensures.value) c.in-Some.is c.in_ok-file.ensures.ok c.in_ok-follow.ensures.reads
     c.in-None.is
+
+pub returns-in-Some-what-clause-cause : goal.returns-in-Some-what-clause-cause
+returns-in-Some-what-clause-cause g c =
+    if_err_more c.take.result _ _
+    (λ status cause. cause_later (g.W.Outside.stands c.args.world.now) (g.W.Outside.stands c.look.new.world) (g.W.Outside.stands c.take.new.world) status
+    (steady_call _ _ _ c.in_ok-file.ensures.ok.called) cause)
+    c.take.ensures.cause
