@@ -1,17 +1,16 @@
 -- What bytes bring behind those that were seen.
-use Rattle.std.proofs.Common.{ℕ, ◌≡◌, ◌+◌, ◌<◌, List, [], ◌∷◌, ◌++◌, length, take, drop, map, sym, ap, ◌∙◌, append_assoc, append-nil, length-append, false, arith}
+use Rattle.std.proofs.Common.{ℕ, ◌≡◌, ◌+◌, ◌-◌, ◌<◌, ◌≤◌, List, [], ◌∷◌, ◌++◌, length, take, drop, map, sym, ap, ◌∙◌, append_assoc, append-nil, false, arith}
 use Rattle.std.proofs.lemmas.List.{map-append}
 use Rattle.std.proofs.lemmas.List.Elements.{All-nil}
 use Rattle.std.proofs.Math.Seq.{drop-append_seam}
 use Rattle.memchr.specs.Find.{Nowhere, NoneBefore, Passes, is_byte}
-use Rattle.log_follow.specs.Carried.{carry_of}
-use Rattle.log_follow.specs.Followed.{StandsFor}
+use Rattle.log_follow.specs.Carried.{carry_of, Carries}
+use Rattle.log_follow.specs.declared.carry.Carry.{Carry}
 use Rattle.log_follow.specs.declared.carry.Carry.TheVariants.{Kept}
-use Rattle.log_follow.specs.declared.follower.Follower.{Follower}
 use Rattle.log_follow.specs.declared.line.Line.{Line}
 use Rattle.log_follow.specs.Lines.{parts_of, rest_of, line_of, lines_of, new_lines}
 use Rattle.log_follow.proofs.PieceLemmas.{is_end, IsOpen, rest_open, open-append, parts-open, rest-open, parts-cut, rest-cut, parts-append, rest-append}
-use Rattle.log_follow.proofs.CutLemmas.{all_open, front_open, cut_at, parts-first}
+use Rattle.log_follow.proofs.CutLemmas.{all_open, front_open, cut_at, parts-first, length-rest}
 use Rattle.log_follow.proofs.CarryLemmas.{carry_of-short}
 
 -- the new lines are those of the rest with the bytes
@@ -63,29 +62,24 @@ pub push_none : (lines all : List Line) (rest : List ℕ) → Nowhere (Passes (i
 push_none lines all rest none left =
     sym (append-nil lines) ∙ ap (λ (parts : List (List ℕ)). lines ++ map line_of parts) (sym (parts-open rest (all_open rest none))) ∙ left
 
--- what stands for bytes, the last of which have no LF
-pub stands_none : (old new : Follower) (seen bytes : List ℕ) → Nowhere (Passes (is_byte 10) bytes) 0 (length bytes) → StandsFor old seen
-    → new.place ≡ old.place + length bytes → ((rest : List ℕ) → old.carry ≡ carry_of rest → new.carry ≡ carry_of (rest ++ bytes)) → StandsFor new (seen ++ bytes)
-stands_none old new seen bytes none stands place carry = record {
-  place = omega (arith, place, stands.place, length-append seen bytes);
-  carry = carry (rest_of seen) stands.carry ∙ ap carry_of (sym (rest-none seen bytes none));
-}
+-- what is kept behind bytes, the last of which have no LF
+pub carries_none : (old new : Carry) (seen bytes : List ℕ) → Nowhere (Passes (is_byte 10) bytes) 0 (length bytes) → Carries old seen
+    → ((rest : List ℕ) → old ≡ carry_of rest → new ≡ carry_of (rest ++ bytes)) → Carries new (seen ++ bytes)
+carries_none old new seen bytes none carries joined = joined (rest_of seen) carries ∙ ap carry_of (sym (rest-none seen bytes none))
 
--- what stands for bytes with an LF at a place among the last of them
-pub stands_some : (old new : Follower) (seen bytes more : List ℕ) (k : ℕ) → k < length bytes → Passes (is_byte 10) bytes k → StandsFor old seen
-    → new.place ≡ old.place + length bytes → more ≡ drop (k + 1) bytes → new.carry ≡ carry_of (rest_of more) → StandsFor new (seen ++ bytes)
-stands_some old new seen bytes more k within ends stands place back carry = record {
-  place = omega (arith, place, stands.place, length-append seen bytes);
-  carry = carry ∙ ap (λ (r : List ℕ). carry_of (rest_of r)) back ∙ ap carry_of (sym (rest-some seen bytes k within ends));
-}
+-- what is kept behind bytes with an LF at a place among the last of them
+pub carries_some : (new : Carry) (seen bytes more : List ℕ) (k : ℕ) → k < length bytes → Passes (is_byte 10) bytes k
+    → more ≡ drop (k + 1) bytes → new ≡ carry_of (rest_of more) → Carries new (seen ++ bytes)
+carries_some new seen bytes more k within ends back made =
+    made ∙ ap (λ (r : List ℕ). carry_of (rest_of r)) back ∙ ap carry_of (sym (rest-some seen bytes k within ends))
 
 -- the line that was open, and those that follow it, are the new lines
-pub new_lines-made : (follower : Follower) (seen bytes part more : List ℕ) (line : Line) (lines : List Line) (k : ℕ) → NoneBefore (Passes (is_byte 10) bytes) 0 (length bytes) k
-    → Passes (is_byte 10) bytes k → StandsFor follower seen → ((rest : List ℕ) → follower.carry ≡ carry_of rest → line ≡ line_of (rest ++ part))
+pub new_lines-made : (carry : Carry) (seen bytes part more : List ℕ) (line : Line) (lines : List Line) (k : ℕ) → NoneBefore (Passes (is_byte 10) bytes) 0 (length bytes) k
+    → Passes (is_byte 10) bytes k → Carries carry seen → ((rest : List ℕ) → carry ≡ carry_of rest → line ≡ line_of (rest ++ part))
     → part ≡ take k bytes → more ≡ drop (k + 1) bytes → lines ≡ line ∷ lines_of more → lines ≡ new_lines seen bytes
-new_lines-made follower seen bytes part more line lines k before ends stands made front back all =
+new_lines-made carry seen bytes part more line lines k before ends carries made front back all =
     all
-    ∙ ap (λ (one : Line). one ∷ lines_of more) (made (rest_of seen) stands.carry)
+    ∙ ap (λ (one : Line). one ∷ lines_of more) (made (rest_of seen) carries)
     ∙ ap (λ (bytes : List ℕ). line_of (rest_of seen ++ bytes) ∷ lines_of more) front
     ∙ ap (λ (bytes' : List ℕ). line_of (rest_of seen ++ take k bytes) ∷ lines_of bytes') back
     ∙ sym (new_lines-some seen bytes k before ends)
@@ -93,3 +87,7 @@ new_lines-made follower seen bytes part more line lines k before ends stands mad
 -- nothing was seen yet, and nothing is kept
 pub carry_of-none : Kept [] ≡ carry_of (rest_of [])
 carry_of-none = sym (ap carry_of (rest-open [] (All-nil (λ byte. is_end byte ≡ false))) ∙ carry_of-short [] (omega arith))
+
+-- the bytes behind a cut are no more than all
+pub length-behind : (rest more bytes : List ℕ) (n : ℕ) → length rest ≤ length more → more ≡ take (length bytes - n) (drop n bytes) → length rest ≤ length bytes
+length-behind rest more bytes n within is = omega (arith, ap length is, length-rest bytes n)

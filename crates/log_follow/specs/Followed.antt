@@ -1,14 +1,17 @@
 -- What a follower stands for.
-use Rattle.std.specs.Prelude.{ℕ, ◌≡◌, List, length}
-use Rattle.log_follow.specs.Carried.{carry_of}
-use Rattle.log_follow.specs.Lines.{rest_of}
+use Rattle.std.specs.Prelude.{◌≡◌}
+use Rattle.log_follow.specs.Carried.{Carries}
+use Rattle.log_follow.specs.Watches.{Watch, is_placed, reading_place, head_in}
 use Rattle.log_follow.specs.declared.follower.Follower.{Follower}
+use Rattle.log_follow.specs.declared.step.Ask.{Ask}
 
--- how many bytes the follower has taken
-abbrev pub place_of : Follower → ℕ
-place_of follower = follower.place
+-- what the follower asks for next
+abbrev pub ask_of : Follower → Ask
+ask_of follower = record { head = 64; from = follower.from; max = 65536 }
 
--- these are the bytes that the follower has taken
-pub record StandsFor (follower : Follower) (seen : List ℕ) : Type 0 where
-  pub place : follower.place ≡ length seen
-  pub carry : follower.carry ≡ carry_of (rest_of seen)
+-- the follower keeps what is derived from the watch, and not the bytes that were seen
+pub record StandsFor (follower : Follower) (w : Watch) : Type 0 where
+  pub placed : follower.placed ≡ is_placed w.base
+  pub from : follower.from ≡ reading_place w
+  pub carry : Carries follower.carry w.seen
+  pub head : follower.head ≡ head_in w

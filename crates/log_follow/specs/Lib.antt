@@ -1,3 +1,9 @@
 pub mod Carried
+pub mod Decoded
 pub mod Followed
+pub mod Globs
+pub mod Laws
 pub mod Lines
+pub mod Texts
+pub mod Walked
+pub mod Watches

@@ -1,10 +1,10 @@
 -- The whole lines among the bytes of a log.
 use Rattle.std.specs.Prelude.{ℕ, ◌==◌, nat_lt, if◌then◌else◌, List, [], ◌∷◌, ◌++◌, length, drop, map}
 use Rattle.std.specs.List.{slice_split}
-use Rattle.std.specs.Str.{is_utf8}
 use Rattle.std.specs.Str.Lines.{strip_carriage_return}
+use Rattle.log_follow.specs.Decoded.{decoded}
 use Rattle.log_follow.specs.declared.line.Line.{Line}
-use Rattle.log_follow.specs.declared.line.Line.TheVariants.{Whole, Long, NotText}
+use Rattle.log_follow.specs.declared.line.Line.TheVariants.{Whole, Long}
 
 -- all lists but the last
 abbrev pub but_last : List (List ℕ) → List (List ℕ)
@@ -30,13 +30,9 @@ parts_of bytes = but_last (pieces_of bytes)
 unfoldable pub rest_of : List ℕ → List ℕ
 rest_of bytes = last_of (pieces_of bytes)
 
--- the bytes as a line, where they are UTF-8
-abbrev pub text_line : List ℕ → Line
-text_line bytes = if is_utf8 bytes then Whole bytes else NotText
-
 -- the line of a part: more than 65,536 bytes are long, and of others one CR at the end is dropped
 unfoldable pub line_of : List ℕ → Line
-line_of part = if nat_lt 65536 (length part) then Long else text_line (strip_carriage_return part)
+line_of part = if nat_lt 65536 (length part) then Long else Whole (decoded (strip_carriage_return part))
 
 -- the whole lines
 abbrev pub lines_of : List ℕ → List Line

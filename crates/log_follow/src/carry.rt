@@ -1,10 +1,11 @@
-//! The line that is not yet whole.
-ghost use Rattle.std.specs.Prelude.{◌≡◌, ◌<◌, ◌+◌, ◌++◌, ◌^◌, ℕ, List, [], length, IfOk, OnOk, OnErr};
-ghost use Rattle.log_follow.specs.Carried.{carry_of, length_of};
-ghost use Rattle.log_follow.specs.Lines.{line_of};
+//! The line that is not yet whole, and the lines that bytes behind it make whole.
+ghost use Rattle.std.specs.Prelude.{◌≡◌, ◌<◌, ◌≤◌, ◌+◌, ◌++◌, ◌^◌, ℕ, List, [], length, IfOk, OnOk, OnErr};
+ghost use Rattle.log_follow.specs.Carried.{carry_of, length_of, Carries};
+ghost use Rattle.log_follow.specs.Lines.{line_of, lines_of, rest_of, new_lines};
 
 use crate::line::{LONGEST, Line};
-use f2b_base::{Bytes, NoMemory};
+use f2b_base::{Bytes, NoMemory, Seq};
+use memchr::{memchr, memrchr};
 use std::alloc::Global;
 
 /// What came after the last LF.
@@ -73,5 +74,52 @@ impl Carry {
             }
             Carry::Long(_) => Ok(Line::Long),
         }
+    }
+
+    /// Takes bytes, and gives the lines whose LF is among them, in their order. An error changes nothing.
+    ///
+    /// A caller knows that the count of bytes stays below 2^64 since they lie in a file whose size is below it.
+    pub fn take(&mut self, alloc: Global, bytes: &[u8]) -> Result<Seq<Line>, NoMemory>
+        requires { length_of self.old + length bytes.now < 2 ^ 64 }
+
+        // Whatever bytes came before.
+        ensures lines { IfOk result (λ lines. (seen : List ℕ) → Carries self.old seen → lines ≡ new_lines seen bytes.now) }
+        ensures carries { OnOk result ((seen : List ℕ) → Carries self.old seen → Carries self.new (seen ++ bytes.now)) }
+        ensures len { OnOk result (length_of self.new ≤ length_of self.old + length bytes.now) }
+        ensures err { OnErr result (self.new ≡ self.old) }
+    {
+        let mut lines = Vec::new(alloc);
+        let Some(end) = memchr(b'\n', bytes) else {
+            self.join(bytes)?;
+            return Ok(Seq::from(lines));
+        };
+        let more = &bytes[end + 1..];
+        lines.push(self.line(alloc, &bytes[..end])?)?;
+        push_lines(alloc, &mut lines, more)?;
+        *self = Carry::of(alloc, behind_last(more))?;
+        Ok(Seq::from(lines))
+    }
+}
+
+// Adds the lines that end in these bytes, the first of which begins a line.
+fn push_lines(alloc: Global, lines: &mut Vec<Line>, bytes: &[u8]) -> Result<(), NoMemory>
+    ensures { OnOk result (lines.new.items ≡ lines.old.items ++ lines_of bytes.now) }
+{
+    let mut rest = bytes;
+    while let Some(end) = memchr(b'\n', rest) {
+        lines.push(Line::of(alloc, &rest[..end])?)?;
+        rest = &rest[end + 1..];
+    }
+    Ok(())
+}
+
+// What follows the last LF.
+fn behind_last(bytes: &[u8]) -> &[u8]
+    ensures value { result.now ≡ rest_of bytes.now }
+    ensures within { length result.now ≤ length bytes.now }
+{
+    match memrchr(b'\n', bytes) {
+        Some(end) => &bytes[end + 1..],
+        None => bytes,
     }
 }

@@ -1,109 +1,152 @@
-//! `Follower`, which is fed the bytes of one log.
-ghost use Rattle.std.specs.Prelude.{◌≡◌, ◌<◌, ◌≤◌, ◌+◌, ◌++◌, ◌^◌, ℕ, List, [], length, IfOk, OnOk, OnErr};
+//! `Follower`, which is fed what looks at one log bring.
+ghost use Rattle.std.specs.Prelude.{◌≡◌, ◌<◌, ◌≤◌, ◌+◌, ◌++◌, ◌^◌, true, min, length, take, IfOk, OnOk, OnErr};
 ghost use Rattle.log_follow.specs.Carried.{length_of};
-ghost use Rattle.log_follow.specs.Lines.{lines_of, rest_of, new_lines};
+ghost use Rattle.log_follow.specs.Lines.{new_lines};
 
 use crate::carry::Carry;
 use crate::line::Line;
-use f2b_base::{NoMemory, Seq};
-use memchr::{memchr, memrchr};
+use crate::step::{Ask, Step};
+use f2b_base::{Bytes, FileLook, NoMemory, Place, Plain, Seq};
 use std::alloc::Global;
 
-/// What to look for in the log.
-#[derive(Clone, Copy, Debug, PartialEq, Eq)]
-pub struct Ask {
-    /// How many of the file's first bytes.
-    pub head: u32,
-    /// The offset of the first byte to read.
-    pub from: u64,
-    /// How many bytes to read at most.
-    pub max: u32,
-}
+/// How many of a log's first bytes tell it from another one.
+const HEAD: usize = 64;
 
 /// The follower of one log.
 #[derive(Debug, Drop)]
 pub struct Follower {
-    /// How many bytes were taken.
-    place: u64,
+    /// Whether the log's end was found, or need not be.
+    placed: bool,
+    /// The offset behind all that was read.
+    from: u64,
     /// What came after the last LF.
     carry: Carry,
-    ghost within: { length_of carry ≤ place },
+    /// The log's first 64 bytes, or all that were read where they are fewer.
+    head: Bytes,
+    ghost within: { length_of carry ≤ from },
+    ghost heading: { length head ≡ min 64 from },
 }
 
 impl Follower {
-    ghost use Rattle.log_follow.specs.Followed.{StandsFor, place_of};
+    ghost use Rattle.log_follow.specs.Followed.{StandsFor, ask_of};
+    ghost use Rattle.log_follow.specs.Watches.{Watch, Answers, IsPlace, ask_in, begun, goes_on, looked, place_in, sees};
+    ghost use Rattle.f2b_base.specs.declared.jail.Place.TheVariants.{Pos as AtPosition};
 
-    /// Nothing is read yet. Takes no memory.
-    pub fn new(alloc: Global) -> Follower
-        ensures { StandsFor result [] }
+    /// Begins at a place that was kept.
+    pub fn new(alloc: Global, place: &Place) -> Result<Follower, NoMemory>
+        requires { IsPlace place.now }
+        ensures { IfOk result (λ follower. StandsFor follower (begun place.now)) }
     {
-        Follower {
-            place: 0,
-            carry: Carry::new(alloc),
+        match place {
+            Place::Tail => Ok(Follower {
+                placed: false,
+                from: 0,
+                carry: Carry::new(alloc),
+                head: Bytes::new(alloc),
+            }),
+            Place::Pos { position, head } => Ok(Follower::at(alloc, *position, head.copy()?)),
         }
     }
 
-    /// What to look for next: 64 bytes of head, and at most 65,536 bytes from the reading place on. Takes no memory.
+    // Nothing is read yet from this position on.
+    fn at(alloc: Global, position: u64, head: Bytes) -> Follower
+        requires { length head ≡ min 64 position }
+        ensures { StandsFor result (begun (AtPosition position head)) }
+    {
+        Follower {
+            placed: true,
+            from: position,
+            carry: Carry::new(alloc),
+            head,
+        }
+    }
+
+    /// What to look for next: 64 bytes of head, and at most 65,536 bytes from the reading place on, which is 0 as long as the
+    /// log's end is not found. Takes no memory.
     pub fn ask(&self) -> Ask
-        ensures head { result.head ≡ 64 }
-        ensures from { result.from ≡ place_of self.now }
-        ensures max { result.max ≡ 65536 }
+        ensures value { result ≡ ask_of self.now }
+        ensures watch { (w : Watch) → StandsFor self.now w → result ≡ ask_in w }
     {
         Ask {
             head: 64,
-            from: self.place,
+            from: self.from,
             max: 65_536,
         }
     }
 
-    /// Takes the bytes that the log has from the reading place on, and gives the lines whose LF is among them, in their order. An
-    /// error changes nothing.
-    ///
-    /// A caller knows that the reading place stays below 2^64 since the bytes lie in a file whose size is below it.
-    pub fn take(&mut self, alloc: Global, bytes: &[u8]) -> Result<Seq<Line>, NoMemory>
-        requires { place_of self.old + length bytes.now < 2 ^ 64 }
+    /// Takes what a look brought that was made as `ask` says. An error changes nothing.
+    pub fn take(&mut self, alloc: Global, look: &FileLook) -> Result<Step, NoMemory>
+        requires { Answers (ask_of self.old) look.now }
 
-        // Whatever bytes the follower stands for.
-        ensures lines { IfOk result (λ lines. (seen : List ℕ) → StandsFor self.old seen → lines ≡ new_lines seen bytes.now) }
-        ensures stands { OnOk result ((seen : List ℕ) → StandsFor self.old seen → StandsFor self.new (seen ++ bytes.now)) }
-        ensures place { OnOk result (place_of self.new ≡ place_of self.old + length bytes.now) }
+        // Whatever watch the follower stands for.
+        ensures step { IfOk result (λ step. (w : Watch) → StandsFor self.old w → step ≡ (looked w look.now).1) }
+        ensures stands { OnOk result ((w : Watch) → StandsFor self.old w → StandsFor self.new (looked w look.now).0) }
         ensures err { OnErr result (self.new ≡ self.old) }
     {
-        let place = self.place + bytes.len() as u64;
-        let mut lines = Vec::new(alloc);
-        let Some(end) = memchr(b'\n', bytes) else {
-            self.carry.join(bytes)?;
-            self.place = place;
-            return Ok(Seq::from(lines));
-        };
-        let more = &bytes[end + 1..];
-        lines.push(self.carry.line(alloc, &bytes[..end])?)?;
-        push_lines(alloc, &mut lines, more)?;
-        self.carry = Carry::of(alloc, behind_last(more))?;
-        self.place = place;
-        Ok(Seq::from(lines))
+        if !self.placed {
+            *self = Follower::at(alloc, look.size, look.head.copy()?);
+            return Ok(Step::Placed);
+        }
+        if !self.goes_on(look) {
+            *self = Follower::at(alloc, 0, Bytes::new(alloc));
+            return Ok(Step::Rotated);
+        }
+        let lines = self.add(alloc, look.bytes.as_slice())?;
+        if lines.is_empty() {
+            return Ok(Step::Nothing);
+        }
+        Ok(Step::Lines(lines))
+    }
+
+    /// How far the log was followed: the start of the first line that is not yet whole, and the log's first bytes before it. The
+    /// bytes of that line are read again.
+    pub fn place(&self, alloc: Global) -> Result<Place, NoMemory>
+        ensures value { IfOk result (λ place. (w : Watch) → StandsFor self.now w → place ≡ place_in w) }
+        ensures bounds { IfOk result IsPlace }
+    {
+        if !self.placed {
+            return Ok(Place::Tail);
+        }
+        let position = self.from - self.carry.len();
+        let count = position.min(HEAD as u64) as usize;
+        Ok(Place::Pos {
+            position,
+            head: Bytes::from_slice(alloc, &self.head.as_slice()[..count])?,
+        })
+    }
+
+    // Whether the log that was looked at is the one that was read.
+    fn goes_on(&self, look: &FileLook) -> bool
+        ensures fits { look.now.size < 2 ^ 64 }
+        ensures longer { result ≡ true → self.now.from ≤ look.now.size }
+        ensures value { (w : Watch) → StandsFor self.now w → result ≡ goes_on w look.now }
+    {
+        self.from <= look.size && look.head.as_slice().starts_with(self.head.as_slice())
+    }
+
+    // Takes more bytes of the same log. An error changes nothing.
+    fn add(&mut self, alloc: Global, bytes: &[u8]) -> Result<Seq<Line>, NoMemory>
+        requires { self.old.from + length bytes.now < 2 ^ 64 }
+        ensures lines { IfOk result (λ lines. (w : Watch) → StandsFor self.old w → lines ≡ new_lines w.seen bytes.now) }
+        ensures stands { OnOk result ((w : Watch) → StandsFor self.old w → StandsFor self.new (sees bytes.now w)) }
+        ensures placed { OnOk result (self.new.placed ≡ self.old.placed) }
+        ensures err { OnErr result (self.new ≡ self.old) }
+    {
+        let head = joined(alloc, &self.head, bytes)?;
+        let lines = self.carry.take(alloc, bytes)?;
+        self.from += bytes.len() as u64;
+        self.head = head;
+        Ok(lines)
     }
 }
 
-// Adds the lines that end in these bytes, the first of which begins a line.
-fn push_lines(alloc: Global, lines: &mut Vec<Line>, bytes: &[u8]) -> Result<(), NoMemory>
-    ensures { OnOk result (lines.new.items ≡ lines.old.items ++ lines_of bytes.now) }
+// The first 64 of a head's bytes and of those behind it.
+fn joined(alloc: Global, head: &Bytes, bytes: &[u8]) -> Result<Bytes, NoMemory>
+    requires { length head.now ≤ 64 }
+    ensures { IfOk result (λ joined. joined ≡ take 64 (head.now ++ bytes.now)) }
 {
-    let mut rest = bytes;
-    while let Some(end) = memchr(b'\n', rest) {
-        lines.push(Line::of(alloc, &rest[..end])?)?;
-        rest = &rest[end + 1..];
-    }
-    Ok(())
-}
-
-// What follows the last LF.
-fn behind_last(bytes: &[u8]) -> &[u8]
-    ensures value { result.now ≡ rest_of bytes.now }
-    ensures within { length result.now ≤ length bytes.now }
-{
-    match memrchr(b'\n', bytes) {
-        Some(end) => &bytes[end + 1..],
-        None => bytes,
-    }
+    let mut joined = Bytes::from_slice(alloc, head.as_slice())?;
+    let room = HEAD - head.len();
+    joined.push_slice(&bytes[..room.min(bytes.len())])?;
+    Ok(joined)
 }

@@ -3,6 +3,7 @@ ghost use Rattle.std.specs.Prelude.{◌≡◌, IfOk};
 ghost use Rattle.std.specs.Str.Lines.{strip_carriage_return};
 ghost use Rattle.log_follow.specs.Lines.{line_of};
 
+use crate::decode::decode;
 use f2b_base::{NoMemory, Text};
 use std::alloc::Global;
 
@@ -12,12 +13,11 @@ pub const LONGEST: usize = 65_536;
 /// A whole line.
 #[derive(Debug, Drop, PartialEq, Eq)]
 pub enum Line {
-    /// Its text, without the one CR before its LF.
+    /// Its text, without the one CR before its LF. Each byte that is in no well-formed UTF-8 sequence is one U+FFFD there, so it
+    /// may have up to three times as many bytes as the line.
     Whole(Text),
     /// It has more than 65,536 bytes before its LF, a CR counted.
     Long,
-    /// Its bytes are no UTF-8.
-    NotText,
 }
 
 impl Line {
@@ -28,10 +28,7 @@ impl Line {
         if part.len() > LONGEST {
             return Ok(Line::Long);
         }
-        match std::str::from_utf8(without_return(part)) {
-            Ok(text) => Ok(Line::Whole(Text::from_str(alloc, text)?)),
-            Err(_) => Ok(Line::NotText),
-        }
+        Ok(Line::Whole(decode(alloc, without_return(part))?))
     }
 }
 

@@ -1,106 +1,272 @@
-//! The table of cuts, and the longest line.
+//! Rows of looks, and logs that are cut at every place.
+ghost use Rattle.std.specs.Prelude.{IfOk};
+ghost use Rattle.log_follow.specs.Watches.{Answers, IsPlace};
 
-use crate::{Follower, Line};
-use f2b_base::Seq;
+use crate::{Ask, Follower, Line, Step, decode_law, watch_law};
+use f2b_base::{Bytes, FileLook, NoMemory, Place};
 use std::alloc::Global;
 use std::process::Abort;
 use std::test::Fail;
 
-// Hands in one look's bytes.
-fn taken(
-    rt: &impl Abort,
-    alloc: Global,
-    follower: &mut Follower,
-    bytes: &[u8],
-) -> Result<Seq<Line>, Fail> {
-    assert!(rt; follower.ask().from < 1 << 40, "a test reads little");
-    assert!(rt; bytes.len() < 1 << 40, "a test reads little");
-    Ok(follower.take(alloc, bytes)?)
+// What a look at this file brings, of at most so many bytes.
+fn look_at(alloc: Global, ask: Ask, file: &[u8], most: usize) -> Result<FileLook, NoMemory>
+    ensures { IfOk result (Answers ask) }
+{
+    let head = file.len().min(ask.head as usize);
+    let from = (file.len() as u64).min(ask.from) as usize;
+    let count = (file.len() - from).min(most).min(ask.max as usize);
+    Ok(FileLook {
+        size: file.len() as u64,
+        head: Bytes::from_slice(alloc, &file[..head])?,
+        bytes: Bytes::from_slice(alloc, &file[from..from + count])?,
+    })
 }
 
 // Writes each line with a bar behind it.
-fn write_lines(text: &mut String, lines: &Seq<Line>) -> Result<(), Fail> {
-    for line in lines.as_slice() {
+fn write_lines(text: &mut String, lines: &[Line]) -> Result<(), Fail> {
+    for line in lines {
         match line {
+            Line::Whole(whole) if whole.as_str().len() > 60_000 => text.push_str("(full)")?,
             Line::Whole(whole) => text.push_str(whole.as_str())?,
             Line::Long => text.push_str("(long)")?,
-            Line::NotText => text.push_str("(no text)")?,
         }
         text.push('|')?;
     }
     Ok(())
 }
 
-// The lines of each look, with a semicolon behind each look.
-fn told(rt: &impl Abort, alloc: Global, looks: &[&[u8]]) -> Result<String, Fail> {
+// Looks once, and writes what came.
+fn look_on(
+    alloc: Global,
+    follower: &mut Follower,
+    text: &mut String,
+    file: &[u8],
+    most: usize,
+) -> Result<(), Fail> {
+    let look = look_at(alloc, follower.ask(), file, most)?;
+    match follower.take(alloc, &look)? {
+        Step::Placed => text.push_str("(placed)")?,
+        Step::Rotated => text.push_str("(rotated)")?,
+        Step::Lines(lines) => write_lines(text, lines.as_slice())?,
+        Step::Nothing => {}
+    }
+    Ok(())
+}
+
+fn from_start(alloc: Global) -> Place
+    ensures { IsPlace result }
+{
+    Place::Pos {
+        position: 0,
+        head: Bytes::new(alloc),
+    }
+}
+
+// What the looks at these files bring, with a semicolon behind each.
+fn told(alloc: Global, files: &[&[u8]]) -> Result<String, Fail> {
     let mut text = String::new(alloc);
-    let mut follower = Follower::new(alloc);
-    for look in looks {
-        let lines = taken(rt, alloc, &mut follower, look)?;
-        write_lines(&mut text, &lines)?;
+    let mut follower = Follower::new(alloc, &from_start(alloc))?;
+    for file in files {
+        look_on(alloc, &mut follower, &mut text, file, 65_536)?;
         text.push(';')?;
     }
     Ok(text)
 }
 
 #[test]
-fn lines_come_whole_however_they_are_cut(rt: HostRuntime) -> Result<(), Fail> {
-    let row: [&[u8]; 5] = [b"17000001", b"00 fail from ", b"192.0.2.7", b"\r", b"\n"];
-    assert_eq!(rt;
-        told(&rt, rt.alloc(), &row)?.as_str(),
-        ";;;;1700000100 fail from 192.0.2.7|;"
-    );
-
-    let many: [&[u8]; 4] = [b"one\ntwo\r\nth", b"", b"ree\n\n\r\r\nfo", b"ur\n"];
-    assert_eq!(rt;
-        told(&rt, rt.alloc(), &many)?.as_str(),
-        "one|two|;;three||\r|;four|;"
-    );
-
-    let other: [&[u8]; 3] = [b"good\nb\xffd\ngo", b"od\n\xc3", b"\xa9\n\xe2\x82\n"];
-    assert_eq!(rt;
-        told(&rt, rt.alloc(), &other)?.as_str(),
-        "good|(no text)|;good|;é|(no text)|;"
-    );
+fn a_line_in_five_looks(rt: HostRuntime) -> Result<(), Fail> {
+    let alloc = rt.alloc();
+    let log = b"1700000100 fail from 192.0.2.7\r\n";
+    let mut follower = Follower::new(alloc, &from_start(alloc))?;
+    let mut text = String::new(alloc);
+    for end in [8, 20, 30, 31, 32] {
+        look_on(alloc, &mut follower, &mut text, &log[..end], 65_536)?;
+        text.push(';')?;
+    }
+    assert_eq!(rt; text.as_str(), ";;;;1700000100 fail from 192.0.2.7|;");
+    match follower.place(alloc)? {
+        Place::Pos { position, head } => {
+            assert_eq!(rt; position, 32);
+            assert_eq!(rt; head.as_slice(), log.as_slice());
+        }
+        Place::Tail => assert!(rt; false, "it is placed"),
+    }
     Ok(())
+}
+
+#[test]
+fn a_log_is_rotated(rt: HostRuntime) -> Result<(), Fail> {
+    let alloc = rt.alloc();
+    let rows: [(&[&[u8]], &str); 9] = [
+        // Another log: shorter, as long, longer.
+        (&[b"abc", b"ab", b"ab\n"], ";(rotated);ab|;"),
+        (&[b"abc", b"xyz", b"xyz\n"], ";(rotated);xyz|;"),
+        (
+            &[b"abc", b"xyz456789", b"xyz456789\n"],
+            ";(rotated);xyz456789|;",
+        ),
+        // The bytes of the look that found it are not used, and come with the next.
+        (
+            &[b"one\ntwo", b"1\n2\n", b"1\n2\n", b"1\n2\n3\n"],
+            "one|;(rotated);1|2|;3|;",
+        ),
+        // Truncated, and grown again to less than was read, and to more.
+        (&[b"one\n", b"", b"", b"two\n"], "one|;(rotated);;two|;"),
+        (
+            &[b"one\ntwo\n", b"six\n", b"six\n"],
+            "one|two|;(rotated);six|;",
+        ),
+        (
+            &[b"one\n", b"two\nsix\n", b"two\nsix\n"],
+            "one|;(rotated);two|six|;",
+        ),
+        // The same log.
+        (&[b"one\n", b"one\ntwo\n"], "one|;two|;"),
+        // Another that begins as the old one did, and is longer, passes for the same.
+        (&[b"one\n", b"one\nsix\n"], "one|;six|;"),
+    ];
+    for (files, wanted) in rows {
+        assert_eq!(rt; told(alloc, files)?.as_str(), wanted);
+    }
+
+    let mut follower = Follower::new(alloc, &from_start(alloc))?;
+    let mut text = String::new(alloc);
+    look_on(alloc, &mut follower, &mut text, b"abc", 65_536)?;
+    assert_eq!(rt; follower.ask().from, 3);
+    look_on(alloc, &mut follower, &mut text, b"ab", 65_536)?;
+    assert_eq!(rt; follower.ask().from, 0);
+    Ok(())
+}
+
+#[test]
+fn only_the_first_64_bytes_tell_logs_apart(rt: HostRuntime) -> Result<(), Fail> {
+    let alloc = rt.alloc();
+    let old = vec![in alloc; b'a'; 70]?;
+    let mut same = vec![in alloc; b'a'; 64]?;
+    same.extend_from_slice(b"bbbbbb\n")?;
+    let mut other = vec![in alloc; b'a'; 63]?;
+    other.extend_from_slice(b"bbbbbbb\n")?;
+
+    let mut follower = Follower::new(alloc, &from_start(alloc))?;
+    let mut text = String::new(alloc);
+    look_on(alloc, &mut follower, &mut text, &old, 65_536)?;
+    look_on(alloc, &mut follower, &mut text, &same, 65_536)?;
+    assert_eq!(rt; text.as_str().len(), 71, "the line of 70 bytes and a bar");
+    text.clear();
+    look_on(alloc, &mut follower, &mut text, &other, 65_536)?;
+    assert_eq!(rt; text.as_str(), "(rotated)");
+    Ok(())
+}
+
+#[test]
+fn a_log_is_followed_from_its_end(rt: HostRuntime) -> Result<(), Fail> {
+    let alloc = rt.alloc();
+    let mut log = vec![in alloc; b'x'; 100]?;
+    let mut follower = Follower::new(alloc, &Place::Tail)?;
+    let mut text = String::new(alloc);
+    assert_eq!(rt; follower.ask().from, 0);
+    look_on(alloc, &mut follower, &mut text, &log, 65_536)?;
+    assert_eq!(rt; text.as_str(), "(placed)");
+    let ask = follower.ask();
+    assert_eq!(rt; (ask.head, ask.from, ask.max), (64, 100, 65_536));
+    let place = follower.place(alloc)?;
+    match &place {
+        Place::Pos { position, head } => assert_eq!(rt; (*position, head.len()), (100, 64)),
+        Place::Tail => assert!(rt; false, "it is placed"),
+    }
+
+    // What came behind its end is a line, also for who begins again at the place that was kept.
+    log.extend_from_slice(b"yes\nno")?;
+    let mut again = Follower::new(alloc, &place)?;
+    text.clear();
+    look_on(alloc, &mut follower, &mut text, &log, 65_536)?;
+    look_on(alloc, &mut again, &mut text, &log, 65_536)?;
+    assert_eq!(rt; text.as_str(), "yes|yes|");
+    Ok(())
+}
+
+// The lines of a log that grows in three parts, with an extra look at each.
+fn told_in_parts(
+    alloc: Global,
+    log: &[u8],
+    first: usize,
+    second: usize,
+    most: usize,
+) -> Result<String, Fail> {
+    let mut text = String::new(alloc);
+    let mut follower = Follower::new(alloc, &from_start(alloc))?;
+    for end in [first, second, log.len()] {
+        let file = log.get(..end).unwrap_or(log);
+        look_on(alloc, &mut follower, &mut text, file, most)?;
+        look_on(alloc, &mut follower, &mut text, file, 65_536)?;
+    }
+    Ok(text)
+}
+
+#[test]
+fn lines_come_whole_wherever_they_are_cut(rt: HostRuntime) -> Result<(), Fail> {
+    let alloc = rt.alloc();
+    let rows: [(&[u8], &str); 4] = [
+        (b"one\r\ntwo\n\nthr", "one|two||"),
+        (b"\r\r\na\rb\n\r\n", "\r|a\rb||"),
+        // Ill-formed: a byte alone, two of three bytes, a surrogate, one too far; and well-formed, which stays.
+        (
+            b"\xff\xe2\x82\n\xe2\x82\xac\n",
+            "\u{fffd}\u{fffd}\u{fffd}|\u{20ac}|",
+        ),
+        (
+            b"\xed\xa0\x80.\xf4\x90\x80\x80.\xc3\xa9\xc3\n",
+            "\u{fffd}\u{fffd}\u{fffd}.\u{fffd}\u{fffd}\u{fffd}\u{fffd}.\u{e9}\u{fffd}|",
+        ),
+    ];
+    for (log, wanted) in rows {
+        for first in 0..log.len() + 1 {
+            for second in first..log.len() + 1 {
+                let text = told_in_parts(alloc, log, first, second, 2)?;
+                assert_eq!(rt; text.as_str(), wanted, "cut at {first} and {second}");
+            }
+        }
+    }
+    Ok(())
+}
+
+// What becomes of a log of one long line and a short one, that has grown by these parts.
+fn told_long(alloc: Global, line: usize, end: &[u8], piece: usize) -> Result<String, Fail> {
+    let mut log = vec![in alloc; b'a'; line]?;
+    log.extend_from_slice(end)?;
+    log.extend_from_slice(b"short\n")?;
+    let mut text = String::new(alloc);
+    let mut follower = Follower::new(alloc, &from_start(alloc))?;
+    for _ in 0..200 {
+        look_on(alloc, &mut follower, &mut text, &log, piece)?;
+    }
+    Ok(text)
 }
 
 #[test]
 fn a_line_may_have_65536_bytes(rt: HostRuntime) -> Result<(), Fail> {
     let alloc = rt.alloc();
-    let longest = vec![in alloc; b'a'; 65_536]?;
-    let mut follower = Follower::new(alloc);
-
-    assert!(rt; taken(&rt, alloc, &mut follower, &longest)?.is_empty());
-    match taken(&rt, alloc, &mut follower, b"\nshort\n")?.as_slice() {
-        [Line::Whole(whole), short] => {
-            assert_eq!(rt; whole.as_str().as_bytes(), longest.as_slice());
-            assert_ne!(rt; *short, Line::Long);
+    let rows: [(usize, &[u8], &str); 8] = [
+        (65_535, b"\n", "(full)|short|"),
+        (65_536, b"\n", "(full)|short|"),
+        (65_537, b"\n", "(long)|short|"),
+        (65_534, b"\r\n", "(full)|short|"),
+        (65_535, b"\r\n", "(full)|short|"),
+        (65_536, b"\r\n", "(long)|short|"),
+        (131_072, b"\n", "(long)|short|"),
+        (8_000_000, b"\n", "(long)|short|"),
+    ];
+    for (line, end, wanted) in rows {
+        for piece in [65_536, 65_535, 50_000] {
+            let text = told_long(alloc, line, end, piece)?;
+            assert_eq!(rt; text.as_str(), wanted, "{line} bytes by {piece}");
         }
-        _ => assert!(rt; false, "two lines"),
     }
-
-    assert!(rt; taken(&rt, alloc, &mut follower, &longest)?.is_empty());
-    let over = taken(&rt, alloc, &mut follower, b"\r\nshort\n")?;
-    let mut text = String::new(alloc);
-    write_lines(&mut text, &over)?;
-    assert_eq!(rt; text.as_str(), "(long)|short|");
-
-    assert!(rt; taken(&rt, alloc, &mut follower, &longest)?.is_empty());
-    assert!(rt; taken(&rt, alloc, &mut follower, b"tail")?.is_empty());
-    let tail = taken(&rt, alloc, &mut follower, b"tail\nshort\n")?;
-    text.clear();
-    write_lines(&mut text, &tail)?;
-    assert_eq!(rt; text.as_str(), "(long)|short|");
     Ok(())
 }
 
 #[test]
-fn it_asks_from_the_reading_place_on(rt: HostRuntime) -> Result<(), Fail> {
-    let alloc = rt.alloc();
-    let mut follower = Follower::new(alloc);
-    let _lines = taken(&rt, alloc, &mut follower, b"one\ntw")?;
-    let ask = follower.ask();
-    assert_eq!(rt; (ask.head, ask.from, ask.max), (64, 6, 65_536));
-    Ok(())
+fn laws_are_called() {
+    watch_law();
+    decode_law();
 }

@@ -169,6 +169,38 @@ const RUNS: [Row; 7] = [
     },
 ];
 
+/// Here each part stands in the log's place, and not behind the parts before it.
+const ROTATIONS: [Row; 2] = [
+    // Another log, shorter than the first.
+    Row {
+        words: "--conf /c --turns 3",
+        conf: WEB,
+        log: &[
+            "1700000100 fail from 192.0.2.7\n1700000101 fail from 192.0.2.7\n",
+            "1700000102 fail from 192.0.2.7\n",
+            "1700000102 fail from 192.0.2.7\n",
+        ],
+        readings: &[1700000110],
+        fails: &[],
+        status: 0,
+        said: "1700000110 INFO Server ready\n1700000110 INFO [web] Found 192.0.2.7\n1700000110 INFO [web] Found 192.0.2.7\n1700000110 INFO [web] Found 192.0.2.7\n1700000110 NOTICE [web] Ban 192.0.2.7\n",
+    },
+    // The same log, truncated.
+    Row {
+        words: "--conf /c --turns 3",
+        conf: WEB,
+        log: &[
+            "1700000100 fail from 192.0.2.7\n1700000101 fail from 192.0.2.7\n1700000102 fai",
+            "",
+            "1700000103 fail from 192.0.2.7\n",
+        ],
+        readings: &[1700000110],
+        fails: &[],
+        status: 0,
+        said: "1700000110 INFO Server ready\n1700000110 INFO [web] Found 192.0.2.7\n1700000110 INFO [web] Found 192.0.2.7\n1700000110 INFO [web] Found 192.0.2.7\n1700000110 NOTICE [web] Ban 192.0.2.7\n",
+    },
+];
+
 fn tree(alloc: Global, conf: &str) -> Result<TreeAnswer, Fail> {
     let mut files = Seq::new(alloc);
     if !conf.is_empty() {
@@ -180,11 +212,14 @@ fn tree(alloc: Global, conf: &str) -> Result<TreeAnswer, Fail> {
     Ok(TreeAnswer::Tree(Tree { files }))
 }
 
-/// The log grows by a part before each turn.
-fn changes(alloc: Global, log: &[&str]) -> Result<Seq<FileChange>, Fail> {
+/// The log grows by a part before each turn, or becomes it.
+fn changes(alloc: Global, log: &[&str], rotated: bool) -> Result<Seq<FileChange>, Fail> {
     let mut changes = Seq::new(alloc);
     let mut content = Bytes::new(alloc);
     for (pauses, part) in log.iter().enumerate() {
+        if rotated {
+            content.clear();
+        }
         content.push_slice(part.as_bytes())?;
         changes.push(FileChange {
             pauses: pauses as u64,
@@ -206,13 +241,13 @@ fn readings(alloc: Global, secs: &[u64]) -> Result<Seq<Reading>, Fail> {
     Ok(readings)
 }
 
-fn world(alloc: Global, row: &Row) -> Result<MemWorld, Fail> {
+fn world(alloc: Global, row: &Row, rotated: bool) -> Result<MemWorld, Fail> {
     let mut trees = Seq::new(alloc);
     trees.push(tree(alloc, row.conf)?)?;
     let script = Script {
         readings: readings(alloc, row.readings)?,
         trees,
-        changes: changes(alloc, row.log)?,
+        changes: changes(alloc, row.log, rotated)?,
         fails: Seq::from(row.fails.to_vec(alloc)?),
     };
     Ok(MemWorld::new(alloc, script)?)
@@ -234,26 +269,26 @@ fn said(alloc: Global, events: &[Event]) -> Result<Bytes, Fail> {
 }
 
 /// The status of a row's run, what it said, and whether its world is still told.
-fn run(alloc: Global, row: &Row) -> Result<(u8, Bytes, bool), Fail> {
+fn run(alloc: Global, row: &Row, rotated: bool) -> Result<(u8, Bytes, bool), Fail> {
     let mut words = Vec::new(alloc);
     for word in row.words.split_whitespace() {
         words.push(String::from_str(alloc, word)?)?;
     }
-    let mut world = world(alloc, row)?;
+    let mut world = world(alloc, row, rotated)?;
     let status = server(alloc, words.as_slice(), &mut world);
     let said = said(alloc, world.events())?;
     Ok((status.number(), said, world.is_told()))
 }
 
-fn is_as_wanted(alloc: Global, row: &Row) -> Result<bool, Fail> {
-    let (status, said, told) = run(alloc, row)?;
+fn is_as_wanted(alloc: Global, row: &Row, rotated: bool) -> Result<bool, Fail> {
+    let (status, said, told) = run(alloc, row, rotated)?;
     Ok(told && status == row.status && said.as_slice() == row.said.as_bytes())
 }
 
 #[test]
 fn starts_or_says_why_not(rt: HostRuntime) -> Result<(), Fail> {
     for row in &STARTS {
-        assert!(rt; is_as_wanted(rt.alloc(), row)?, "at {}", row.said);
+        assert!(rt; is_as_wanted(rt.alloc(), row, false)?, "at {}", row.said);
     }
     Ok(())
 }
@@ -261,7 +296,15 @@ fn starts_or_says_why_not(rt: HostRuntime) -> Result<(), Fail> {
 #[test]
 fn bans_who_fails_too_often(rt: HostRuntime) -> Result<(), Fail> {
     for row in &RUNS {
-        assert!(rt; is_as_wanted(rt.alloc(), row)?, "at {}", row.said);
+        assert!(rt; is_as_wanted(rt.alloc(), row, false)?, "at {}", row.said);
+    }
+    Ok(())
+}
+
+#[test]
+fn finds_the_lines_of_a_rotated_log(rt: HostRuntime) -> Result<(), Fail> {
+    for row in &ROTATIONS {
+        assert!(rt; is_as_wanted(rt.alloc(), row, true)?, "at {}", row.said);
     }
     Ok(())
 }

@@ -24,7 +24,7 @@ first_keeps definition turns answer kept is = record {
   word = is.word;
   core = is.core ∙ sym (first_shows (record { purge = 86400; jails = definition ∷ [] }));
   sound = first_sound (record { purge = 86400; jails = definition ∷ [] }) (is.maxretry, tt) (refl, tt);
-  seen = is.seen;
+  watch = is.watch;
 }
 
 module _ (a b : Standing) (definition : JailDef) (answer : Reading) (clock : Called a (Clock answer) b) (plan : Plan) where

@@ -3,15 +3,19 @@ use Rattle.std.proofs.Common.{ℕ, suc, ◌≡◌, ◌==◌, true, false, ◌+�
 use Rattle.f2b_base.specs.declared.input.What.{What}
 use Rattle.f2b_base.specs.declared.input.What.TheVariants.{Read}
 use Rattle.f2b_base.specs.declared.jail.Place.TheVariants.{Tail}
+use Rattle.f2b_base.specs.declared.outside.FileLook.{FileLook}
 use Rattle.filter_regex.specs.Rules.{rules_of}
 use Rattle.f2b_world.specs.Told.{Standing, Called}
 use Rattle.f2b_world.specs.declared.answer.Look.{Look}
 use Rattle.f2b_world.specs.declared.answer.Look.TheVariants.{File, Absent, Failed as LookFailed, NoMemory as LookNoMemory}
 use Rattle.f2b_world.specs.declared.event.Event.TheVariants.{Look as LookAt, Pause}
-use Rattle.log_follow.specs.Followed.{StandsFor, place_of}
-use Rattle.log_follow.specs.Lines.{new_lines}
+use Rattle.log_follow.specs.Followed.{StandsFor, ask_of}
+use Rattle.log_follow.specs.Watches.{Watch, Answers, looked as watch_looked}
+use Rattle.log_follow.specs.declared.follower.Follower.{Follower}
 use Rattle.log_follow.specs.declared.line.Line.{Line}
-use Rattle.server_top.specs.Law.{Following, Point, AtClock, AtLook, AtPause, Run, IsNext, call_of, Halts, takes, looked, lines_read, seen_more, read_of, path_of, turned, failures_in}
+use Rattle.log_follow.specs.declared.step.Step.{Step}
+use Rattle.log_follow.specs.declared.step.Step.TheVariants.{Placed, Rotated, Lines, Nothing}
+use Rattle.server_top.specs.Law.{Following, Point, AtClock, AtLook, AtPause, Run, IsNext, call_of, Halts, takes, looked, step_read, watched, read_of, path_of, turned, failures_in}
 use Rattle.server_top.specs.Stages.{IsAt, Keeps, Looked, Moves, MoveFails, Reaches, ReadsLines, Takes, TakeFails, brought, read_by, read_what, turn_end}
 use Rattle.server_top.specs.declared.follow.Follow.{Follow}
 use Rattle.server_top.specs.declared.status.Status.{Status}
@@ -21,66 +25,76 @@ use Rattle.server_top.proofs.WalkLemmas.{goes_trans, goes_call, halts_after, hal
 use Rattle.server_top.specs.Starts.{standing}
 use Rattle.server_top.proofs.TurnLemmas.{at_standing, may_come, reaches_taken, halts_taking, reaches_next, halts_next}
 
--- Lines are cut and searched.
+-- A look is handed to the follower, and its lines are searched.
 
-read_some : (lines : List Line) (g : Following) → (length lines == 0) ≡ false → read_what g lines ≡ Some (read_of g lines)
-read_some [] g some = absurd (cc)
-read_some (line ∷ lines) g some = refl
+none_read : (step : Step) (g : Following) → ((lines : List Line) → step ≡ Lines lines → ⊥) → read_what g step ≡ None
+none_read (Lines lines) g none = absurd (none lines refl)
+none_read Placed g none = refl
+none_read Rotated g none = refl
+none_read Nothing g none = refl
 
-read_none : (lines : List Line) (g : Following) → (length lines == 0) ≡ true → read_what g lines ≡ None
-read_none [] g none = refl
-read_none (line ∷ lines) g none = absurd (let e : length (line ∷ lines) ≡ 0 = eqb-true (length (line ∷ lines)) 0 none in omega arith)
-
-module _ (before after : Follow) (bytes : List ℕ) (lines : List Line) (built : before.filter ≡ rules_of before.definition)
+module _ (before after : Follow) (file : FileLook) (step : Step) (built : before.filter ≡ rules_of before.definition)
     (definition_is : after.definition ≡ before.definition) (filter_is : after.filter ≡ before.filter) (core_is : after.core ≡ before.core) (now_is : after.now ≡ before.now) (word_is : after.word ≡ before.word)
-    (cut : (seen : List ℕ) → StandsFor before.follower seen → lines ≡ new_lines seen bytes)
-    (stands : (seen : List ℕ) → StandsFor before.follower seen → StandsFor after.follower (seen ++ bytes)) where
-  still_keeps : (f : Following) → Keeps f before → Keeps (seen_more bytes f) after
+    (brings : (w : Watch) → StandsFor before.follower w → step ≡ (watch_looked w file).1)
+    (stands : (w : Watch) → StandsFor before.follower w → StandsFor after.follower (watch_looked w file).0) where
+  still_keeps : (f : Following) → Keeps f before → Keeps (watched file f) after
   still_keeps f keeps = record {
     definition = definition_is ∙ keeps.definition;
     now = now_is ∙ keeps.now;
     word = word_is ∙ keeps.word;
     core = core_is ∙ keeps.core;
     sound = keeps.sound;
-    seen = stands f.seen keeps.seen;
+    watch = stands f.watch keeps.watch;
   }
 
-  by_code : (f : Following) → Keeps f before → read_by after.definition after.filter after.now lines ≡ read_of (seen_more bytes f) lines
-  by_code f keeps =
+  by_code : (lines : List Line) (f : Following) → Keeps f before → read_by after.definition after.filter after.now lines ≡ read_of (watched file f) lines
+  by_code lines f keeps =
       let d : after.definition ≡ f.definition = definition_is ∙ keeps.definition in
       let r : after.filter ≡ rules_of f.definition = filter_is ∙ built ∙ ap rules_of keeps.definition in
       let n : after.now ≡ f.now = now_is ∙ keeps.now in
       λ i. Read (d i).name (path_of (d i).watches) Tail (failures_in (r i) (n i) (d i).findtime lines)
 
-  pub reads_some : (what : What) → what ≡ read_by after.definition after.filter after.now lines → (length lines == 0) ≡ false → ReadsLines before bytes after (Some what)
-  reads_some what what_is some = record {
+  pub reads_some : (what : What) (lines : List Line) → step ≡ Lines lines → what ≡ read_by after.definition after.filter after.now lines → ReadsLines before file after (Some what)
+  reads_some what lines is what_is = record {
     keeps = still_keeps;
     what_is = λ f keeps.
-        ap Some (what_is ∙ by_code f keeps) ∙ sym (read_some lines (seen_more bytes f) some) ∙ ap (read_what (seen_more bytes f)) (cut f.seen keeps.seen);
+        ap Some (what_is ∙ by_code lines f keeps) ∙ ap (read_what (watched file f)) (sym is ∙ brings f.watch keeps.watch);
   }
 
-  pub reads_none : (length lines == 0) ≡ true → ReadsLines before bytes after None
+  pub reads_none : ((lines : List Line) → step ≡ Lines lines → ⊥) → ReadsLines before file after None
   reads_none none = record {
     keeps = still_keeps;
-    what_is = λ f keeps. sym (read_none lines (seen_more bytes f) none) ∙ ap (read_what (seen_more bytes f)) (cut f.seen keeps.seen);
+    what_is = λ f keeps. sym (none_read step (watched file f) none) ∙ ap (read_what (watched file f)) (brings f.watch keeps.watch);
   }
 
 pub ruleset reading = (reads_some, reads_none)
 
-lines_taken : (lines : List Line) (g : Following) (r : Run) (what : What) → Some what ≡ read_what g lines → lines_read lines g r ≡ takes what AtPause g r
-lines_taken [] g r what is = absurd (cc)
-lines_taken (line ∷ lines) g r what is = let same : what ≡ read_of g (line ∷ lines) = cc in ap (λ (w : What). takes w AtPause g r) (sym same)
+-- the look that was made answers what the follower asks
+pub answers_ask : (follower : Follower) (from : ℕ) (o : Option FileLook) (file : FileLook) → from ≡ (ask_of follower).from → o ≡ Some file
+    → IfSome o (Answers (record { head = 64; from = from; max = 65536 })) → Answers (ask_of follower) file
+answers_ask follower from o file from_is is answers =
+    let P : Option FileLook → Type 0 = λ x. IfSome x (Answers (record { head = 64; from = from; max = 65536 })) in
+    let Q : ℕ → Type 0 = λ n. Answers (record { head = 64; from = n; max = 65536 }) file in
+    subst Q from_is (subst P is answers)
 
-lines_none : (lines : List Line) (g : Following) (plan : Plan) (there : Point) (said : List (List ℕ)) → None ≡ read_what g lines
-    → lines_read lines g (standing plan there said) ≡ standing plan (AtPause g) said
-lines_none [] g plan there said is = refl
-lines_none (line ∷ lines) g plan there said is = absurd (cc)
+lines_taken : (step : Step) (g : Following) (r : Run) (what : What) → Some what ≡ read_what g step → step_read step g r ≡ takes what AtPause g r
+lines_taken (Lines lines) g r what is = let same : what ≡ read_of g lines = cc in ap (λ (w : What). takes w AtPause g r) (sym same)
+lines_taken Placed g r what is = absurd (cc)
+lines_taken Rotated g r what is = absurd (cc)
+lines_taken Nothing g r what is = absurd (cc)
 
-looked_some : (answer : Look) (bytes : List ℕ) (f : Following) (r : Run) → Some bytes ≡ brought answer → looked answer f r ≡ lines_read (new_lines f.seen bytes) (seen_more bytes f) r
-looked_some (File file) bytes f r is = let same : bytes ≡ file.bytes = cc in ap (λ (b : List ℕ). lines_read (new_lines f.seen b) (seen_more b f) r) (sym same)
-looked_some Absent bytes f r is = absurd (cc)
-looked_some LookFailed bytes f r is = absurd (cc)
-looked_some LookNoMemory bytes f r is = absurd (cc)
+lines_none : (step : Step) (g : Following) (plan : Plan) (there : Point) (said : List (List ℕ)) → None ≡ read_what g step
+    → step_read step g (standing plan there said) ≡ standing plan (AtPause g) said
+lines_none (Lines lines) g plan there said is = absurd (cc)
+lines_none Placed g plan there said is = refl
+lines_none Rotated g plan there said is = refl
+lines_none Nothing g plan there said is = refl
+
+looked_some : (answer : Look) (file : FileLook) (f : Following) (r : Run) → Some file ≡ brought answer → looked answer f r ≡ step_read (watch_looked f.watch file).1 (watched file f) r
+looked_some (File seen) file f r is = let same : file ≡ seen = cc in ap (λ (x : FileLook). step_read (watch_looked f.watch x).1 (watched x f) r) (sym same)
+looked_some Absent file f r is = absurd (cc)
+looked_some LookFailed file f r is = absurd (cc)
+looked_some LookNoMemory file f r is = absurd (cc)
 
 looked_none : (answer : Look) (f : Following) (plan : Plan) (there : Point) (lines : List (List ℕ)) → None ≡ brought answer → looked answer f (standing plan there lines) ≡ standing plan (AtPause f) lines
 looked_none (File file) f plan there lines is = absurd (cc)
@@ -89,61 +103,61 @@ looked_none LookFailed f plan there lines is = refl
 looked_none LookNoMemory f plan there lines is = refl
 
 -- the look that comes next
-module _ (path : List ℕ) (from : ℕ) (before : Follow) (path_is : path ≡ path_of before.definition.watches) (from_is : from ≡ place_of before.follower) (plan : Plan) (f : Following) (keeps : Keeps f before) where
+module _ (path : List ℕ) (from : ℕ) (before : Follow) (path_is : path ≡ path_of before.definition.watches) (from_is : from ≡ (ask_of before.follower).from) (plan : Plan) (f : Following) (keeps : Keeps f before) where
   next_look : (answer : Look) → IsNext (call_of plan (AtLook f) None) (LookAt path 64 from 65536 answer)
-  next_look answer = (path_is ∙ ap (λ d. path_of d.watches) keeps.definition, refl, from_is ∙ keeps.seen.place, refl)
+  next_look answer = (path_is ∙ ap (λ d. path_of d.watches) keeps.definition, refl, from_is ∙ keeps.watch.from, refl)
 
-pub look_takes : (a b c : Standing) (path bytes : List ℕ) (from : ℕ) (before mid after : Follow) (what : What) → path ≡ path_of before.definition.watches → from ≡ place_of before.follower
-    → Looked a b path from (Some bytes) → ReadsLines before bytes mid (Some what) → Takes b c what mid after → Moves a c AtLook AtPause before after
-look_takes a b c path bytes from before mid after what path_is from_is looks reads took = record {
+pub look_takes : (a b c : Standing) (path : List ℕ) (file : FileLook) (from : ℕ) (before mid after : Follow) (what : What) → path ≡ path_of before.definition.watches → from ≡ (ask_of before.follower).from
+    → Looked a b path from (Some file) → ReadsLines before file mid (Some what) → Takes b c what mid after → Moves a c AtLook AtPause before after
+look_takes a b c path file from before mid after what path_is from_is looks reads took = record {
   runs = λ r f at keeps.
       at_standing (λ x. Reaches a c x AtPause f.left after) r (AtLook f) at (
       let s = standing r.plan (AtLook f) r.lines in
-      let g = seen_more bytes f in
-      let fed : looked looks.answer f s ≡ takes what AtPause g s = looked_some looks.answer bytes f s looks.bytes_are ∙ lines_taken (new_lines f.seen bytes) g s what (reads.what_is f keeps) in
+      let g = watched file f in
+      let fed : looked looks.answer f s ≡ takes what AtPause g s = looked_some looks.answer file f s looks.file_is ∙ lines_taken (watch_looked f.watch file).1 g s what (reads.what_is f keeps) in
       reaches_taken a b (LookAt path 64 from 65536 looks.answer) looks.called r.plan (AtLook f) r.lines (next_look path from before path_is from_is r.plan f keeps looks.answer)
       c what AtPause g mid after fed tt (reads.keeps f keeps) took);
 }
 
-pub look_fails : (a b c : Standing) (path bytes : List ℕ) (from : ℕ) (before mid : Follow) (what : What) (status : Status) → path ≡ path_of before.definition.watches → from ≡ place_of before.follower
-    → Looked a b path from (Some bytes) → ReadsLines before bytes mid (Some what) → TakeFails b c what mid status → MoveFails a c AtLook before status
-look_fails a b c path bytes from before mid what status path_is from_is looks reads fails = record {
+pub look_fails : (a b c : Standing) (path : List ℕ) (file : FileLook) (from : ℕ) (before mid : Follow) (what : What) (status : Status) → path ≡ path_of before.definition.watches → from ≡ (ask_of before.follower).from
+    → Looked a b path from (Some file) → ReadsLines before file mid (Some what) → TakeFails b c what mid status → MoveFails a c AtLook before status
+look_fails a b c path file from before mid what status path_is from_is looks reads fails = record {
   runs = λ r f at keeps.
       at_standing (λ x. Halts a.told c.told x status) r (AtLook f) at (
       let s = standing r.plan (AtLook f) r.lines in
-      let g = seen_more bytes f in
-      let fed : looked looks.answer f s ≡ takes what AtPause g s = looked_some looks.answer bytes f s looks.bytes_are ∙ lines_taken (new_lines f.seen bytes) g s what (reads.what_is f keeps) in
+      let g = watched file f in
+      let fed : looked looks.answer f s ≡ takes what AtPause g s = looked_some looks.answer file f s looks.file_is ∙ lines_taken (watch_looked f.watch file).1 g s what (reads.what_is f keeps) in
       halts_taking a b (LookAt path 64 from 65536 looks.answer) looks.called r.plan (AtLook f) r.lines (next_look path from before path_is from_is r.plan f keeps looks.answer)
       c what AtPause g mid status fed tt (reads.keeps f keeps) fails);
 }
 
-pub look_no_line : (a b : Standing) (path bytes : List ℕ) (from : ℕ) (before after : Follow) → path ≡ path_of before.definition.watches → from ≡ place_of before.follower
-    → Looked a b path from (Some bytes) → ReadsLines before bytes after None → Moves a b AtLook AtPause before after
-look_no_line a b path bytes from before after path_is from_is looks reads = record {
+pub look_no_line : (a b : Standing) (path : List ℕ) (file : FileLook) (from : ℕ) (before after : Follow) → path ≡ path_of before.definition.watches → from ≡ (ask_of before.follower).from
+    → Looked a b path from (Some file) → ReadsLines before file after None → Moves a b AtLook AtPause before after
+look_no_line a b path file from before after path_is from_is looks reads = record {
   runs = λ r f at keeps.
       at_standing (λ x. Reaches a b x AtPause f.left after) r (AtLook f) at (
       let s = standing r.plan (AtLook f) r.lines in
-      let g = seen_more bytes f in
+      let g = watched file f in
       let fed : looked looks.answer f s ≡ standing r.plan (AtPause g) r.lines =
-      looked_some looks.answer bytes f s looks.bytes_are ∙ lines_none (new_lines f.seen bytes) g r.plan (AtLook f) r.lines (reads.what_is f keeps) in
+      looked_some looks.answer file f s looks.file_is ∙ lines_none (watch_looked f.watch file).1 g r.plan (AtLook f) r.lines (reads.what_is f keeps) in
       reaches_next a b (LookAt path 64 from 65536 looks.answer) looks.called r.plan (AtLook f) r.lines (next_look path from before path_is from_is r.plan f keeps looks.answer)
       AtPause g after fed (reads.keeps f keeps));
 }
 
-pub look_nothing : (a b : Standing) (path : List ℕ) (from : ℕ) (before : Follow) → path ≡ path_of before.definition.watches → from ≡ place_of before.follower
+pub look_nothing : (a b : Standing) (path : List ℕ) (from : ℕ) (before : Follow) → path ≡ path_of before.definition.watches → from ≡ (ask_of before.follower).from
     → Looked a b path from None → Moves a b AtLook AtPause before before
 look_nothing a b path from before path_is from_is looks = record {
   runs = λ r f at keeps.
       at_standing (λ x. Reaches a b x AtPause f.left before) r (AtLook f) at (
       let s = standing r.plan (AtLook f) r.lines in
-      let fed : looked looks.answer f s ≡ standing r.plan (AtPause f) r.lines = looked_none looks.answer f r.plan (AtLook f) r.lines looks.bytes_are in
+      let fed : looked looks.answer f s ≡ standing r.plan (AtPause f) r.lines = looked_none looks.answer f r.plan (AtLook f) r.lines looks.file_is in
       reaches_next a b (LookAt path 64 from 65536 looks.answer) looks.called r.plan (AtLook f) r.lines (next_look path from before path_is from_is r.plan f keeps looks.answer)
       AtPause f before fed keeps);
 }
 
-pub look_memory : (a b : Standing) (path : List ℕ) (from : ℕ) (bytes : Option (List ℕ)) (before : Follow) → path ≡ path_of before.definition.watches → from ≡ place_of before.follower
-    → Looked a b path from bytes → MoveFails a b AtLook before NoMemory
-look_memory a b path from bytes before path_is from_is looks = record {
+pub look_memory : (a b : Standing) (path : List ℕ) (from : ℕ) (file : Option FileLook) (before : Follow) → path ≡ path_of before.definition.watches → from ≡ (ask_of before.follower).from
+    → Looked a b path from file → MoveFails a b AtLook before NoMemory
+look_memory a b path from file before path_is from_is looks = record {
   runs = λ r f at keeps.
       at_standing (λ x. Halts a.told b.told x NoMemory) r (AtLook f) at (
       halts_next a b (LookAt path 64 from 65536 looks.answer) looks.called r.plan (AtLook f) r.lines (next_look path from before path_is from_is r.plan f keeps looks.answer));
@@ -154,24 +168,22 @@ look_refused a b before status is = rw (is.0, is.1) (record { runs = λ r f at k
 
 -- the same by what the calls gave
 
-same_look : (a b : Standing) (path : List ℕ) (from : ℕ) (o : Option (List ℕ)) (bytes : List ℕ) → o ≡ Some bytes → Looked a b path from o → Looked a b path from (Some bytes)
-same_look a b path from o bytes is looks = let P : Option (List ℕ) → Type 0 = λ x. Looked a b path from x in subst P is looks
+same_look : (a b : Standing) (path : List ℕ) (from : ℕ) (o : Option FileLook) (file : FileLook) → o ≡ Some file → Looked a b path from o → Looked a b path from (Some file)
+same_look a b path from o file is looks = let P : Option FileLook → Type 0 = λ x. Looked a b path from x in subst P is looks
 
-same_read : (before mid : Follow) (cut bytes : List ℕ) (o p : Option What) → cut ≡ bytes → o ≡ p → ReadsLines before cut mid o → ReadsLines before bytes mid p
-same_read before mid cut bytes o p cut_is is reads =
-    let P : Option What → Type 0 = λ x. ReadsLines before bytes mid x in
-    let Q : List ℕ → Type 0 = λ x. ReadsLines before x mid o in subst P is (subst Q cut_is reads)
+same_read : (before mid : Follow) (file : FileLook) (o p : Option What) → o ≡ p → ReadsLines before file mid o → ReadsLines before file mid p
+same_read before mid file o p is reads = let P : Option What → Type 0 = λ x. ReadsLines before file mid x in subst P is reads
 
-module _ (a b : Standing) (path bytes cut : List ℕ) (from : ℕ) (o : Option (List ℕ)) (before mid : Follow) (w : Option What) (path_is : path ≡ path_of before.definition.watches) (from_is : from ≡ place_of before.follower)
-    (some : o ≡ Some bytes) (cut_is : cut ≡ bytes) (looks : Looked a b path from o) (reads : ReadsLines before cut mid w) where
+module _ (a b : Standing) (path : List ℕ) (file : FileLook) (from : ℕ) (o : Option FileLook) (before mid : Follow) (w : Option What) (path_is : path ≡ path_of before.definition.watches)
+    (from_is : from ≡ (ask_of before.follower).from) (some : o ≡ Some file) (looks : Looked a b path from o) (reads : ReadsLines before file mid w) where
   pub read_takes : (c : Standing) (what : What) (after : Follow) → w ≡ Some what → Takes b c what mid after → Moves a c AtLook AtPause before after
-  read_takes c what after is took = look_takes a b c path bytes from before mid after what path_is from_is (same_look a b path from o bytes some looks) (same_read before mid cut bytes w (Some what) cut_is is reads) took
+  read_takes c what after is took = look_takes a b c path file from before mid after what path_is from_is (same_look a b path from o file some looks) (same_read before mid file w (Some what) is reads) took
 
   pub read_fails : (c : Standing) (what : What) (status : Status) → w ≡ Some what → TakeFails b c what mid status → MoveFails a c AtLook before status
-  read_fails c what status is fails = look_fails a b c path bytes from before mid what status path_is from_is (same_look a b path from o bytes some looks) (same_read before mid cut bytes w (Some what) cut_is is reads) fails
+  read_fails c what status is fails = look_fails a b c path file from before mid what status path_is from_is (same_look a b path from o file some looks) (same_read before mid file w (Some what) is reads) fails
 
   pub read_no_line : w ≡ None → Moves a b AtLook AtPause before mid
-  read_no_line is = look_no_line a b path bytes from before mid path_is from_is (same_look a b path from o bytes some looks) (same_read before mid cut bytes w None cut_is is reads)
+  read_no_line is = look_no_line a b path file from before mid path_is from_is (same_look a b path from o file some looks) (same_read before mid file w None is reads)
 
 pub ruleset looking = (look_nothing, look_memory, look_refused)
 

@@ -18,12 +18,13 @@ use Rattle.f2b_world.specs.declared.event.Event.{Event}
 use Rattle.f2b_world.specs.declared.event.Event.TheVariants.{Say, DiskLen, DiskRead, DiskWrite, DiskSync, Make, Clock, Config, StoreAt, Names, Look as LookAt, ChildStart, ChildPoll, ChildKill, GateListen, GateAccept, GateRead, GateWrite, GateClose, Pause}
 use Rattle.filter_regex.specs.declared.error.BuildKind.{BuildKind}
 use Rattle.filter_regex.specs.declared.error.PatternPlace.{PatternPlace}
-use Rattle.log_follow.specs.declared.line.Line.{Line}
-use Rattle.server_top.specs.Law.{Following, Point, AtConfig, AtMake, AtStart, AtClock, AtLook, AtPause, Over, Run, call_of, next_call, IsNext, IsOver, Ends, MayCome, Free, feed, moved, config_read, configured, made, not_made, pattern_at, clocked, ticked, looked, lines_read, seen_more, read_at, begin, begin_with, call_at, call_for, make_call, Call}
+use Rattle.log_follow.specs.declared.step.Step.{Step}
+use Rattle.log_follow.specs.declared.step.Step.TheVariants.{Placed, Rotated, Lines, Nothing}
+use Rattle.server_top.specs.Law.{Following, Point, AtConfig, AtMake, AtStart, AtClock, AtLook, AtPause, Over, Run, call_of, next_call, IsNext, IsOver, Ends, MayCome, Free, feed, moved, config_read, configured, made, not_made, pattern_at, clocked, ticked, looked, step_read, watched, read_at, begin, begin_with, call_at, call_for, make_call, Call}
 use Rattle.f2b_model.specs.Steps.{moves, is_ban_due}
 use Rattle.filter_regex.specs.declared.error.BuildKind.TheVariants.{Syntax, TooBig}
 use Rattle.flat_form.specs.Flat.{flat_jail}
-use Rattle.log_follow.specs.Lines.{new_lines}
+use Rattle.log_follow.specs.Watches.{looked as watch_looked}
 use Rattle.server_top.specs.Words.{plan_of}
 use Rattle.server_top.specs.Served.{Obeys, SaysAll, SaysInOrder, said_by, joined, lines_by, run_after, IsBeginning}
 use Rattle.server_top.specs.declared.status.Status.{Status}
@@ -64,12 +65,14 @@ ticked_lengthens : (due : Bool) (f : Following) (r : Run) → Lengthens r (ticke
 ticked_lengthens true f r = record { more = _; lines = refl; said = refl }
 ticked_lengthens false f r = record { more = []; lines = sym (append-nil r.lines); said = refl }
 
-read_lengthens : (lines : List Line) (f : Following) (r : Run) → Lengthens r (lines_read lines f r)
-read_lengthens [] f r = record { more = []; lines = sym (append-nil r.lines); said = refl }
-read_lengthens (line ∷ lines) f r = record { more = _; lines = refl; said = refl }
+read_lengthens : (step : Step) (f : Following) (r : Run) → Lengthens r (step_read step f r)
+read_lengthens (Lines lines) f r = record { more = _; lines = refl; said = refl }
+read_lengthens Placed f r = record { more = []; lines = sym (append-nil r.lines); said = refl }
+read_lengthens Rotated f r = record { more = []; lines = sym (append-nil r.lines); said = refl }
+read_lengthens Nothing f r = record { more = []; lines = sym (append-nil r.lines); said = refl }
 
 looked_lengthens : (answer : Look) (f : Following) (r : Run) → Lengthens r (looked answer f r)
-looked_lengthens (File file) f r = read_lengthens (new_lines f.seen file.bytes) (seen_more file.bytes f) r
+looked_lengthens (File file) f r = read_lengthens (watch_looked f.watch file).1 (watched file f) r
 looked_lengthens Absent f r = record { more = []; lines = sym (append-nil r.lines); said = refl }
 looked_lengthens LookFailed f r = record { more = []; lines = sym (append-nil r.lines); said = refl }
 looked_lengthens LookNoMemory f r = record { more = []; lines = sym (append-nil r.lines); said = refl }

@@ -22,7 +22,7 @@ abbrev with_left : Following → ℕ → Following
 with_left f n = record f { left = n }
 
 left_keeps : (f : Following) (n : ℕ) (kept : Follow) → Keeps f kept → Keeps (with_left f n) kept
-left_keeps f n kept keeps = record { definition = keeps.definition; now = keeps.now; word = keeps.word; core = keeps.core; sound = keeps.sound; seen = keeps.seen }
+left_keeps f n kept keeps = record { definition = keeps.definition; now = keeps.now; word = keeps.word; core = keeps.core; sound = keeps.sound; watch = keeps.watch }
 
 -- with turns left the run stands at the clock
 at_clock : (r : Run) (left : ℕ) (f : Following) → IsAt r (turned (suc left) f) → IsAt r (AtClock (with_left f (suc left)))

@@ -75,7 +75,7 @@ module _ (before after : Follow) (what : What) (news : List Happening) (steps : 
       word = steps.word ∙ keeps.word;
       core = same_core f keeps;
       sound = still_sound f keeps;
-      seen = (let P : Follower → Type 0 = λ x. StandsFor x f.seen in subst P (sym steps.follower) keeps.seen);
+      watch = (let P : Follower → Type 0 = λ x. StandsFor x f.watch in subst P (sym steps.follower) keeps.watch);
     };
   }
 

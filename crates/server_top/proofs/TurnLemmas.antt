@@ -97,7 +97,7 @@ read_keeps before mid answer f reads keeps = record {
   word = reads.word;
   core = reads.core ∙ keeps.core;
   sound = keeps.sound;
-  seen = (let P : Follower → Type 0 = λ x. StandsFor x f.seen in subst P (sym reads.follower) keeps.seen);
+  watch = (let P : Follower → Type 0 = λ x. StandsFor x f.watch in subst P (sym reads.follower) keeps.watch);
 }
 
 due_is : (mid : Follow) (f : Following) (due : Bool) → Keeps f mid → due ≡ is_ban_due moves_now mid.now mid.core → is_ban_due moves f.now f.state ≡ due

@@ -5,8 +5,9 @@ use Rattle.f2b_base.specs.declared.input.Input.{Input}
 use Rattle.f2b_base.specs.declared.input.What.{What}
 use Rattle.f2b_base.specs.declared.input.What.TheVariants.{Tick, Read}
 use Rattle.f2b_base.specs.declared.jail.JailDef.{JailDef}
-use Rattle.f2b_base.specs.declared.jail.Place.TheVariants.{Tail}
+use Rattle.f2b_base.specs.declared.jail.Place.TheVariants.{Tail, Pos}
 use Rattle.f2b_base.specs.declared.jail.WatchDef.{WatchDef}
+use Rattle.f2b_base.specs.declared.outside.FileLook.{FileLook}
 use Rattle.f2b_base.specs.declared.outside.Reading.{Reading}
 use Rattle.f2b_base.specs.declared.outside.TreeAnswer.{TreeAnswer}
 use Rattle.f2b_base.specs.declared.outside.TreeAnswer.TheVariants.{Tree, Failed as TreeFailed, TooLarge as TreeTooLarge, NoMemory as TreeNoMemory}
@@ -29,9 +30,11 @@ use Rattle.filter_regex.specs.declared.error.BuildKind.TheVariants.{Syntax, TooB
 use Rattle.filter_regex.specs.declared.finding.Finding.{Finding}
 use Rattle.filter_regex.specs.declared.finding.Finding.TheVariants.{Failure as Failed}
 use Rattle.filter_regex.specs.declared.error.PatternPlace.{PatternPlace}
-use Rattle.log_follow.specs.Lines.{new_lines}
+use Rattle.log_follow.specs.Watches.{Watch, reading_place, begun as watch_from, looked as watch_looked}
 use Rattle.log_follow.specs.declared.line.Line.{Line}
 use Rattle.log_follow.specs.declared.line.Line.TheVariants.{Whole}
+use Rattle.log_follow.specs.declared.step.Step.{Step}
+use Rattle.log_follow.specs.declared.step.Step.TheVariants.{Lines}
 use Rattle.flat_form.specs.Flat.{flat_jail}
 use Rattle.server_top.specs.Refusals.{refusal_line}
 use Rattle.server_top.specs.Said.{line_of, ready_line}
@@ -47,8 +50,8 @@ pub record Following : Type 0 where
   -- the greatest reading so far, and the last reading's word
   pub now : ℕ
   pub word : ℕ
-  -- all bytes that the log gave
-  pub seen : List ℕ
+  -- the watch of the log, which begins at its start
+  pub watch : Watch
   -- the turns that are left
   pub left : ℕ
 
@@ -96,13 +99,13 @@ abbrev pub make_call : Option (PatternPlace × List ℕ) → Option Call
 make_call None = None
 make_call (Some pattern) = Some (AskMake pattern.1)
 
--- a log is looked at with 64 bytes of its head, from behind what was seen, for at most 65,536 bytes; a pause has 250 milliseconds
+-- a log is looked at with 64 bytes of its head, from the watch's reading place, for at most 65,536 bytes; a pause has 250 milliseconds
 abbrev pub call_at : Plan → Point → Option Call
 call_at plan AtConfig = Some (AskConfig plan.root)
 call_at plan (AtMake definition k) = make_call (pattern_at definition k)
 call_at plan (AtStart definition) = Some AskClock
 call_at plan (AtClock f) = Some AskClock
-call_at plan (AtLook f) = Some (AskLook (path_of f.definition.watches) 64 (length f.seen) 65536)
+call_at plan (AtLook f) = Some (AskLook (path_of f.definition.watches) 64 (reading_place f.watch) 65536)
 call_at plan (AtPause f) = Some (AskPause 250)
 call_at plan (Over status) = None
 
@@ -194,7 +197,7 @@ begun definition turns answer = record {
   state = first_jails (record { purge = 86400; jails = definition ∷ [] });
   now = min answer.secs latest;
   word = answer.word;
-  seen = [];
+  watch = watch_from (Pos 0 []);
   left = turns;
 }
 
@@ -214,7 +217,7 @@ abbrev pub failure_in : Finding → List Failure
 failure_in (Failed addr time index) = record { addr = addr; time = time; line = [] } ∷ []
 failure_in _ = []
 
--- a line that is too long or no text is missed
+-- a line that is too long is missed
 abbrev pub failures_of : Rules → ℕ → ℕ → Line → List Failure
 failures_of rules now findtime (Whole text) = failure_in (finding rules now findtime text)
 failures_of rules now findtime _ = []
@@ -227,16 +230,17 @@ failures_in rules now findtime (line ∷ lines) = failures_of rules now findtime
 abbrev pub read_of : Following → List Line → What
 read_of f lines = Read f.definition.name (path_of f.definition.watches) Tail (failures_in (rules_of f.definition) f.now f.definition.findtime lines)
 
--- a read is taken where a line has become whole
-abbrev pub lines_read : List Line → Following → Run → Run
-lines_read [] f r = record r { point = AtPause f }
-lines_read (line ∷ lines) f r = takes (read_of f (line ∷ lines)) AtPause f r
+-- a read is taken where lines have become whole; of a log that is another one nothing is told yet
+abbrev pub step_read : Step → Following → Run → Run
+step_read (Lines lines) f r = takes (read_of f lines) AtPause f r
+step_read _ f r = record r { point = AtPause f }
 
-abbrev pub seen_more : List ℕ → Following → Following
-seen_more bytes f = record f { seen = f.seen ++ bytes }
+-- where a look leaves the watch
+abbrev pub watched : FileLook → Following → Following
+watched file f = record f { watch = (watch_looked f.watch file).0 }
 
 abbrev pub looked : Look → Following → Run → Run
-looked (File file) f r = lines_read (new_lines f.seen file.bytes) (seen_more file.bytes f) r
+looked (File file) f r = step_read (watch_looked f.watch file).1 (watched file f) r
 looked _ f r = record r { point = AtPause f }
 
 abbrev pub turned : ℕ → Following → Point

@@ -3,6 +3,7 @@ use Rattle.std.specs.Prelude.{ℕ, max, min, ◌^◌, ◌<◌, Option, Some, Non
 use Rattle.f2b_base.specs.declared.input.What.{What}
 use Rattle.f2b_base.specs.declared.input.What.TheVariants.{Read}
 use Rattle.f2b_base.specs.declared.jail.Place.TheVariants.{Tail}
+use Rattle.f2b_base.specs.declared.outside.FileLook.{FileLook}
 use Rattle.f2b_base.specs.declared.outside.Reading.{Reading}
 use Rattle.f2b_model.specs.Nows.{jails_now_of}
 use Rattle.f2b_model.specs.Sound.{AreSoundJails}
@@ -19,9 +20,11 @@ use Rattle.filter_regex.specs.declared.error.PatternPlace.{PatternPlace}
 use Rattle.f2b_world.specs.Reading.{reading}
 use Rattle.filter_regex.specs.declared.error.BuildKind.TheVariants.{Syntax, TooBig}
 use Rattle.log_follow.specs.Followed.{StandsFor}
-use Rattle.log_follow.specs.Lines.{new_lines}
+use Rattle.log_follow.specs.Watches.{Answers, looked as watch_looked}
 use Rattle.log_follow.specs.declared.line.Line.{Line}
-use Rattle.server_top.specs.Law.{Following, Point, Over, Run, Goes, Halts, refused, taken, told_lines, latest, read_of, seen_more, turned, path_of, failures_in}
+use Rattle.log_follow.specs.declared.step.Step.{Step}
+use Rattle.log_follow.specs.declared.step.Step.TheVariants.{Lines}
+use Rattle.server_top.specs.Law.{Following, Point, Over, Run, Goes, Halts, refused, taken, told_lines, latest, read_of, watched, turned, path_of, failures_in}
 use Rattle.server_top.specs.declared.follow.Follow.{Follow}
 use Rattle.server_top.specs.declared.status.Status.{Status}
 use Rattle.server_top.specs.declared.status.Status.TheVariants.{TurnsSpent, Usage, ConfFault, SinkFault, NotBuilt, PatternRefused, NoMemory}
@@ -80,7 +83,7 @@ pub record Keeps (f : Following) (kept : Follow) : Type 0 where
   pub word : kept.word ≡ f.word
   pub core : kept.core ≡ jails_now_of f.state
   pub sound : AreSoundJails f.state
-  pub seen : StandsFor kept.follower f.seen
+  pub watch : StandsFor kept.follower f.watch
 
 -- the run goes from one point to another, of which the code knows all that it needs
 pub record Reaches (old new : Standing) (r : Run) (point : Following → Point) (left : ℕ) (kept : Follow) : Type 0 where
@@ -143,30 +146,30 @@ pub record ReadsAt (before : Follow) (answer : Reading) (after : Follow) : Type 
   pub word : after.word ≡ answer.word
 
 -- what a look brought, or none where it could not read the log
-abbrev pub brought : Look → Option (List ℕ)
-brought (File file) = Some file.bytes
+abbrev pub brought : Look → Option FileLook
+brought (File file) = Some file
 brought _ = None
 
 -- the log was looked at from this offset on
-pub record Looked (old new : Standing) (path : List ℕ) (from : ℕ) (bytes : Option (List ℕ)) : Type 0 where
+pub record Looked (old new : Standing) (path : List ℕ) (from : ℕ) (file : Option FileLook) : Type 0 where
   pub answer : Look
   pub called : Called old (LookAt path 64 from 65536 answer) new
-  pub bytes_are : bytes ≡ brought answer
-  pub fits : IfSome bytes (λ bs. from + length bs < 2 ^ 64)
+  pub file_is : file ≡ brought answer
+  pub answers : IfSome file (Answers (record { head = 64; from = from; max = 65536 }))
 
--- what is taken of these lines
-abbrev pub read_what : Following → List Line → Option What
-read_what f [] = None
-read_what f (line ∷ lines) = Some (read_of f (line ∷ lines))
+-- what is taken of what a look brings
+abbrev pub read_what : Following → Step → Option What
+read_what f (Lines lines) = Some (read_of f lines)
+read_what f _ = None
 
 -- what is taken of these lines, by a definition and the rules of its patterns
 abbrev pub read_by : JailDef → Rules → ℕ → List Line → What
 read_by definition rules now lines = Read definition.name (path_of definition.watches) Tail (failures_in rules now definition.findtime lines)
 
--- bytes of the log were cut into lines, and the lines searched
-pub record ReadsLines (before : Follow) (bytes : List ℕ) (after : Follow) (what : Option What) : Type 0 where
-  pub keeps : (f : Following) → Keeps f before → Keeps (seen_more bytes f) after
-  pub what_is : (f : Following) → Keeps f before → what ≡ read_what (seen_more bytes f) (new_lines f.seen bytes)
+-- a look was handed to the follower, and the lines searched that became whole
+pub record ReadsLines (before : Follow) (file : FileLook) (after : Follow) (what : Option What) : Type 0 where
+  pub keeps : (f : Following) → Keeps f before → Keeps (watched file f) after
+  pub what_is : (f : Following) → Keeps f before → what ≡ read_what (watched file f) (watch_looked f.watch file).1
 
 -- where a turn leaves the run
 abbrev pub turn_end : Following → Point

@@ -1,6 +1,7 @@
 -- The start of a run, and all its turns.
 use Rattle.std.specs.Prelude.{ℕ, min, ◌≡◌, ◌≤◌, ◌-◌, List, [], ◌∷◌, Option, Some, None, Result, Ok, Err, length}
 use Rattle.f2b_base.specs.declared.jail.JailDef.{JailDef}
+use Rattle.f2b_base.specs.declared.jail.Place.TheVariants.{Pos}
 use Rattle.f2b_base.specs.declared.outside.TreeAnswer.{TreeAnswer}
 use Rattle.f2b_base.specs.declared.outside.TreeAnswer.TheVariants.{Tree, Failed as TreeFailed, TooLarge as TreeTooLarge, NoMemory as TreeNoMemory}
 use Rattle.f2b_base.specs.declared.outside.Reading.{Reading}
@@ -9,6 +10,7 @@ use Rattle.f2b_world.specs.Told.{Standing}
 use Rattle.flat_form.specs.Flat.{flat_jail}
 use Rattle.flat_form.specs.FlatText.{IsFlatJail}
 use Rattle.log_follow.specs.Followed.{StandsFor}
+use Rattle.log_follow.specs.Watches.{begun as watch_from}
 use Rattle.server_top.specs.Law.{Following, Point, AtConfig, AtStart, AtClock, Run, Goes, Halts, make_point, turned, latest}
 use Rattle.server_top.specs.Stages.{IsAt, Keeps, Reaches}
 use Rattle.server_top.specs.declared.follow.Follow.{Follow}
@@ -68,5 +70,5 @@ pub record IsFirst (definition : JailDef) (answer : Reading) (kept : Follow) : T
   pub now : kept.now ≡ min answer.secs latest
   pub word : kept.word ≡ answer.word
   pub core : kept.core ≡ first_jails_now (record { purge = 86400; jails = definition ∷ [] })
-  pub seen : StandsFor kept.follower []
+  pub watch : StandsFor kept.follower (watch_from (Pos 0 []))
   pub maxretry : 1 ≤ definition.maxretry

@@ -21,7 +21,7 @@ fn find_line(
 {
     match line {
         Line::Whole(text) => searcher.found(text.as_str(), now, findtime),
-        Line::Long | Line::NotText => Ok(Finding::Missed),
+        Line::Long => Ok(Finding::Missed),
     }
 }
 

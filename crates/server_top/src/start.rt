@@ -12,7 +12,7 @@ use crate::say::{refuse, say_line};
 use crate::status::Status;
 use crate::turn::LATEST;
 use crate::words::Plan;
-use f2b_base::{JailDef, NoMemory, Plain, Reading, TreeAnswer};
+use f2b_base::{Bytes, JailDef, NoMemory, Place, Plain, Reading, TreeAnswer};
 use f2b_world::World;
 use filter_regex::{Filter, PatternError};
 use flat_form::flat_jail;
@@ -83,11 +83,16 @@ fn first(
     ensures { IfOk result (IsFirst definition reading) }
 {
     let core = Core::start(alloc, definition.copy()?, 86_400)?;
+    let place = Place::Pos {
+        position: 0,
+        head: Bytes::new(alloc),
+    };
+    let follower = Follower::new(alloc, &place)?;
     Ok(Follow {
         definition,
         filter,
         core,
-        follower: Follower::new(alloc),
+        follower,
         now: reading.secs.min(LATEST),
         word: reading.word,
     })

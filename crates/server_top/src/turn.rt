@@ -1,9 +1,10 @@
 //! The stages of a turn.
-ghost use Rattle.std.specs.Prelude.{◌≡◌, ◌≢◌, ◌+◌, ◌<◌, ◌^◌, length, IfErr, IfOk, IfSome, OnErr, OnOk};
+ghost use Rattle.std.specs.Prelude.{◌≡◌, ◌≢◌, IfErr, IfOk, IfSome, OnErr, OnOk};
 ghost use Rattle.server_top.specs.Law.{AtClock, AtLook, AtPause, path_of};
 ghost use Rattle.server_top.specs.Stages.{HasCause, IsSteady, Moves, MoveFails, ReadsAt, ReadsLines, Looked, brought, read_by, turn_end};
 ghost use Rattle.jail_core.specs.Kept.{IsTaken};
-ghost use Rattle.log_follow.specs.Followed.{place_of};
+ghost use Rattle.log_follow.specs.Followed.{ask_of};
+ghost use Rattle.log_follow.specs.Watches.{Answers};
 ghost use Rattle.f2b_world.specs.declared.answer.Look.TheVariants.{NoMemory as LookNoMemory};
 ghost use Rattle.server_top.specs.declared.status.Status.TheVariants.{NoMemory as NoMemoryStatus};
 
@@ -11,9 +12,9 @@ use crate::find::find;
 use crate::follow::Follow;
 use crate::status::Status;
 use crate::take::take;
-use f2b_base::{Bytes, JailDef, NoMemory, Place, Plain, Reading, Text, What};
+use f2b_base::{FileLook, JailDef, NoMemory, Place, Plain, Reading, Text, What};
 use f2b_world::{Look, World};
-use log_follow::Line;
+use log_follow::{Line, Step};
 use std::alloc::Global;
 
 /// A reading above this, in seconds since 1970, counts as it.
@@ -55,25 +56,25 @@ fn path(definition: &JailDef) -> &str
 }
 
 // What a look brought, or none where it could not read the log.
-fn bytes_of(look: Look) -> Result<Option<Bytes>, NoMemory>
-    ensures ok { IfOk result (λ bytes. bytes ≡ brought look) }
+fn file_of(look: Look) -> Result<Option<FileLook>, NoMemory>
+    ensures ok { IfOk result (λ file. file ≡ brought look) }
     ensures only { OnErr result (look ≡ LookNoMemory) }
     ensures some { OnOk result (look ≢ LookNoMemory) }
 {
     match look {
-        Look::File(file) => Ok(Some(file.bytes)),
+        Look::File(file) => Ok(Some(file)),
         Look::Absent | Look::Failed => Ok(None),
         Look::NoMemory => Err(NoMemory),
     }
 }
 
 // Looks at the log from an offset on.
-fn look<W: World>(world: &mut W, path: &str, from: u64) -> Result<Option<Bytes>, Status>
+fn look<W: World>(world: &mut W, path: &str, from: u64) -> Result<Option<FileLook>, Status>
     ensures ok { IfOk result (Looked (W.stands world.old) (W.stands world.new) path.now from) }
     ensures err { IfErr result (λ status. (status ≡ NoMemoryStatus) × (W.stands world.new ≡ W.stands world.old)) }
 {
     let answer = world.look(path, 64, from, 65_536);
-    Ok(bytes_of(answer)?)
+    Ok(file_of(answer)?)
 }
 
 // What is taken of lines that have become whole.
@@ -90,22 +91,21 @@ fn what_read(alloc: Global, follow: &Follow, lines: &[Line]) -> Result<What, NoM
     })
 }
 
-// Cuts bytes of the log into lines, and searches the lines.
+// Hands a look to the follower, and searches the lines that have become whole.
 #[tactic(auto, using(crate::proofs::LookLemmas::reading))]
 fn read_lines(
     alloc: Global,
     follow: Follow,
-    bytes: &[u8],
+    file: &FileLook,
 ) -> Result<(Follow, Option<What>), NoMemory>
-    requires { place_of follow.follower + length bytes.now < 2 ^ 64 }
-    ensures reads { IfOk result (λ r. ReadsLines follow bytes.now r.0 r.1) }
+    requires { Answers (ask_of follow.follower) file.now }
+    ensures reads { IfOk result (λ r. ReadsLines follow file.now r.0 r.1) }
     ensures taken { IfOk result (λ r. IfSome r.1 IsTaken) }
 {
     let mut follow = follow;
-    let lines = follow.follower.take(alloc, bytes)?;
-    if lines.is_empty() {
+    let Step::Lines(lines) = follow.follower.take(alloc, file)? else {
         return Ok((follow, None));
-    }
+    };
     let what = what_read(alloc, &follow, lines.as_slice())?;
     Ok((follow, Some(what)))
 }
@@ -119,10 +119,10 @@ pub fn read<W: World>(alloc: Global, world: &mut W, follow: Follow) -> Result<Fo
     ensures steady { IsSteady (W.stands world.old) (W.stands world.new) }
 {
     let from = follow.follower.ask().from;
-    let Some(bytes) = look(world, path(&follow.definition), from)? else {
+    let Some(file) = look(world, path(&follow.definition), from)? else {
         return Ok(follow);
     };
-    let (follow, what) = read_lines(alloc, follow, bytes.as_slice())?;
+    let (follow, what) = read_lines(alloc, follow, &file)?;
     match what {
         Some(what) => take(alloc, world, follow, what),
         None => Ok(follow),

@@ -1,6 +1,6 @@
-use Rattle.std.proofs.Common.{refl, ◌∙◌}
-use Rattle.log_follow.proofs.FollowLemmas.{carry_of-none}
+use Rattle.std.proofs.Common.{refl}
+use Rattle.log_follow.proofs.StandLemmas.{stands_tail}
 use Rattle.log_follow.proofs.follower.Follower.new.Goals as goal
 
-pub returns : goal.returns
-returns c = record { place = refl; carry = c.new.ensures ∙ carry_of-none }
+pub returns-in-Tail : goal.returns-in-Tail
+returns-in-Tail c = rw c.in-Tail.is (stands_tail _ refl refl c.new.ensures c.new-in-Tail.ensures)

@@ -1,30 +1,7 @@
-use Rattle.std.proofs.Common.{◌≡◌, ◌+◌, ◌-◌, ◌++◌, ◌∷◌, List, [], length, take, drop, sym, ap, ◌∙◌, refl}
-use Rattle.log_follow.specs.declared.line.Line.{Line}
-use Rattle.log_follow.specs.Carried.{carry_of}
-use Rattle.log_follow.specs.Lines.{lines_of}
-use Rattle.log_follow.proofs.CutLemmas.{take-rest}
-use Rattle.log_follow.proofs.FollowLemmas.{new_lines-none, new_lines-made, stands_none, stands_some}
+use Rattle.std.proofs.Common.{◌≡◌, true, ap, length, rules, arith}
 use Rattle.log_follow.proofs.follower.Follower.take.Goals as goal
 
-pub returns-in_default-clause-lines : goal.returns-in_default-clause-lines
-returns-in_default-clause-lines c = λ seen stands. c.from.ensures ∙ c.new-lines.ensures.items ∙ sym (new_lines-none seen c.args.bytes.now c.in_default.ensures)
-
-pub returns-in_default-clause-stands : goal.returns-in_default-clause-stands
-returns-in_default-clause-stands c = λ seen stands. stands_none c.args.self.now _ seen c.args.bytes.now c.in_default.ensures stands refl c.in_ok-join.ensures.ok
-
-pub returns-clause-lines : goal.returns-clause-lines
-returns-clause-lines c = λ seen stands.
-    let behind = c.in-Some.end + 1 in
-    let more = take (length c.args.bytes.now - behind) (drop behind c.args.bytes.now) in
-    let first : c.push.new.self.items ≡ c.in_ok-line.field-0 ∷ [] =
-    c.in_ok-push.ensures.items ∙ ap (λ (lines : List Line). lines ++ c.in_ok-line.field-0 ∷ []) c.new-lines.ensures.items in
-    new_lines-made c.args.self.now seen c.args.bytes.now _ more c.in_ok-line.field-0 c.from-2.result c.in-Some.end c.in-Some.ensures.0 c.in-Some.ensures.1 stands
-    c.in_ok-line.ensures refl (take-rest c.args.bytes.now behind)
-    (c.from-2.ensures ∙ c.in_ok-push_lines.ensures ∙ ap (λ (lines : List Line). lines ++ lines_of more) first)
-
-pub returns-clause-stands : goal.returns-clause-stands
-returns-clause-stands c = λ seen stands.
-    let behind = c.in-Some.end + 1 in
-    let more = take (length c.args.bytes.now - behind) (drop behind c.args.bytes.now) in
-    stands_some c.args.self.now _ seen c.args.bytes.now more c.in-Some.end c.in-Some.ensures.0.high c.in-Some.ensures.1 stands refl
-    (take-rest c.args.bytes.now behind) (c.in_ok-self.ensures.value ∙ ap carry_of c.behind_last.ensures.value)
+pub add-requires : goal.add-requires
+add-requires c =
+    let same : c.goes_on.result ≡ true = search rules in
+    omega (arith, ap length c.as_slice.ensures, c.requires.within, c.goes_on.ensures.longer same, c.goes_on.ensures.fits)

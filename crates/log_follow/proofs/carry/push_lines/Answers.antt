@@ -3,7 +3,7 @@ use Rattle.log_follow.specs.declared.line.Line.{Line}
 use Rattle.log_follow.specs.Lines.{lines_of}
 use Rattle.log_follow.proofs.CutLemmas.{take-rest, length-rest}
 use Rattle.log_follow.proofs.FollowLemmas.{push_line, push_none}
-use Rattle.log_follow.proofs.follower.push_lines.Goals as goal
+use Rattle.log_follow.proofs.carry.push_lines.Goals as goal
 
 pub loop-end-preserved : goal.loop-end-preserved
 loop-end-preserved c =

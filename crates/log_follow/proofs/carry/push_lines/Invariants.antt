@@ -1,6 +1,6 @@
 use Rattle.std.proofs.Common.{◌≡◌, ◌≤◌, ◌++◌, length}
 use Rattle.log_follow.specs.Lines.{lines_of}
-use Rattle.log_follow.proofs.follower.push_lines.Given as goal
+use Rattle.log_follow.proofs.carry.push_lines.Given as goal
 
 -- the lines so far and those that are left are those that were there and those of the bytes
 abbrev pub invariant-loop-end : goal.invariant-loop-end
