@@ -1,29 +1,52 @@
--- What a line says, by the steps of a search with one pattern of failures.
-use Rattle.std.proofs.Common.{◌≡◌, ℕ, List, [], ◌∷◌, Some, None, refl}
-use Rattle.f2b_world.specs.Matches.{hosts_in}
-use Rattle.f2b_world.specs.declared.pattern.spans.HostSpans.{HostSpans}
+-- What a line says, by the steps of a search.
+use Rattle.std.proofs.Common.{◌≡◌, ℕ, ◌+◌, ◌<◌, ◌≤◌, ℤ, Bool, true, false, List, [], ◌∷◌, length, drop, get_or, Option, Some, None, refl, sym}
+use Rattle.std.specs.Prelude.{◌↔◌, Any, IsTrue}
+use Rattle.std.specs.List.{list_any}
+use Rattle.std.proofs.lemmas.List.Folds.{Any-from_list_any, list_any-from_Any}
+use Rattle.f2b_base.specs.declared.addr.Addr.{Addr}
+use Rattle.f2b_base.specs.declared.addr.Cidr.{Cidr}
+use Rattle.f2b_base.specs.Masks.{holds}
 use Rattle.host_ident.specs.Hosts.{host_of}
 use Rattle.filter_regex.specs.Dates.{date_in}
 use Rattle.filter_regex.specs.Rules.{Rules}
-use Rattle.filter_regex.specs.Findings.{without, part, failure, finding}
-use Rattle.filter_regex.specs.declared.date.Date.{Date}
-use Rattle.filter_regex.specs.declared.finding.Finding.TheVariants.{NoDate, Missed}
+use Rattle.filter_regex.specs.Findings.{without, part, content, first_match, moment_of, is_ignored, failure, finding}
+use Rattle.filter_regex.specs.declared.date.Found.{Found}
+use Rattle.filter_regex.specs.declared.part.Hit.{Hit}
+use Rattle.filter_regex.specs.declared.finding.Finding.TheVariants.{Ignored, NoDate, Missed}
 
--- the rules with one pattern of failures
-abbrev pub one : List ℕ → List ℕ → Rules
-one date fail = record { date = date; fail = fail ∷ [] }
+bools : (a b : Bool) → (a ≡ true → b ≡ true) → (b ≡ true → a ≡ true) → a ≡ b
+bools true b f g = sym (f refl)
+bools false true f g = g refl
+bools false false f g = refl
 
-module _ (date fail : List ℕ) (now findtime : ℕ) (line : List ℕ) where
-  pub no_date : None ≡ date_in date now line → NoDate ≡ finding (one date fail) now findtime line
+-- the test of a set of masks computes whether some mask holds the address
+pub is_test : (answer : Bool) (masks : List Cidr) (addr : Addr) → (IsTrue answer ↔ Any (λ mask. IsTrue (holds mask addr)) masks) → answer ≡ is_ignored masks addr
+is_test answer masks addr both =
+    bools answer (is_ignored masks addr) (λ yes. list_any-from_Any (λ mask. holds mask addr) masks (both.0 yes))
+    (λ yes. both.1 (Any-from_list_any (λ mask. holds mask addr) masks yes))
+
+module _ (rules : Rules) (now findtime : ℕ) (line rest : List ℕ) (date : Option Found) (is : date ≡ date_in rules.dates now rules.zone line)
+    (rest_is : rest ≡ without line date) where
+  pub ignored : (hit : Hit) → Some hit ≡ first_match 1 rules.ignore_lines rest → Ignored hit.number ≡ finding rules now findtime line
   unfolding finding
-  no_date none = rw (← none) refl
+  ignored hit found = rw (← is, ← rest_is, ← found) refl
 
-  module _ (d : Date) (is : Some d ≡ date_in date now line) (rest : List ℕ) (rest_is : rest ≡ without line d.whole) where
-    pub missed : None ≡ hosts_in fail rest → Missed ≡ finding (one date fail) now findtime line
+  module _ (passes : None ≡ first_match 1 rules.ignore_lines rest) where
+    pub no_date : None ≡ moment_of rules.undated now date → NoDate ≡ finding rules now findtime line
     unfolding finding
-    missed none = rw (← is, ← rest_is, ← none) refl
+    no_date none = rw (← is, ← rest_is, ← passes, ← none) refl
 
-    pub matched : (spans : HostSpans) → Some spans ≡ hosts_in fail rest →
-        failure now findtime d.time 1 (host_of (part rest spans.ip4) (part rest spans.ip6)) ≡ finding (one date fail) now findtime line
-    unfolding finding
-    matched spans hit = rw (← is, ← rest_is, ← hit) refl
+    module _ (moment : ℤ) (moment_is : Some moment ≡ moment_of rules.undated now date) where
+      pub no_content : None ≡ content rules.pref rest → Missed ≡ finding rules now findtime line
+      unfolding finding
+      no_content none = rw (← is, ← rest_is, ← passes, ← moment_is, ← none) refl
+
+      module _ (text : List ℕ) (text_is : Some text ≡ content rules.pref rest) where
+        pub missed : None ≡ first_match 1 rules.fail text → Missed ≡ finding rules now findtime line
+        unfolding finding
+        missed none = rw (← is, ← rest_is, ← passes, ← moment_is, ← text_is, ← none) refl
+
+        pub failed : (hit : Hit) → Some hit ≡ first_match 1 rules.fail text →
+            failure rules.ignore now findtime moment hit.number (host_of (part text hit.spans.ip4) (part text hit.spans.ip6)) ≡ finding rules now findtime line
+        unfolding finding
+        failed hit found = rw (← is, ← rest_is, ← passes, ← moment_is, ← text_is, ← found) refl

@@ -1,3 +1,5 @@
 pub mod AddsLemmas
-pub mod BuildsLemmas
+pub mod MakesLemmas
+pub mod ListLemmas
+pub mod BuildLemmas
 pub mod FindingLemmas

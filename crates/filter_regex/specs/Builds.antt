@@ -40,19 +40,27 @@ pub record Refuses (all : List (PatternPlace × List ℕ)) (place : PatternPlace
   pub order : all ≡ before ++ (place, text) ∷ after
   pub calls : events ≡ built before ++ Make text (answer kind) ∷ []
 
--- the calls of a build, one for each pattern in their order, up to the first that is not built
-abbrev pub AreCalls : Rules → Result Rules PatternError → List Event → Type 0
-AreCalls rules (Ok filter) events = events ≡ built (patterns rules)
-AreCalls rules (Err (Refused place kind)) events = Refuses (patterns rules) place kind events
-AreCalls rules (Err NoMemory) events = (n : ℕ) × (events ≡ built (take n (patterns rules)))
+-- what is made of these patterns: one call for each in their order, up to the first that is not built
+abbrev pub AreMakes : {A : Type 0} → List (PatternPlace × List ℕ) → Result A PatternError → List Event → Type 0
+AreMakes all (Ok made) events = events ≡ built all
+AreMakes all (Err (Refused place kind)) events = Refuses all place kind events
+AreMakes all (Err NoMemory) events = (n : ℕ) × (events ≡ built (take n all))
 
 -- a pattern is refused for a cause
-abbrev pub HasCause : Rules → Result Rules PatternError → Standing → Standing → Type 0
-HasCause rules (Err (Refused place kind)) old new = (text : List ℕ) × Contains (patterns rules) (place, text) × IsCause kind text old new
-HasCause rules _ old new = Unit {0}
+abbrev pub HasCause : {A : Type 0} → List (PatternPlace × List ℕ) → Result A PatternError → Standing → Standing → Type 0
+HasCause all (Err (Refused place kind)) old new = (text : List ℕ) × Contains all (place, text) × IsCause kind text old new
+HasCause all _ old new = Unit {0}
 
--- a build of these rules: what it told, that no count of faults fell, and its cause where it was refused
-pub record Builds (rules : Rules) (outcome : Result Rules PatternError) (old new : Standing) : Type 0 where
-  pub told : Adds old.told new.told (λ g events. AreCalls rules outcome events)
+-- patterns are made: what that told, that no count of faults fell, and its cause where one was refused
+pub record MakesAll {A : Type 0} (all : List (PatternPlace × List ℕ)) (outcome : Result A PatternError) (old new : Standing) : Type 0 where
+  pub told : Adds old.told new.told (λ g events. AreMakes all outcome events)
   pub steady : (kind : Fault) → old.faults kind ≤ new.faults kind
-  pub cause : HasCause rules outcome old new
+  pub cause : HasCause all outcome old new
+
+-- the calls of a build, one for each pattern of the rules
+abbrev pub AreCalls : Rules → Result Rules PatternError → List Event → Type 0
+AreCalls rules outcome events = AreMakes (patterns rules) outcome events
+
+-- a build of these rules
+abbrev pub Builds : Rules → Result Rules PatternError → Standing → Standing → Type 0
+Builds rules outcome old new = MakesAll (patterns rules) outcome old new

@@ -1,4 +1,5 @@
 pub mod Dates
 pub mod Rules
+pub mod Roles
 pub mod Findings
 pub mod Builds

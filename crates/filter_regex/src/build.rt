@@ -1,56 +1,74 @@
 //! Filters, and how they are built.
-ghost use Rattle.std.specs.Prelude.{◌≡◌, IfOk};
-ghost use Rattle.filter_regex.specs.Rules.{rules_of, IsSupported};
-ghost use Rattle.filter_regex.specs.Builds.{Builds, Makes};
+ghost use Rattle.std.specs.Prelude.{◌≡◌, IfOk, OnOk, OnErr};
+ghost use Rattle.filter_regex.specs.Dates.{rule_of, texts};
+ghost use Rattle.filter_regex.specs.Rules.{rules_of, date_places, is_undated, IsSupported};
+ghost use Rattle.filter_regex.specs.Builds.{Builds, MakesAll};
 
-use crate::date::EPOCH;
-use crate::error::{BuildKind, PatternError, PatternPlace};
-use f2b_base::JailDef;
-use f2b_world::{Made, Pattern, Patterns};
-use host_ident::expand;
+use crate::date::{Dates, EPOCH};
+use crate::error::{PatternError, PatternPlace};
+use crate::make::{Role, made, made_list, made_pref};
+use f2b_base::{Cidr, DateSpec, JailDef, NoMemory, Seq};
+use f2b_world::{Pattern, Patterns};
+use ignore_set::IgnoreSet;
 use std::alloc::Global;
 use std::marker::Model;
 
-/// The patterns of a jail, which contracts see as the rules that their texts make.
+/// The patterns of a jail and the addresses that it never bans, which contracts see as rules.
 #[derive(Debug, Drop)]
 pub struct Filter {
-    pub(crate) date: Pattern,
-    pub(crate) fail: Pattern,
+    pub(crate) dates: Dates,
+    /// Lines have no date: each is dated now.
+    pub(crate) undated: bool,
+    /// How many seconds a date without a zone is ahead of UTC.
+    pub(crate) zone: i32,
+    pub(crate) pref: Option<Pattern>,
+    pub(crate) fail: Vec<Pattern>,
+    pub(crate) ignore_lines: Vec<Pattern>,
+    pub(crate) ignore: IgnoreSet,
 }
 
 impl Model for Filter {
-    ghost use Rattle.std.specs.Prelude.{[], ◌∷◌};
+    ghost use Rattle.std.specs.Prelude.{◌<◌, ◌^◌, length};
     ghost use Rattle.filter_regex.specs.Rules.{Rules};
 
     ghost Value = { Rules };
 
-    ghost view = { λ f. record { date = f.date; fail = f.fail ∷ [] } };
+    ghost view = { λ f. record { dates = f.dates; undated = f.undated; zone = f.zone; pref = f.pref; fail = f.fail.items;
+        ignore_lines = f.ignore_lines.items; ignore = f.ignore } };
+
+    ghost invariant = { λ f. (length f.fail.items < 2 ^ 32) × (length f.ignore_lines.items < 2 ^ 32) };
 }
 
-/// The pattern at a place, by one call.
-fn made<P: Patterns>(
+/// The patterns of dates.
+fn made_dates<P: Patterns>(
+    alloc: Global,
     patterns: &mut P,
-    place: PatternPlace,
-    text: &str,
-) -> Result<Pattern, PatternError>
-    ensures { Makes place text.now result (P.stands patterns.old) (P.stands patterns.new) }
+    spec: &DateSpec,
+) -> Result<Dates, PatternError>
+    ensures value { IfOk result (λ dates. dates ≡ rule_of spec.now) }
+    ensures calls { MakesAll (date_places (texts (rule_of spec.now))) result (P.stands patterns.old) (P.stands patterns.new) }
 {
-    match patterns.make(text) {
-        Made::Built(pattern) => Ok(pattern),
-        Made::Syntax => Err(PatternError::Refused {
-            place,
-            kind: BuildKind::Syntax,
-        }),
-        Made::TooBig => Err(PatternError::Refused {
-            place,
-            kind: BuildKind::TooBig,
-        }),
-        Made::NoMemory => Err(PatternError::NoMemory),
+    match spec {
+        DateSpec::Epoch => {
+            let pattern = made(patterns, PatternPlace::Date, EPOCH)?;
+            Ok(Dates {
+                pattern: Some(pattern),
+            })
+        }
+        _ => Ok(Dates { pattern: None }),
     }
 }
 
+/// Whether lines have no date.
+fn is_undated(spec: &DateSpec) -> bool
+    ensures { result ≡ is_undated spec.now }
+{
+    matches!(spec, DateSpec::NoDate)
+}
+
 impl Filter {
-    /// Builds the filter of a jail. Each of its patterns is one call, that of dates first.
+    /// Builds the filter of a jail. Each of its patterns is one call, up to the first that is not built: those of dates, the
+    /// prefix pattern, those of failures, and those of ignored lines.
     pub fn build<P: Patterns>(
         alloc: Global,
         patterns: &mut P,
@@ -60,9 +78,29 @@ impl Filter {
         ensures value { IfOk result (λ filter. filter ≡ rules_of jail.now) }
         ensures calls { Builds (rules_of jail.now) result (P.stands patterns.old) (P.stands patterns.new) }
     {
-        let date = made(patterns, PatternPlace::Date, EPOCH)?;
-        let text = expand(alloc, jail.fail.as_slice()[0].as_str())?;
-        let fail = made(patterns, PatternPlace::Fail(1), text.as_str())?;
-        Ok(Filter { date, fail })
+        let dates = made_dates(alloc, patterns, &jail.date)?;
+        let pref = made_pref(alloc, patterns, &jail.pref)?;
+        let fail = made_list(alloc, patterns, Role::Fail, jail.fail.as_slice())?;
+        let ignore_lines =
+            made_list(alloc, patterns, Role::Ignore, jail.ignore_lines.as_slice())?;
+        let ignore = IgnoreSet::new(alloc, &jail.ignore)?;
+        Ok(Filter {
+            dates,
+            undated: is_undated(&jail.date),
+            zone: jail.zone as i32,
+            pref,
+            fail,
+            ignore_lines,
+            ignore,
+        })
+    }
+
+    /// Leaves out these addresses from now on, in place of those before. An error changes nothing.
+    pub fn set_ignore(&mut self, alloc: Global, list: &Seq<Cidr>) -> Result<(), NoMemory>
+        ensures ok { OnOk result (self.new ≡ record self.old { ignore = list.now }) }
+        ensures err { OnErr result (self.new ≡ self.old) }
+    {
+        self.ignore = IgnoreSet::new(alloc, list)?;
+        Ok(())
     }
 }

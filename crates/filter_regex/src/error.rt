@@ -2,6 +2,7 @@
 ghost use Rattle.std.specs.Prelude.{◌≡◌};
 
 use f2b_base::NoMemory;
+use std::alloc::AllocFailed;
 
 /// A pattern of a jail, by what it is for. Numbers count from 1.
 #[derive(Clone, Copy, Debug, PartialEq, Eq)]
@@ -38,6 +39,16 @@ impl From<NoMemory> for PatternError {
     ghost from_gives = { λ _ error. error ≡ PatternError.NoMemory };
 
     fn from(_error: NoMemory) -> PatternError {
+        PatternError::NoMemory
+    }
+}
+
+impl<T: Drop> From<AllocFailed<T>> for PatternError {
+    ghost use Rattle.filter_regex.specs.declared.error.PatternError.{PatternError};
+
+    ghost from_gives = { λ _ error. error ≡ PatternError.NoMemory };
+
+    fn from(_error: AllocFailed<T>) -> PatternError {
         PatternError::NoMemory
     }
 }

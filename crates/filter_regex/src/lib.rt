@@ -9,6 +9,9 @@ mod build;
 mod date;
 mod error;
 mod finding;
+mod judge;
+mod make;
+mod part;
 mod search;
 
 pub use build::Filter;

@@ -1,34 +1,53 @@
 //! Searches of a filter in many lines.
-ghost use Rattle.std.specs.Prelude.{◌≡◌, ◌<◌, ◌≤◌, ◌+◌, ◌^◌, ◌++◌, Some, take, drop, string_bytes, option_copied, IfOk, IfSome, OnOk};
-ghost use Rattle.f2b_world.specs.Spans.{IsCut, AreHostCuts};
-ghost use Rattle.filter_regex.specs.Findings.{finding, failure, found, part, without};
-ghost use Rattle.host_ident.specs.Hosts.{host_of};
+ghost use Rattle.std.specs.Prelude.{◌≡◌, ◌<◌, ◌^◌, IfOk};
+ghost use Rattle.filter_regex.specs.Findings.{finding};
 
 use crate::build::Filter;
-use crate::date::date_in;
+use crate::date::DateSearcher;
 use crate::finding::Finding;
+use crate::judge::{failure, moment_of};
+use crate::part::{content, first_match, host_in, rest_of};
 use f2b_base::NoMemory;
-use f2b_world::{Cut, HostSpans, Matcher};
-use host_ident::{HostGroups, host_of};
+use f2b_world::{Matcher, Pattern};
+use ignore_set::IgnoreSet;
 use std::alloc::Global;
 use std::marker::Model;
 
 /// Searches of a filter, which contracts see as the filter's rules. Made once for many lines.
 #[derive(Drop)]
 pub struct Searcher<'f> {
-    date: Matcher<'f>,
-    fail: Matcher<'f>,
+    dates: DateSearcher<'f>,
+    undated: bool,
+    zone: i32,
+    pref: Option<Matcher<'f>>,
+    fail: Vec<Matcher<'f>>,
+    ignore_lines: Vec<Matcher<'f>>,
+    ignore: &'f IgnoreSet,
     /// Room for a line without its date.
-    rest: String,
+    room: String,
 }
 
 impl<'f> Model for Searcher<'f> {
-    ghost use Rattle.std.specs.Prelude.{[], ◌∷◌};
+    ghost use Rattle.std.specs.Prelude.{◌<◌, ◌^◌, length};
     ghost use Rattle.filter_regex.specs.Rules.{Rules};
 
     ghost Value = { Rules };
 
-    ghost view = { λ s. record { date = s.date; fail = s.fail ∷ [] } };
+    ghost view = { λ s. record { dates = s.dates; undated = s.undated; zone = s.zone; pref = s.pref; fail = s.fail.items;
+        ignore_lines = s.ignore_lines.items; ignore = s.ignore.now } };
+
+    ghost invariant = { λ s. (length s.fail.items < 2 ^ 32) × (length s.ignore_lines.items < 2 ^ 32) };
+}
+
+/// What searches for each of the patterns.
+fn matchers<'p>(alloc: Global, patterns: &'p [Pattern]) -> Result<Vec<Matcher<'p>>, NoMemory>
+    ensures { IfOk result (λ matchers. matchers.items ≡ patterns.now) }
+{
+    let mut matchers = Vec::new(alloc);
+    for pattern in patterns {
+        matchers.push(pattern.matcher(alloc)?)?;
+    }
+    Ok(matchers)
 }
 
 impl Filter {
@@ -36,13 +55,24 @@ impl Filter {
     pub fn searcher(&self, alloc: Global) -> Result<Searcher<'_>, NoMemory>
         ensures { IfOk result (λ searcher. searcher ≡ self.now) }
     {
-        let date = self.date.matcher(alloc)?;
-        let fail = self.fail.matcher(alloc)?;
-        let rest = String::new(alloc);
-        Ok(Searcher { date, fail, rest })
+        let pref = match &self.pref {
+            Some(pattern) => Some(pattern.matcher(alloc)?),
+            None => None,
+        };
+        Ok(Searcher {
+            dates: self.dates.searcher(alloc)?,
+            undated: self.undated,
+            zone: self.zone,
+            pref,
+            fail: matchers(alloc, self.fail.as_slice())?,
+            ignore_lines: matchers(alloc, self.ignore_lines.as_slice())?,
+            ignore: &self.ignore,
+            room: String::new(alloc),
+        })
     }
 
-    /// What one line says at `now`, in seconds since 1970, where failures count for `findtime` seconds.
+    /// What one line says at `now`, in seconds since 1970, where failures count for `findtime` seconds. For many lines make a
+    /// searcher.
     pub fn found(
         &self,
         alloc: Global,
@@ -50,8 +80,7 @@ impl Filter {
         now: u64,
         findtime: u64,
     ) -> Result<Finding, NoMemory>
-        requires now { now < 2 ^ 40 }
-        requires findtime { findtime ≤ 2 ^ 32 }
+        requires { now < 2 ^ 40 }
         ensures { IfOk result (λ found. found ≡ finding self.now now findtime line.now) }
     {
         let mut searcher = self.searcher(alloc)?;
@@ -62,68 +91,32 @@ impl Filter {
 impl<'f> Searcher<'f> {
     /// What a line says at `now`, in seconds since 1970, where failures count for `findtime` seconds.
     pub fn found(&mut self, line: &str, now: u64, findtime: u64) -> Result<Finding, NoMemory>
-        requires now { now < 2 ^ 40 }
-        requires findtime { findtime ≤ 2 ^ 32 }
+        requires { now < 2 ^ 40 }
         ensures found { IfOk result (λ found. found ≡ finding self.old now findtime line.now) }
         ensures same { self.new ≡ self.old }
     {
-        let Some(date) = date_in(&mut self.date, line, now) else {
+        let date = self.dates.found(line, now, self.zone);
+        let rest = rest_of(&mut self.room, line, date)?;
+        if let Some(hit) = first_match(&mut self.ignore_lines, rest) {
+            return Ok(Finding::Ignored(hit.number));
+        }
+        let Some(moment) = moment_of(self.undated, now, date) else {
             return Ok(Finding::NoDate);
         };
-        write_without(&mut self.rest, line, date.whole)?;
-        let rest = self.rest.as_str();
-        let Some(spans) = self.fail.hosts(rest) else {
+        let Some(text) = content(&mut self.pref, rest) else {
             return Ok(Finding::Missed);
         };
-        let groups = groups_at(rest, spans);
-        Ok(failure(now, findtime, date.time, 1, groups))
-    }
-}
-
-/// Writes the line without a part of it over what stood there.
-fn write_without(rest: &mut String, line: &str, cut: Cut) -> Result<(), NoMemory>
-    requires { IsCut line.now cut }
-    ensures { OnOk result (string_bytes rest.new ≡ without line.now cut) }
-{
-    rest.clear();
-    rest.push_str(&line[..cut.start])?;
-    rest.push_str(&line[cut.end..])?;
-    Ok(())
-}
-
-/// The text of a part, if there is one.
-fn part(line: &str, cut: Option<Cut>) -> Option<&str>
-    requires { IfSome cut (IsCut line.now) }
-    ensures { option_copied result ≡ part line.now cut }
-{
-    match cut {
-        Some(cut) => Some(&line[cut.start..cut.end]),
-        None => None,
-    }
-}
-
-/// What the groups of a host matched.
-fn groups_at(line: &str, spans: HostSpans) -> HostGroups<'_>
-    requires { AreHostCuts line.now spans }
-    ensures ip4 { option_copied result.ip4 ≡ part line.now spans.ip4 }
-    ensures ip6 { option_copied result.ip6 ≡ part line.now spans.ip6 }
-{
-    HostGroups {
-        ip4: part(line, spans.ip4),
-        ip6: part(line, spans.ip6),
-        name: part(line, spans.name),
-    }
-}
-
-/// The failure of a host at a time, by the number of the pattern that matched.
-fn failure(now: u64, findtime: u64, time: u64, index: u32, groups: HostGroups<'_>) -> Finding
-    requires { time + findtime < 2 ^ 64 }
-    ensures { result ≡ failure now findtime time index
-        (host_of (option_copied groups.entry.ip4) (option_copied groups.entry.ip6)) }
-{
-    match host_of(groups) {
-        None => Finding::NameOnly(index),
-        Some(_) if time + findtime <= now => Finding::TooOld(index),
-        Some(addr) => Finding::Failure { addr, time, index },
+        let Some(hit) = first_match(&mut self.fail, text) else {
+            return Ok(Finding::Missed);
+        };
+        let host = host_in(text, hit.spans);
+        Ok(failure(
+            self.ignore,
+            now,
+            findtime,
+            moment,
+            hit.number,
+            host,
+        ))
     }
 }

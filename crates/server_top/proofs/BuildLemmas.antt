@@ -172,6 +172,6 @@ build_caused old mid new definition jail place kind status builds steady name se
 
 -- a jail of the flat form is one that a filter is built for
 pub flat_supported : (definition : JailDef) → IsFlatJail definition → IsSupported definition
-flat_supported definition form = rw form.is (record { date = refl; fail = refl; pref = refl; ignore_lines = refl; ignore = refl })
+flat_supported definition form = rw form.is (record { date = tt; zone = refl; fail = omega arith; ignore_lines = omega arith })
 
 pub ruleset building = (builds_all, builds_memory, builds_refused, builds_unsaid, steady_built, build_caused, flat_supported)

@@ -1,41 +1,38 @@
-use Rattle.std.proofs.Common.{◌≡◌, get_or, [], Err, refl, ap₂, ◌∙◌, rules}
-use Rattle.host_ident.specs.Expanded.{expanded}
-use Rattle.filter_regex.specs.Dates.{epoch}
+use Rattle.std.proofs.Common.{◌≡◌, Err, rules}
 use Rattle.filter_regex.specs.declared.error.PatternError.TheVariants.{NoMemory}
-use Rattle.filter_regex.proofs.FindingLemmas.{one}
-use Rattle.filter_regex.proofs.BuildsLemmas.{first_failed, second_failed, second_failed_at, both_built, rules_are}
+use Rattle.filter_regex.proofs.BuildLemmas.{pref_failed, fail_failed, ignore_failed, all_made, all_lost}
 use Rattle.filter_regex.proofs.build.Filter.build.Goals as goal
 
-pub returns-in_err-date-clause-calls : goal.returns-in_err-date-clause-calls
-returns-in_err-date-clause-calls g c =
-    let outcome : c.from_residual.result ≡ Err c.in_err-date.field-0.0 = search rules in
-    let fail = get_or c.args.jail.now.fail 0 [] in
-    rw (outcome, ← rules_are c.args.jail.now fail [] c.requires.fail refl) (first_failed epoch (expanded fail) _ _ _ c.in_err-date.ensures)
-
-pub returns-in_err-text-clause-calls : goal.returns-in_err-text-clause-calls
-returns-in_err-text-clause-calls g c =
-    let outcome : c.from_residual-in_err-text.result ≡ Err NoMemory = search rules in
-    let fail = get_or c.args.jail.now.fail 0 [] in
-    rw (outcome, ← rules_are c.args.jail.now fail [] c.requires.fail refl)
-    (second_failed epoch (expanded fail) _ _ _ c.in_ok-date.ensures.1 NoMemory refl)
+pub returns-in_err-pref-clause-calls : goal.returns-in_err-pref-clause-calls
+returns-in_err-pref-clause-calls g c =
+    let outcome : c.from_residual-in_err-pref.result ≡ Err c.in_err-pref.field-0.0 = search rules in
+    rw outcome (pref_failed c.args.jail.now _ _ _ c.in_ok-dates.ensures.calls _ _ _ c.in_err-pref.ensures.calls)
 
 pub returns-in_err-fail-clause-calls : goal.returns-in_err-fail-clause-calls
 returns-in_err-fail-clause-calls g c =
     let outcome : c.from_residual-in_err-fail.result ≡ Err c.in_err-fail.field-0.0 = search rules in
-    let first : c.as_str.result.now ≡ get_or c.args.jail.now.fail 0 c.index-as_slice-0.result = cc in
-    let text : c.as_str-2.result.now ≡ expanded c.as_str.result.now = c.as_str-2.ensures.value ∙ c.in_ok-text.ensures in
-    rw (outcome, ← rules_are c.args.jail.now _ _ c.requires.fail first)
-    (second_failed_at epoch (expanded c.as_str.result.now) _ _ _ c.in_ok-date.ensures.1 _ text _ c.in_err-fail.ensures)
+    rw outcome
+    (fail_failed c.args.jail.now _ _ _ c.in_ok-dates.ensures.calls _ _ c.in_ok-pref.ensures.calls _ _ _
+    (rw c.as_slice.ensures at c.in_err-fail.ensures.calls))
 
-pub returns-clause-value : goal.returns-clause-value
-returns-clause-value g c =
-    let first : c.as_str.result.now ≡ get_or c.args.jail.now.fail 0 c.index-as_slice-0.result = cc in
-    let text : c.as_str-2.result.now ≡ expanded c.as_str.result.now = c.as_str-2.ensures.value ∙ c.in_ok-text.ensures in
-    ap₂ one c.in_ok-date.ensures.0 (c.in_ok-fail.ensures.0 ∙ text) ∙ rules_are c.args.jail.now _ _ c.requires.fail first
+pub returns-in_err-ignore_lines-clause-calls : goal.returns-in_err-ignore_lines-clause-calls
+returns-in_err-ignore_lines-clause-calls g c =
+    let outcome : c.from_residual-in_err-ignore_lines.result ≡ Err c.in_err-ignore_lines.field-0.0 = search rules in
+    rw outcome
+    (ignore_failed c.args.jail.now _ _ _ c.in_ok-dates.ensures.calls _ _ c.in_ok-pref.ensures.calls _ _
+    (rw c.as_slice.ensures at c.in_ok-fail.ensures.calls) _ _ _
+    (rw c.as_slice-2.ensures at c.in_err-ignore_lines.ensures.calls))
+
+pub returns-in_err-ignore-clause-calls : goal.returns-in_err-ignore-clause-calls
+returns-in_err-ignore-clause-calls g c =
+    let outcome : c.from_residual-in_err-ignore.result ≡ Err NoMemory = search rules in
+    rw outcome
+    (all_lost c.args.jail.now _ _ _ c.in_ok-dates.ensures.calls _ _ c.in_ok-pref.ensures.calls _ _
+    (rw c.as_slice.ensures at c.in_ok-fail.ensures.calls) _ _
+    (rw c.as_slice-2.ensures at c.in_ok-ignore_lines.ensures.calls) _)
 
 pub returns-clause-calls : goal.returns-clause-calls
 returns-clause-calls g c =
-    let first : c.as_str.result.now ≡ get_or c.args.jail.now.fail 0 c.index-as_slice-0.result = cc in
-    let text : c.as_str-2.result.now ≡ expanded c.as_str.result.now = c.as_str-2.ensures.value ∙ c.in_ok-text.ensures in
-    rw (← rules_are c.args.jail.now _ _ c.requires.fail first)
-    (both_built epoch (expanded c.as_str.result.now) _ _ _ c.in_ok-date.ensures.1 _ (rw text at c.in_ok-fail.ensures.1))
+    all_made c.args.jail.now _ _ _ c.in_ok-dates.ensures.calls _ _ c.in_ok-pref.ensures.calls _ _
+    (rw c.as_slice.ensures at c.in_ok-fail.ensures.calls) _ _
+    (rw c.as_slice-2.ensures at c.in_ok-ignore_lines.ensures.calls) _
