@@ -3,3 +3,4 @@ pub mod KeyLemmas
 pub mod IndexLemmas
 pub mod EndLemmas
 pub mod DueLemmas
+pub mod BelowLemmas

@@ -1,4 +1,4 @@
-//! Worked rows: tries and their pauses, lanes and their order, and the last moment. Each job bears a lane of its own letter.
+//! Worked rows: tries and their pauses, lanes and their order, and the last moment. A row names its lanes by letters.
 
 use crate::Lanes;
 use f2b_base::{Family, Job, JobKind, LaneId, Outcome, Plain, Settled, Text};

@@ -1,4 +1,4 @@
-//! A million jobs, and the time that they take: a test has a limit.
+//! A million jobs, and the time that they take: a test has a limit. As `rt try` builds it, it takes longer than that.
 
 use crate::Lanes;
 use crate::tests::{job_of, lane_of, push, settle};
