@@ -1,1 +1,3 @@
 pub mod EntriesLemmas
+pub mod LineLemmas
+pub mod Named

@@ -5,8 +5,11 @@
 #![tactic(auto)]
 
 mod error;
+mod file;
 mod items;
+mod line;
 mod sections;
 
 pub use error::IniError;
+pub use file::read_file;
 pub use sections::Sections;
