@@ -1,3 +1,4 @@
+pub mod CaseLemmas
 pub mod EntriesLemmas
 pub mod LineLemmas
 pub mod Named

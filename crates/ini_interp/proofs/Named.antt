@@ -1,16 +1,19 @@
 -- Lists under names: what a value that is set, a place and a name have to do with one another.
-use Rattle.std.proofs.Common.{◌≡◌, ℕ, zero, suc, ◌+◌, ◌<◌, not, Bool, true, false, cond, List, [], ◌∷◌, ◌++◌, length, map, Option, None, Some, option_map, slice_get, refl, sym, ap, ◌∙◌, arith}
+use Rattle.std.proofs.Common.{◌≡◌, ℕ, zero, suc, ◌+◌, ◌<◌, not, Bool, true, false, cond, List, [], ◌∷◌, ◌++◌, length, map, Option, None, Some, option_map, unwrap_or, slice_get, refl, sym, ap, ◌∙◌, arith}
 use Rattle.std.proofs.Math.Numerals.{one-add}
-use Rattle.std.proofs.Math.Option.{some-injective}
 use Rattle.std.proofs.lemmas.Option.{none-some}
 use Rattle.std.proofs.lemmas.Slice.Eq.{bytes_eq-Decides}
 use Rattle.std.specs.Str.{bytes_eq}
-use Rattle.ini_interp.specs.Kept.{place_of}
+use Rattle.ini_interp.specs.Kept.{place_of, at_place, changed_at}
 use Rattle.ini_interp.specs.Sections.{value_of, with_value}
 
 -- a name is its own
 pub own_name : (name : List ℕ) → bytes_eq name name ≡ true
 own_name name = (bytes_eq-Decides name name).1 refl
+
+-- what a `Some` holds
+pub some_value : {V : Type 0} (v w : V) → Some v ≡ Some w → v ≡ w
+some_value v w same = ap (λ o. unwrap_or o v) same
 
 module _ {V : Type 0} where
   -- what was set is there
@@ -39,7 +42,7 @@ module _ {V : Type 0} where
     where
       by : (b : Bool) → cond b (Some e.1) (value_of name es) ≡ Some v → (value_of name es ≡ Some v → with_value name v es ≡ es) →
           cond b ((e.0, v) ∷ es) (e ∷ with_value name v es) ≡ e ∷ es
-      by true is rest = ap (λ w. (e.0, w) ∷ es) (sym (some-injective e.1 v is))
+      by true is rest = ap (λ w. (e.0, w) ∷ es) (sym (some_value e.1 v is))
       by false is rest = ap (λ l. e ∷ l) (rest is)
 
   -- a value that is set keeps its place
@@ -60,15 +63,6 @@ module _ {V : Type 0} where
           cond b ((e.0, v) ∷ es) (e ∷ with_value name v es) ≡ e ∷ (es ++ (name, v) ∷ [])
       by true is rest = absurd (none-some _ (sym is))
       by false is rest = ap (λ l. e ∷ l) (rest is)
-
-  -- the place of a value that is there
-  pub value_at-place_of : (name : List ℕ) (es : List (List ℕ × V)) → slice_get (map (λ e. e.1) es) (place_of name es) ≡ value_of name es
-  value_at-place_of name [] = refl
-  value_at-place_of name (e ∷ es) = by (bytes_eq name e.0) (value_at-place_of name es)
-    where
-      by : (b : Bool) → slice_get (map (λ e. e.1) es) (place_of name es) ≡ value_of name es → slice_get (e.1 ∷ map (λ e. e.1) es) (cond (not b) (1 + place_of name es) 0) ≡ cond b (Some e.1) (value_of name es)
-      by true rest = refl
-      by false rest = rw one-add rest
 
 module _ {V W : Type 0} (f : V → W) where
   -- each value changed, under its name
@@ -94,3 +88,25 @@ module _ {V W : Type 0} (f : V → W) where
   pub place_of-valued : (name : List ℕ) (es : List (List ℕ × V)) → place_of name (valued es) ≡ place_of name es
   place_of-valued name [] = refl
   place_of-valued name (e ∷ es) = ap (λ n. cond (not (bytes_eq name e.0)) (1 + n) 0) (place_of-valued name es)
+
+-- a value that is changed at the place of its name
+pub changed_at-place_of : {V : Type 0} (f : V → V) (name : List ℕ) (v : V) (es : List (List ℕ × V)) → value_of name es ≡ Some v →
+    changed_at f es (place_of name es) ≡ with_value name (f v) es
+changed_at-place_of f name v [] there = absurd (none-some _ there)
+changed_at-place_of f name v (e ∷ es) there = by (bytes_eq name e.0) there (changed_at-place_of f name v es)
+  where
+    by : (b : Bool) → cond b (Some e.1) (value_of name es) ≡ Some v →
+        (value_of name es ≡ Some v → changed_at f es (place_of name es) ≡ with_value name (f v) es) →
+        changed_at f (e ∷ es) (cond (not b) (1 + place_of name es) 0) ≡ cond b ((e.0, f v) ∷ es) (e ∷ with_value name (f v) es)
+    by true is rest = ap (λ w. (e.0, f w) ∷ es) (some_value e.1 v is)
+    by false is rest = rw one-add (ap (λ l. e ∷ l) (rest is))
+
+-- the value at the place of a name
+pub at_place_of : {V : Type 0} (name : List ℕ) (es : List (List ℕ × V)) → at_place es (Some (place_of name es)) ≡ value_of name es
+at_place_of name [] = refl
+at_place_of name (e ∷ es) = by (bytes_eq name e.0) (at_place_of name es)
+  where
+    by : (b : Bool) → at_place es (Some (place_of name es)) ≡ value_of name es →
+        at_place (e ∷ es) (Some (cond (not b) (1 + place_of name es) 0)) ≡ cond b (Some e.1) (value_of name es)
+    by true rest = refl
+    by false rest = rw one-add rest

@@ -63,8 +63,10 @@ impl Items {
                 None => None,
             };
         }
-        for (kept, value) in &self.map {
-            if is_lowercase_of(kept.as_str(), name) {
+        for index in 0..self.map.len() {
+            if let Some((kept, value)) = self.map.get_index(index)
+                && is_lowercase_of(kept.as_str(), name)
+            {
                 return Some(value.as_str());
             }
         }

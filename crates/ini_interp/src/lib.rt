@@ -9,6 +9,8 @@ mod file;
 mod items;
 mod line;
 mod sections;
+#[cfg(test)]
+mod tests;
 
 pub use error::IniError;
 pub use file::read_file;
