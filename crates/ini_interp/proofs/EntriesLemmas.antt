@@ -7,7 +7,7 @@ use Rattle.std.specs.Str.{bytes_eq}
 use Rattle.std.specs.String.{string_eq}
 use Rattle.indexmap.specs.IndexMap.{insert_entry, set_value_at}
 use Rattle.ini_interp.specs.Entries.{by_bytes}
-use Rattle.ini_interp.specs.Kept.{place_of, at_place, changed_at}
+use Rattle.ini_interp.specs.Kept.{place_of, at_place, changed_at, changed}
 use Rattle.ini_interp.specs.Sections.{value_of, with_value}
 use Rattle.ini_interp.proofs.Named.{some_value}
 
@@ -58,6 +58,20 @@ module _ {A V : Type 0} where
   at_place_is (e ∷ es) zero = refl
   at_place_is (e ∷ es) (suc place) = at_place_is es place
 
+  -- a value that was written at the place that an option names, and what is found there
+  pub changed_is : (f : V → V) (es : List (String A × V)) (named : Option ℕ) (place : ℕ) (old new : V) → named ≡ Some place →
+      Some old ≡ slice_get (values_of es) place → new ≡ f old → by_bytes (set_value_at es place new) ≡ changed f (by_bytes es) named
+  changed_is f es named place old new is there same =
+      ap (λ w. by_bytes (set_value_at es place w)) same ∙ written_at f es place old (sym there) ∙ ap (changed f (by_bytes es)) (sym is)
+
+  pub unchanged_is : (f : V → V) (es : List (String A × V)) (named : Option ℕ) (place : ℕ) → named ≡ Some place →
+      None ≡ slice_get (values_of es) place → by_bytes es ≡ changed f (by_bytes es) named
+  unchanged_is f es named place is none = sym (unchanged_at f es place (sym none)) ∙ ap (changed f (by_bytes es)) (sym is)
+
+  pub found_is : (es : List (String A × V)) (named : Option ℕ) (place : ℕ) (found : Option V) → named ≡ Some place →
+      found ≡ slice_get (values_of es) place → found ≡ at_place (by_bytes es) named
+  found_is es named place found is there = there ∙ at_place_is es place ∙ ap (at_place (by_bytes es)) (sym is)
+
   -- the place of a text
   pub insert_place_is : (key : String A) (es : List (String A × V)) → position_or_len (string_eq key) (keys_of es) ≡ place_of (string_bytes key) (by_bytes es)
   insert_place_is key [] = refl
@@ -88,15 +102,15 @@ module _ {A V : Type 0} (name : List ℕ) where
   -- what is behind the place, where that entry has another name
   pub passed_at : (es : List (String A × V)) (place : ℕ) (e : String A × V) → slice_get es place ≡ Some e → bytes_eq name (string_bytes e.0) ≡ false →
       value_of name (by_bytes (drop place es)) ≡ value_of name (by_bytes (drop (suc place) es))
-  passed_at [] place e there is = refl
+  passed_at [] place e there is = absurd (none-some _ there)
   passed_at (x ∷ es) zero e there is =
       let same = some_value x e there in
       ap (λ (y : String A × V). cond (bytes_eq name (string_bytes y.0)) (Some y.1) (value_of name (by_bytes es))) same ∙ ap (λ b. cond b (Some e.1) (value_of name (by_bytes es))) is
   passed_at (x ∷ es) (suc place) e there is = passed_at es place e there is
 
-  -- and nothing, where there is none
-  pub nothing_at : (es : List (String A × V)) (place : ℕ) → slice_get es place ≡ None →
-      value_of name (by_bytes (drop place es)) ≡ value_of name (by_bytes (drop (suc place) es))
-  nothing_at [] place none = refl
-  nothing_at (x ∷ es) zero none = absurd (none-some _ (sym none))
-  nothing_at (x ∷ es) (suc place) none = nothing_at es place none
+  -- and nothing from a place on where there is nothing
+  pub nothing_from : (es : List (String A × V)) (place : ℕ) → slice_get es place ≡ None → value_of name (by_bytes (drop place es)) ≡ None
+  nothing_from [] zero none = refl
+  nothing_from [] (suc place) none = refl
+  nothing_from (x ∷ es) zero none = absurd (none-some _ (sym none))
+  nothing_from (x ∷ es) (suc place) none = nothing_from es place none

@@ -110,3 +110,9 @@ at_place_of name (e ∷ es) = by (bytes_eq name e.0) (at_place_of name es)
         at_place (e ∷ es) (Some (cond (not b) (1 + place_of name es) 0)) ≡ cond b (Some e.1) (value_of name es)
     by true rest = refl
     by false rest = rw one-add rest
+
+-- a change at a place moves nothing
+pub place_of-changed_at : {V : Type 0} (f : V → V) (name : List ℕ) (es : List (List ℕ × V)) (place : ℕ) → place_of name (changed_at f es place) ≡ place_of name es
+place_of-changed_at f name [] place = refl
+place_of-changed_at f name (e ∷ es) zero = refl
+place_of-changed_at f name (e ∷ es) (suc place) = ap (λ n. cond (not (bytes_eq name e.0)) (1 + n) 0) (place_of-changed_at f name es place)

@@ -1,9 +1,8 @@
 //! Reading one configuration file.
-ghost use Rattle.std.specs.Prelude.{◌≡◌, ◌⊎◌, [], None, Some, Ok, Err, IfOk, IfErr, OnOk, MatchResult, is_some, map};
+ghost use Rattle.std.specs.Prelude.{◌≡◌, [], None, Some, Ok, Err, IfOk, IfErr, OnOk, MatchResult, is_some, map};
 ghost use Rattle.std.specs.Str.{str_to_ascii_lowercase};
 ghost use Rattle.std.specs.Str.Lines.{lines};
-ghost use Rattle.ini_interp.specs.declared.error.IniError.TheVariants.{NoMemory};
-ghost use Rattle.ini_interp.specs.Files.{file_of, meaning_of};
+ghost use Rattle.ini_interp.specs.Files.{file_of, meaning_of, UnlessNoMemory};
 ghost use Rattle.ini_interp.specs.Kept.{with_open, with_changed, with_item, with_more, with_line, open_kept, open_value, fault_of, without_last};
 ghost use Rattle.ini_interp.specs.Lines.{form_of};
 ghost use Rattle.ini_interp.specs.Seen.{form};
@@ -93,7 +92,7 @@ impl Reader {
     /// Reads one more line, which has this number.
     fn read(&mut self, line: Line<'_>, number: u64) -> Result<(), IniError>
         ensures ok { OnOk result (self.new ≡ with_line (form line.entry) self.old) }
-        ensures fault { MatchResult result (λ _. fault_of (form line.entry) number self.old ≡ None) (λ e. (e ≡ NoMemory) ⊎ (fault_of (form line.entry) number self.old ≡ Some e)) }
+        ensures fault { MatchResult result (λ _. fault_of (form line.entry) number self.old ≡ None) (λ e. UnlessNoMemory e (fault_of (form line.entry) number self.old ≡ Some e)) }
     {
         match line {
             Line::Skipped => Ok(()),
@@ -120,7 +119,7 @@ impl Reader {
 /// Reads the lines of a text.
 fn read_text(alloc: Global, text: &str) -> Result<Sections, IniError>
     ensures sections { IfOk result (λ sections. meaning_of (map form_of (lines text.now)) ≡ Ok sections) }
-    ensures fault { IfErr result (λ e. (e ≡ NoMemory) ⊎ (meaning_of (map form_of (lines text.now)) ≡ Err e)) }
+    ensures fault { IfErr result (λ e. UnlessNoMemory e (meaning_of (map form_of (lines text.now)) ≡ Err e)) }
 {
     let mut reader = Reader::new(alloc);
     let mut number: u64 = 0;
@@ -136,7 +135,7 @@ fn read_text(alloc: Global, text: &str) -> Result<Sections, IniError>
 /// The bytes are UTF-8. A line ends at LF, and one CR before it is dropped; lines count from 1.
 pub fn read_file(alloc: Global, bytes: &[u8]) -> Result<Sections, IniError>
     ensures sections { IfOk result (λ sections. file_of bytes.now ≡ Ok sections) }
-    ensures fault { IfErr result (λ e. (e ≡ NoMemory) ⊎ (file_of bytes.now ≡ Err e)) }
+    ensures fault { IfErr result (λ e. UnlessNoMemory e (file_of bytes.now ≡ Err e)) }
 {
     match str::from_utf8(bytes) {
         Ok(text) => read_text(alloc, text),

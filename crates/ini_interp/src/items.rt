@@ -64,9 +64,8 @@ impl Items {
             };
         }
         for index in 0..self.map.len() {
-            if let Some((kept, value)) = self.map.get_index(index)
-                && is_lowercase_of(kept.as_str(), name)
-            {
+            let (kept, value) = self.map.get_index(index)?;
+            if is_lowercase_of(kept.as_str(), name) {
                 return Some(value.as_str());
             }
         }

@@ -5,9 +5,8 @@ use Rattle.std.specs.Str.{bytes_eq, str_to_ascii_lowercase}
 use Rattle.ini_interp.specs.Entries.{by_bytes}
 use Rattle.ini_interp.specs.Kept.{Kept}
 use Rattle.ini_interp.specs.Sections.{value_of}
-use Rattle.ini_interp.proofs.EntriesLemmas.{value_is, found_at, passed_at, nothing_at}
+use Rattle.ini_interp.proofs.EntriesLemmas.{value_is, found_at, passed_at, nothing_from}
 use Rattle.ini_interp.proofs.items.Items.raw.Goals as goal
-use Rattle.ini_interp.proofs.items.Items.raw.Goals.{in_default-via-in-None-1, in_default-via-in-Some-get_index+else-is_lowercase_of-2}
 
 pub returns-in-Some : goal.returns-in-Some
 returns-in-Some c =
@@ -28,28 +27,30 @@ returns-in-None c =
 pub loop-index-init : goal.loop-index-init
 loop-index-init c = refl
 
-pub returns-in-loop-index : goal.returns-in-loop-index
-returns-in-loop-index c =
+pub returns-in_err-kept : goal.returns-in_err-kept
+returns-in_err-kept c =
     let low = str_to_ascii_lowercase c.args.name.now in
     let es = c.self.inside.map.entries in
-    let is : bytes_eq low (string_bytes c.in-Some-get_index.kept.now) ≡ true =
+    rw c.from_residual.ensures
+    (sym (nothing_from low es c.loop-index.index (sym c.in_err-kept.ensures.entry)) ∙ sym c.loop-index.invariant ∙ ap (λ (kept : Kept). value_of low kept.items) c.self.view_is)
+
+pub returns-then-is_lowercase_of-2 : goal.returns-then-is_lowercase_of-2
+returns-then-is_lowercase_of-2 c =
+    let low = str_to_ascii_lowercase c.args.name.now in
+    let es = c.self.inside.map.entries in
+    let is : bytes_eq low (string_bytes c.in_ok-kept.kept.now) ≡ true =
       ap (bytes_eq low) (sym c.as_str-in-loop-index.ensures.value) ∙ sym c.is_lowercase_of-in-loop-index.ensures ∙ c.if-is_lowercase_of-2.true in
-    ap Some c.as_str-in-loop-index-2.ensures.value
-    ∙ sym (found_at low es c.loop-index.index (c.in-Some-get_index.kept.now, c.in-Some-get_index.value.now) (sym c.in-Some-get_index.ensures.entry) is)
+    ap Some c.as_str-then-is_lowercase_of-2.ensures.value
+    ∙ sym (found_at low es c.loop-index.index (c.in_ok-kept.kept.now, c.in_ok-kept.value.now) (sym c.in_ok-kept.ensures.entry) is)
     ∙ sym c.loop-index.invariant ∙ ap (λ (kept : Kept). value_of low kept.items) c.self.view_is
 
 pub loop-index-preserved : goal.loop-index-preserved
 loop-index-preserved c =
     let low = str_to_ascii_lowercase c.args.name.now in
     let es = c.self.inside.map.entries in
-    let next : value_of low (by_bytes (drop c.loop-index.index es)) ≡ value_of low (by_bytes (drop (suc c.loop-index.index) es)) =
-      elim c.in_default.branch [
-        in_default-via-in-None-1 w ↦ nothing_at low es c.loop-index.index ?
-        | in_default-via-in-Some-get_index+else-is_lowercase_of-2 w ↦
-          passed_at low es c.loop-index.index (w.in-Some-get_index.kept.now, w.in-Some-get_index.value.now) (sym w.in-Some-get_index.ensures.entry)
-          (ap (bytes_eq low) (sym w.as_str-in-loop-index.ensures.value) ∙ sym w.is_lowercase_of-in-loop-index.ensures ∙ w.if-is_lowercase_of-2.false)
-      ] in
-    c.loop-index.invariant ∙ rw add-one next
+    let other : bytes_eq low (string_bytes c.in_ok-kept.kept.now) ≡ false =
+      ap (bytes_eq low) (sym c.as_str-in-loop-index.ensures.value) ∙ sym c.is_lowercase_of-in-loop-index.ensures ∙ c.if-is_lowercase_of-2.false in
+    c.loop-index.invariant ∙ rw add-one (passed_at low es c.loop-index.index (c.in_ok-kept.kept.now, c.in_ok-kept.value.now) (sym c.in_ok-kept.ensures.entry) other)
 
 pub returns : goal.returns
 returns c =
