@@ -1,11 +1,12 @@
 -- The lines that are still to come.
-use Rattle.std.proofs.Common.{◌≡◌, ℕ, zero, suc, ◌+◌, ◌==◌, ◌<◌, ◌≤◌, Bool, true, false, cond, List, [], ◌∷◌, ◌++◌, length, map, drop, Option, None, Some, Result, Ok, Err, refl, sym, ap, ap₂, ◌∙◌, append_assoc, append-nil, add-one, arith}
+use Rattle.std.proofs.Common.{◌≡◌, ℕ, zero, suc, ◌+◌, ◌==◌, ◌<◌, ◌≤◌, Bool, true, false, cond, List, [], ◌∷◌, ◌++◌, length, map, drop, Option, None, Some, Result, Ok, Err, refl, sym, ap, ap₂, subst, ne_eqb, ◌∙◌, append_assoc, append-nil, add-one, arith}
 use Rattle.std.proofs.lemmas.Option.{none-some}
 use Rattle.std.specs.Iterator.{AlwaysYields}
 use Rattle.std.specs.List.{slice_split, onto_first}
 use Rattle.std.specs.Str.Lines.{lines, lines_of_parts}
 use Rattle.ini_interp.specs.declared.error.IniError.{IniError}
-use Rattle.ini_interp.specs.Files.{fault, first_fault, or_else, meaning_of, unless_at_fault, sections_of}
+use Rattle.ini_interp.specs.declared.error.IniError.TheVariants.{NoSection, NoDelimiter, Indent, NotUtf8, NoMemory}
+use Rattle.ini_interp.specs.Files.{fault, first_fault, or_else, meaning_of, unless_at_fault, sections_of, UnlessNoMemory}
 use Rattle.ini_interp.specs.Lines.{Form}
 use Rattle.ini_interp.specs.Sections.{Sections}
 
@@ -41,7 +42,9 @@ module _ {S A B : Type 0} (steps : S → Option A → S → Type 0) (v : A → B
 -- a text has no more lines than bytes
 length-onto_first : (b : ℕ) (parts : List (List ℕ)) (n : ℕ) → length (lines_of_parts parts) ≤ n → length (lines_of_parts (onto_first b parts)) ≤ suc n
 length-onto_first b [] n short = omega arith
-length-onto_first b (part ∷ []) n short = omega arith
+length-onto_first b (part ∷ []) n short =
+    let one : lines_of_parts ((b ∷ part) ∷ []) ≡ (b ∷ part) ∷ [] = ap (λ t. cond t [] ((b ∷ part) ∷ [])) (ne_eqb (length (b ∷ part)) 0 (λ none. absurd (omega arith))) in
+    rw one (omega arith)
 length-onto_first b (part ∷ next ∷ parts) n short = omega arith
 
 length-parts : (parts : List (List ℕ)) (n : ℕ) → length (lines_of_parts parts) ≤ n → length (lines_of_parts ([] ∷ parts)) ≤ suc n
@@ -73,3 +76,11 @@ meaning_at_fault lines error is = ap (unless_at_fault lines) is
 pub meaning_sound : (lines : List Form) → first_fault [] lines ≡ None → meaning_of lines ≡ Ok (sections_of lines)
 unfolding meaning_of
 meaning_sound lines is = ap (unless_at_fault lines) is
+
+-- what is said of an error goes with what follows from it
+pub unless_weaker : {A B : Type 0} (error : IniError) → (A → B) → UnlessNoMemory error A → UnlessNoMemory error B
+unless_weaker (NoSection line) then claim = then claim
+unless_weaker (NoDelimiter line) then claim = then claim
+unless_weaker (Indent line) then claim = then claim
+unless_weaker (NotUtf8 at) then claim = then claim
+unless_weaker NoMemory then claim = claim
