@@ -1,13 +1,17 @@
 -- The lines that are still to come.
 use Rattle.std.proofs.Common.{◌≡◌, ℕ, zero, suc, ◌+◌, ◌==◌, ◌<◌, ◌≤◌, Bool, true, false, cond, List, [], ◌∷◌, ◌++◌, length, map, drop, Option, None, Some, Result, Ok, Err, refl, sym, ap, ap₂, subst, ne_eqb, ◌∙◌, append_assoc, append-nil, add-one, arith}
+use Rattle.std.proofs.lemmas.Bool.{false_from_ne_true}
 use Rattle.std.proofs.lemmas.Option.{none-some}
+use Rattle.std.proofs.lemmas.Str.{is_utf8-from_IsUtf8, IsUtf8-from_is_utf8}
 use Rattle.std.specs.Iterator.{AlwaysYields}
 use Rattle.std.specs.List.{slice_split, onto_first}
+use Rattle.std.specs.Str.{IsUtf8, is_utf8}
 use Rattle.std.specs.Str.Lines.{lines, lines_of_parts}
+use Rattle.std.specs.Str.Lossy.{utf8_valid_len}
 use Rattle.ini_interp.specs.declared.error.IniError.{IniError}
 use Rattle.ini_interp.specs.declared.error.IniError.TheVariants.{NoSection, NoDelimiter, Indent, NotUtf8, NoMemory}
-use Rattle.ini_interp.specs.Files.{fault, first_fault, or_else, meaning_of, unless_at_fault, sections_of, UnlessNoMemory}
-use Rattle.ini_interp.specs.Lines.{Form}
+use Rattle.ini_interp.specs.Files.{fault, first_fault, or_else, meaning_of, unless_at_fault, sections_of, file_of, UnlessNoMemory}
+use Rattle.ini_interp.specs.Lines.{Form, form_of}
 use Rattle.ini_interp.specs.Sections.{Sections}
 
 drop-suc : {A : Type 0} (k : ℕ) (xs : List A) → drop (suc k) xs ≡ drop 1 (drop k xs)
@@ -84,3 +88,16 @@ unless_weaker (NoDelimiter line) then claim = then claim
 unless_weaker (Indent line) then claim = then claim
 unless_weaker (NotUtf8 at) then claim = then claim
 unless_weaker NoMemory then claim = claim
+
+-- a file that is UTF-8, and one that is not
+pub file_text : (text bytes : List ℕ) → (text ≡ bytes) × IsUtf8 bytes → file_of bytes ≡ meaning_of (map form_of (lines text))
+unfolding file_of
+file_text text bytes is =
+    ap (λ b. cond b (meaning_of (map form_of (lines bytes))) (Err (NotUtf8 (utf8_valid_len bytes)))) (is_utf8-from_IsUtf8 bytes is.1)
+    ∙ ap (λ t. meaning_of (map form_of (lines t))) (sym is.0)
+
+pub file_not_text : (bytes : List ℕ) → ¬ (IsUtf8 bytes) → file_of bytes ≡ Err (NotUtf8 (utf8_valid_len bytes))
+unfolding file_of
+file_not_text bytes no_text =
+    ap (λ b. cond b (meaning_of (map form_of (lines bytes))) (Err (NotUtf8 (utf8_valid_len bytes))))
+    (false_from_ne_true (is_utf8 bytes) (λ is. no_text (IsUtf8-from_is_utf8 bytes is)))

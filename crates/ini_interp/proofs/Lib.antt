@@ -6,3 +6,4 @@ pub mod LineLemmas
 pub mod Named
 pub mod OpenLemmas
 pub mod ReadLemmas
+pub mod SectionLemmas
