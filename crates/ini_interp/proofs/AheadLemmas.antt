@@ -1,7 +1,6 @@
 -- The lines that are still to come.
-use Rattle.std.proofs.Common.{◌≡◌, ℕ, zero, suc, ◌+◌, ◌==◌, ◌<◌, ◌≤◌, Bool, true, false, cond, List, [], ◌∷◌, ◌++◌, length, map, drop, Option, None, Some, Result, Ok, Err, refl, sym, ap, ap₂, subst, ne_eqb, ◌∙◌, append_assoc, append-nil, add-one, arith}
+use Rattle.std.proofs.Common.{◌≡◌, ℕ, zero, suc, ◌+◌, ◌==◌, ◌≤◌, Bool, true, false, cond, List, [], ◌∷◌, ◌++◌, length, map, drop, Option, None, Some, Ok, Err, refl, sym, ap, ap₂, subst, ne_eqb, ◌∙◌, add-one, arith}
 use Rattle.std.proofs.lemmas.Bool.{false_from_ne_true}
-use Rattle.std.proofs.lemmas.Option.{none-some}
 use Rattle.std.proofs.lemmas.Str.{is_utf8-from_IsUtf8, IsUtf8-from_is_utf8}
 use Rattle.std.specs.Iterator.{AlwaysYields}
 use Rattle.std.specs.List.{slice_split, onto_first}
@@ -12,7 +11,6 @@ use Rattle.ini_interp.specs.declared.error.IniError.{IniError}
 use Rattle.ini_interp.specs.declared.error.IniError.TheVariants.{NoSection, NoDelimiter, Indent, NotUtf8, NoMemory}
 use Rattle.ini_interp.specs.Files.{fault, first_fault, or_else, meaning_of, unless_at_fault, sections_of, file_of, UnlessNoMemory}
 use Rattle.ini_interp.specs.Lines.{Form, form_of}
-use Rattle.ini_interp.specs.Sections.{Sections}
 
 drop-suc : {A : Type 0} (k : ℕ) (xs : List A) → drop (suc k) xs ≡ drop 1 (drop k xs)
 drop-suc zero xs = refl

@@ -1,19 +1,18 @@
 -- What is kept behind some lines is what they mean so far.
-use Rattle.std.proofs.Common.{◌≡◌, ℕ, zero, suc, ◌+◌, ◌==◌, Bool, true, false, cond, List, [], ◌∷◌, ◌++◌, length, map, fold, Option, None, Some, is_none, option_map, option_and_then, true≢false, ne_eqb, arith, refl, sym, ap, ap₂, ◌∙◌, append_assoc, append-nil}
+use Rattle.std.proofs.Common.{◌≡◌, ℕ, zero, suc, ◌+◌, ◌==◌, false, cond, List, [], ◌∷◌, ◌++◌, length, map, fold, Option, None, Some, is_none, option_map, option_and_then, true≢false, ne_eqb, arith, refl, sym, ap, ap₂, ◌∙◌, append_assoc, append-nil}
 use Rattle.std.proofs.lemmas.List.{map-append}
 use Rattle.std.proofs.lemmas.List.Sums.{fold_push}
 use Rattle.std.proofs.lemmas.Option.{none-some}
 use Rattle.std.specs.List.{last_or}
 use Rattle.std.specs.Option.{option_map_or}
 use Rattle.std.specs.Str.{str_to_ascii_lowercase}
-use Rattle.ini_interp.specs.declared.error.IniError.{IniError}
 use Rattle.ini_interp.specs.declared.error.IniError.TheVariants.{NoSection, Indent}
 use Rattle.ini_interp.specs.Files.{blocks, lines_or_none, lines_in, with_block, gathered, entries, items_in, sections_of, open_section, open_lines, fault}
 use Rattle.ini_interp.specs.Kept.{Kept, Read, place_of, at_place, changed_at, changed, with_item, last_value, with_more, kept_or_none, without_last, with_open, with_changed, with_line, open_kept, open_value, fault_of}
 use Rattle.ini_interp.specs.Lines.{Form, Nothing, Opens, Continues, Sets, Broken}
 use Rattle.ini_interp.specs.Sections.{Items, value_of, with_value}
 use Rattle.ini_interp.proofs.BlockLemmas.{IsPlain, onto_last, onto_last_value, blocks-opens, blocks-line, entries-sets, entries-nothing, entries-broken, entries-continues}
-use Rattle.ini_interp.proofs.Named.{some_value, value_of-with_value, with_value-again, with_value-same, place_of-with_value, changed_at-place_of, at_place_of, place_of-changed_at, valued, valued-with_value, value_of-valued, place_of-valued}
+use Rattle.ini_interp.proofs.Named.{some_value, value_of-with_value, with_value-again, place_of-with_value, changed_at-place_of, at_place_of, place_of-changed_at, valued, valued-with_value, value_of-valued, place_of-valued}
 
 -- The last of a list.
 
@@ -74,7 +73,7 @@ block_of-sets lines name value =
     let items : with_value low value (items_from [] es) ≡ items_from [] (es ++ (low, value) ∷ []) = sym (fold_push (λ items item. with_value item.0 item.1 items) [] es (low, value)) in
     let place : place_of low (items_from [] es) ≡ place_of low (items_from [] (es ++ (low, value) ∷ [])) = sym (place_of-with_value low value (items_from [] es)) ∙ ap (place_of low) items in
     let last : Some (place_of low (items_from [] es)) ≡ option_map (λ e. place_of e.0 (items_from [] (es ++ (low, value) ∷ []))) (last_or None (es ++ (low, value) ∷ [])) =
-      ap Some place ∙ ap (option_map (λ e. place_of e.0 (items_from [] (es ++ (low, value) ∷ [])))) (sym (last_or-push None es (low, value))) in
+    ap Some place ∙ ap (option_map (λ e. place_of e.0 (items_from [] (es ++ (low, value) ∷ [])))) (sym (last_or-push None es (low, value))) in
     let made : with_item low value (kept_of es) ≡ kept_of (es ++ (low, value) ∷ []) = λ i. record { items = items i; last = last i } in
     made ∙ ap kept_of (sym (entries-sets lines name value))
 
@@ -85,14 +84,14 @@ more_kept text (first ∷ es) (Some e) is =
     let all = first ∷ es in
     let more : List ℕ → List ℕ = λ value. value ++ 10 ∷ text in
     let named : option_map (λ e. place_of e.0 (items_from [] all)) (last_or None all) ≡ Some (place_of e.0 (items_from [] all)) =
-      ap (option_map (λ e. place_of e.0 (items_from [] all))) is in
+    ap (option_map (λ e. place_of e.0 (items_from [] all))) is in
     let items : changed more (items_from [] all) (option_map (λ e. place_of e.0 (items_from [] all)) (last_or None all)) ≡ items_from [] (onto_last_value text all) =
-      ap (changed more (items_from [] all)) named ∙ more_items text [] all e is in
+    ap (changed more (items_from [] all)) named ∙ more_items text [] all e is in
     let same : place_of e.0 (items_from [] all) ≡ place_of e.0 (items_from [] (onto_last_value text all)) =
-      sym (place_of-changed_at more e.0 (items_from [] all) (place_of e.0 (items_from [] all))) ∙ ap (place_of e.0) (more_items text [] all e is) in
+    sym (place_of-changed_at more e.0 (items_from [] all) (place_of e.0 (items_from [] all))) ∙ ap (place_of e.0) (more_items text [] all e is) in
     let name : option_map (λ e. e.0) (last_or None (onto_last_value text all)) ≡ Some e.0 = last_more text all ∙ ap (option_map (λ e. e.0)) is in
     let last : option_map (λ e. place_of e.0 (items_from [] all)) (last_or None all) ≡ option_map (λ e. place_of e.0 (items_from [] (onto_last_value text all))) (last_or None (onto_last_value text all)) =
-      named ∙ ap Some same ∙ sym (by_name (λ n. place_of n (items_from [] (onto_last_value text all))) (last_or None (onto_last_value text all)) e.0 name) in
+    named ∙ ap Some same ∙ sym (by_name (λ n. place_of n (items_from [] (onto_last_value text all))) (last_or None (onto_last_value text all)) e.0 name) in
     λ i. record { items = items i; last = last i }
 
 pub block_of-continues : (lines : List Form) (text : List ℕ) → with_more text (block_of lines) ≡ block_of (lines ++ Continues text ∷ [])
@@ -180,11 +179,11 @@ read_of-opens lines section =
     let g = gathered lines in
     let kept : block_of (lines_in section g) ≡ kept_or_none (value_of section (valued block_of g)) = kept_lines (value_of section g) ∙ ap kept_or_none (sym (value_of-valued block_of section g)) in
     let sections : with_value section (kept_or_none (value_of section (valued block_of g))) (valued block_of g) ≡ valued block_of (gathered (lines ++ Opens section ∷ [])) =
-      ap (λ k. with_value section k (valued block_of g)) (sym kept) ∙ sym (valued-with_value block_of section (lines_in section g) g) ∙ ap (valued block_of) (sym (gathered-opens lines section)) in
+    ap (λ k. with_value section k (valued block_of g)) (sym kept) ∙ sym (valued-with_value block_of section (lines_in section g) g) ∙ ap (valued block_of) (sym (gathered-opens lines section)) in
     let place : place_of section (valued block_of g) ≡ place_of section (gathered (lines ++ Opens section ∷ [])) =
-      place_of-valued block_of section g ∙ sym (place_of-with_value section (lines_in section g) g) ∙ ap (place_of section) (sym (gathered-opens lines section)) in
+    place_of-valued block_of section g ∙ sym (place_of-with_value section (lines_in section g) g) ∙ ap (place_of section) (sym (gathered-opens lines section)) in
     let at : Some (place_of section (valued block_of g)) ≡ option_map (λ s. place_of s (gathered (lines ++ Opens section ∷ []))) (open_section (lines ++ Opens section ∷ [])) =
-      ap Some place ∙ ap (option_map (λ s. place_of s (gathered (lines ++ Opens section ∷ [])))) (sym (open_section-opens lines section)) in
+    ap Some place ∙ ap (option_map (λ s. place_of s (gathered (lines ++ Opens section ∷ [])))) (sym (open_section-opens lines section)) in
     λ i. record { sections = sections i; at = at i }
 
 -- a line that changes the open section
@@ -195,24 +194,24 @@ read_of-line lines line change None plain is changes =
     let none : option_map (λ s. place_of s g) (open_section lines) ≡ None = ap (option_map (λ s. place_of s g)) is in
     let same = gathered-none lines line plain is in
     let sections : changed change (valued block_of g) (option_map (λ s. place_of s g) (open_section lines)) ≡ valued block_of (gathered (lines ++ line ∷ [])) =
-      ap (changed change (valued block_of g)) none ∙ ap (valued block_of) (sym same) in
+    ap (changed change (valued block_of g)) none ∙ ap (valued block_of) (sym same) in
     let at : option_map (λ s. place_of s g) (open_section lines) ≡ option_map (λ s. place_of s (gathered (lines ++ line ∷ []))) (open_section (lines ++ line ∷ [])) =
-      ap₂ (λ h o. option_map (λ s. place_of s h) o) (sym same) (sym (open_section-line lines line plain)) in
+    ap₂ (λ h o. option_map (λ s. place_of s h) o) (sym same) (sym (open_section-line lines line plain)) in
     λ i. record { sections = sections i; at = at i }
 read_of-line lines line change (Some section) plain is changes =
     let g = gathered lines in
     let more = gathered-line lines line section plain is in
     let named : option_map (λ s. place_of s g) (open_section lines) ≡ Some (place_of section g) = ap (option_map (λ s. place_of s g)) is in
     let there : value_of section (valued block_of g) ≡ Some (block_of (lines_in section g)) =
-      value_of-valued block_of section g ∙ ap (option_map block_of) (block_there [] (blocks lines) section is) in
+    value_of-valued block_of section g ∙ ap (option_map block_of) (block_there [] (blocks lines) section is) in
     let sections : changed change (valued block_of g) (option_map (λ s. place_of s g) (open_section lines)) ≡ valued block_of (gathered (lines ++ line ∷ [])) =
-      ap (changed change (valued block_of g)) (named ∙ ap Some (sym (place_of-valued block_of section g)))
-      ∙ changed_at-place_of change section (block_of (lines_in section g)) (valued block_of g) there
-      ∙ ap (λ k. with_value section k (valued block_of g)) (changes (lines_in section g))
-      ∙ sym (valued-with_value block_of section (lines_in section g ++ line ∷ []) g) ∙ ap (valued block_of) (sym more) in
+    ap (changed change (valued block_of g)) (named ∙ ap Some (sym (place_of-valued block_of section g)))
+    ∙ changed_at-place_of change section (block_of (lines_in section g)) (valued block_of g) there
+    ∙ ap (λ k. with_value section k (valued block_of g)) (changes (lines_in section g))
+    ∙ sym (valued-with_value block_of section (lines_in section g ++ line ∷ []) g) ∙ ap (valued block_of) (sym more) in
     let at : option_map (λ s. place_of s g) (open_section lines) ≡ option_map (λ s. place_of s (gathered (lines ++ line ∷ []))) (open_section (lines ++ line ∷ [])) =
-      named ∙ ap Some (sym (place_of-with_value section (lines_in section g ++ line ∷ []) g) ∙ ap (place_of section) (sym more))
-      ∙ ap (option_map (λ s. place_of s (gathered (lines ++ line ∷ [])))) (sym (open_section-line lines line plain ∙ is)) in
+    named ∙ ap Some (sym (place_of-with_value section (lines_in section g ++ line ∷ []) g) ∙ ap (place_of section) (sym more))
+    ∙ ap (option_map (λ s. place_of s (gathered (lines ++ line ∷ [])))) (sym (open_section-line lines line plain ∙ is)) in
     λ i. record { sections = sections i; at = at i }
 
 -- a change that changes nothing

@@ -1,9 +1,8 @@
 -- Sections with what is kept of them, seen as sections of items.
 use Rattle.std.proofs.Common.{◌≡◌, ℕ, zero, suc, List, [], ◌∷◌, Option, None, Some, is_some, option_map, option_and_then, slice_get, true, false, true≢false, refl, sym, ap, ◌∙◌}
-use Rattle.std.proofs.lemmas.Option.{none-some}
 use Rattle.std.specs.Str.{str_to_ascii_lowercase}
 use Rattle.ini_interp.specs.Kept.{Kept, with_item, without_last}
-use Rattle.ini_interp.specs.Sections.{Items, Sections, value_of, with_value, items_or_none, items_of, raw, with_raw, opened, section_at, item_at}
+use Rattle.ini_interp.specs.Sections.{value_of, with_value, items_or_none, items_of, raw, with_raw, opened, section_at, item_at}
 use Rattle.ini_interp.proofs.Named.{with_value-same, valued-with_value, value_of-valued}
 
 -- the names stand in the same places

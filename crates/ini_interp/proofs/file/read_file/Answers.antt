@@ -1,6 +1,5 @@
-use Rattle.std.proofs.Common.{◌≡◌, ◌∙◌, ap, sym, Err}
+use Rattle.std.proofs.Common.{◌∙◌, ap, sym, Err}
 use Rattle.std.proofs.lemmas.Result.{IfOk-weaker, IfErr-weaker}
-use Rattle.std.specs.Str.Lines.{lines}
 use Rattle.ini_interp.specs.declared.error.IniError.TheVariants.{NotUtf8}
 use Rattle.ini_interp.proofs.AheadLemmas.{file_text, file_not_text, unless_weaker}
 use Rattle.ini_interp.proofs.file.read_file.Goals as goal

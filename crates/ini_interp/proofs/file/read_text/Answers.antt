@@ -1,4 +1,4 @@
-use Rattle.std.proofs.Common.{◌≡◌, ◌∙◌, ◌++◌, ◌∷◌, ◌+◌, ◌<◌, ◌≤◌, [], List, None, Some, Result, Ok, Err, IfErr, map, ℕ, suc, length, drop, Bor, refl, sym, ap, ap₂, subst, append_assoc, append-nil, length-append, length-drop, arith, rules}
+use Rattle.std.proofs.Common.{◌≡◌, ◌∙◌, ◌++◌, ◌∷◌, ◌+◌, [], List, None, Some, Result, Ok, Err, IfErr, map, ℕ, suc, length, drop, Bor, refl, sym, ap, ap₂, subst, append_assoc, append-nil, length-append, length-drop, arith, rules}
 use Rattle.std.proofs.lemmas.Iterator.Splits.{YieldsList-from_lines}
 use Rattle.std.proofs.lemmas.List.{map-append}
 use Rattle.std.specs.Iterator.{AlwaysYields}
@@ -65,18 +65,18 @@ loop-line-preserved c =
     let more = said-more before c.in-Some.line in
     let rest : List Form = map form_of (drop (k + 1) all) in
     let none : fault (said before) line ≡ None =
-      sym (fault_found before line c.loop-line.number c.loop-line.reader c.loop-line.invariant.read c.loop-line.invariant.count)
-      ∙ ap (λ l. fault_of l (c.loop-line.number + 1) c.loop-line.reader) (sym c.read.ensures) ∙ c.in_ok-read.ensures.fault in
+    sym (fault_found before line c.loop-line.number c.loop-line.reader c.loop-line.invariant.read c.loop-line.invariant.count)
+    ∙ ap (λ l. fault_of l (c.loop-line.number + 1) c.loop-line.reader) (sym c.read.ensures) ∙ c.in_ok-read.ensures.fault in
     record {
       can = search rules;
       read = c.in_ok-read.ensures.ok ∙ ap₂ with_line c.read.ensures c.loop-line.invariant.read ∙ read_of-more (said before) line ∙ ap read_of (sym more);
       count = ap (λ n. n + 1) c.loop-line.invariant.count ∙ longer;
       ahead = subst (λ n. AlwaysYields lines_steps (λ l. l.now) c.next.new.self (drop n all)) longer
-        (rest_is lines_steps (λ (l : Bor (List ℕ)). l.now) all k c.loop-line.line-iterator c.next.new.self c.in-Some.line c.loop-line.invariant.ahead step);
+          (rest_is lines_steps (λ (l : Bor (List ℕ)). l.now) all k c.loop-line.line-iterator c.next.new.self c.in-Some.line c.loop-line.invariant.ahead step);
       whole = c.loop-line.invariant.whole ∙ ap (λ l. said before ++ map form_of l) next ∙ sym (append_assoc (said before) (line ∷ []) rest)
-        ∙ ap₂ (λ l n. l ++ map form_of (drop n all)) (sym more) longer;
+          ∙ ap₂ (λ l n. l ++ map form_of (drop n all)) (sym more) longer;
       sound = c.loop-line.invariant.sound ∙ ap (λ l. first_fault (said before) (map form_of l)) next ∙ fault_behind (said before) rest line none
-        ∙ ap₂ (λ l n. first_fault l (map form_of (drop n all))) (sym more) longer;
+          ∙ ap₂ (λ l n. first_fault l (map form_of (drop n all))) (sym more) longer;
     }
 
 pub returns-in_err-read-clause-fault : goal.returns-in_err-read-clause-fault
@@ -88,12 +88,12 @@ returns-in_err-read-clause-fault c =
     let next = next_is lines_steps (λ (l : Bor (List ℕ)). l.now) all k c.loop-line.line-iterator c.next.new.self c.in-Some.line c.loop-line.invariant.ahead c.in-Some.ensures.steps in
     let rest : List Form = map form_of (drop (k + 1) all) in
     let found : (error : IniError) → fault_of line (c.loop-line.number + 1) c.loop-line.reader ≡ Some error → meaning_of (map form_of all) ≡ Err error =
-      λ error is. meaning_at_fault (map form_of all) error
-      (c.loop-line.invariant.sound ∙ ap (λ l. first_fault (said before) (map form_of l)) next
-      ∙ fault_here (said before) rest line error (sym (fault_found before line c.loop-line.number c.loop-line.reader c.loop-line.invariant.read c.loop-line.invariant.count) ∙ is)) in
+    λ error is. meaning_at_fault (map form_of all) error
+    (c.loop-line.invariant.sound ∙ ap (λ l. first_fault (said before) (map form_of l)) next
+    ∙ fault_here (said before) rest line error (sym (fault_found before line c.loop-line.number c.loop-line.reader c.loop-line.invariant.read c.loop-line.invariant.count) ∙ is)) in
     let error = c.in_err-read.field-0.0 in
     let says : UnlessNoMemory error (meaning_of (map form_of all) ≡ Err error) =
-      unless_weaker error (λ is. found error (ap (λ l. fault_of l (c.loop-line.number + 1) c.loop-line.reader) (sym c.read.ensures) ∙ is)) c.in_err-read.ensures.fault in
+    unless_weaker error (λ is. found error (ap (λ l. fault_of l (c.loop-line.number + 1) c.loop-line.reader) (sym c.read.ensures) ∙ is)) c.in_err-read.ensures.fault in
     same_error c.from_residual.result error (λ e. UnlessNoMemory e (meaning_of (map form_of all) ≡ Err e)) c.from_residual.ensures.1 says
 
 pub returns-clause-sections : goal.returns-clause-sections
@@ -104,5 +104,5 @@ returns-clause-sections c =
     let whole : map form_of all ≡ said before = c.loop-line.invariant.whole ∙ ap (λ l. said before ++ map form_of l) none ∙ append-nil (said before) in
     let sound : first_fault [] (map form_of all) ≡ None = c.loop-line.invariant.sound ∙ ap (λ l. first_fault (said before) (map form_of l)) none in
     let read : c.from.result ≡ sections_of (said before) =
-      c.from.ensures ∙ ap (λ (r : Read). without_last r.sections) (c.reader-2.view_is ∙ c.loop-line.invariant.read) ∙ sections-read (said before) in
+    c.from.ensures ∙ ap (λ (r : Read). without_last r.sections) (c.reader-2.view_is ∙ c.loop-line.invariant.read) ∙ sections-read (said before) in
     meaning_sound (map form_of all) sound ∙ ap (λ l. Ok (sections_of l)) whole ∙ ap Ok (sym read)

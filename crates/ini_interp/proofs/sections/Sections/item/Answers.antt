@@ -1,4 +1,4 @@
-use Rattle.std.proofs.Common.{◌≡◌, ◌∙◌, ap, sym, Some, None}
+use Rattle.std.proofs.Common.{◌∙◌, ap, sym}
 use Rattle.ini_interp.specs.Entries.{by_bytes}
 use Rattle.ini_interp.specs.Sections.{item_at}
 use Rattle.ini_interp.proofs.EntriesLemmas.{value_is}

@@ -1,4 +1,4 @@
-use Rattle.std.proofs.Common.{◌≡◌, ◌∙◌, ap, ap₂, sym, is_some, true, false, string_bytes}
+use Rattle.std.proofs.Common.{◌∙◌, ap, ap₂, sym, is_some}
 use Rattle.ini_interp.specs.Entries.{by_bytes}
 use Rattle.ini_interp.specs.Kept.{without_last}
 use Rattle.ini_interp.specs.Sections.{value_of, with_value, opened}

@@ -1,4 +1,4 @@
-use Rattle.std.proofs.Common.{◌≡◌, ◌∙◌, ap, option_map, string_bytes, Some}
+use Rattle.std.proofs.Common.{◌∙◌, ap, option_map, string_bytes, Some}
 use Rattle.ini_interp.specs.Entries.{by_bytes}
 use Rattle.ini_interp.specs.Sections.{section_at}
 use Rattle.ini_interp.proofs.EntriesLemmas.{name_at}
