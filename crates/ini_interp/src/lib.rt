@@ -1,0 +1,17 @@
+//! Configuration files in sections of items: what one file means.
+//!
+//! A caller hands in the bytes of a file and gets its sections in order, each with its items in order, or the first fault with its
+//! line. Values are as written here: nothing is replaced in them. Reading takes time in proportion to the bytes.
+#![tactic(auto)]
+
+mod error;
+mod file;
+mod items;
+mod line;
+mod sections;
+#[cfg(test)]
+mod tests;
+
+pub use error::IniError;
+pub use file::read_file;
+pub use sections::Sections;
