@@ -1,2 +1,6 @@
 pub mod Entries
+pub mod InTurn
+pub mod Parts
+pub mod References
 pub mod Sections
+pub mod Values

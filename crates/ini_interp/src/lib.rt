@@ -6,7 +6,11 @@
 
 mod error;
 mod items;
+mod parts;
 mod sections;
+mod value_error;
+mod values;
 
 pub use error::IniError;
 pub use sections::Sections;
+pub use value_error::InterpError;
