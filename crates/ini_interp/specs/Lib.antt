@@ -1,3 +1,4 @@
+pub mod Added
 pub mod Entries
 pub mod InTurn
 pub mod Parts

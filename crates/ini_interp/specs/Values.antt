@@ -1,5 +1,5 @@
 -- The value of an item: its raw value, in which each reference is replaced by the value of the item that it names.
-use Rattle.std.specs.Prelude.{ℕ, ◌==◌, List, [], ◌∷◌, Option, None, Some, Result, Ok, Err, if◌then◌else◌, Bool, codes}
+use Rattle.std.specs.Prelude.{ℕ, zero, suc, ◌==◌, List, [], ◌∷◌, Option, None, Some, Result, Ok, Err, if◌then◌else◌, Bool, codes}
 use Rattle.std.specs.List.{before_first, after_first, list_any}
 use Rattle.std.specs.Str.{bytes_eq}
 use Rattle.ini_interp.specs.declared.value_error.InterpError.{InterpError}
@@ -50,15 +50,21 @@ abbrev pub found_or_missing : (List ℕ → Result (List ℕ) InterpError) → L
 found_or_missing read name None = Err (Missing name)
 found_or_missing read name (Some text) = read text
 
--- the raw value with its references replaced, and those in their values in turn, up to this depth
-unfoldable pub interpolated : Sections → Scope → ℕ → List ℕ → Result (List ℕ) InterpError
-interpolated sections scope zero text = in_turn (text_of (λ reference. Err (TooDeep (name_of reference)))) (pieces text)
-interpolated sections scope (suc depth) text =
-    in_turn
-    (text_of (λ reference.
-    found_or_missing (interpolated sections scope depth) (name_of reference)
-    (raw_in sections (scope_of scope reference) (name_of reference))))
-    (pieces text)
+-- a raw value with each reference in it replaced
+abbrev pub filled : (List ℕ → Result (List ℕ) InterpError) → List ℕ → Result (List ℕ) InterpError
+filled replace text = in_turn (text_of replace) (pieces text)
+
+-- the text that a reference is replaced by, where so many replacements may stand in one another: the raw value that it names, in
+-- which references are replaced in turn
+unfoldable pub replaced : Sections → Scope → ℕ → List ℕ → Result (List ℕ) InterpError
+replaced sections scope zero reference = Err (TooDeep (name_of reference))
+replaced sections scope (suc depth) reference =
+    found_or_missing (filled (replaced sections scope depth)) (name_of reference)
+    (raw_in sections (scope_of scope reference) (name_of reference))
+
+-- a raw value with its references replaced
+abbrev pub interpolated : Sections → Scope → ℕ → List ℕ → Result (List ℕ) InterpError
+interpolated sections scope depth text = filled (replaced sections scope depth) text
 
 -- replacements stand at most so many deep in one another
 abbrev pub most_depth : ℕ
