@@ -1,6 +1,8 @@
 pub mod Added
 pub mod Entries
+pub mod Files
 pub mod InTurn
+pub mod Lines
 pub mod Parts
 pub mod References
 pub mod Sections
