@@ -126,10 +126,11 @@ pub fn value(
     ensures fault { IfErr result (λ fault. fault ≢ InterpError.NoMemory
         → value_in sections.now scope.now name.now ≡ Err fault) }
 {
-    let Some(raw) = raw_in(sections, scope.as_slice(), name) else {
+    let scope = scope.as_slice();
+    let Some(raw) = raw_in(sections, scope, name) else {
         return Ok(None);
     };
     let mut text = Text::new(alloc);
-    interpolate(alloc, sections, scope.as_slice(), MOST_DEPTH, raw, &mut text)?;
+    interpolate(alloc, sections, scope, MOST_DEPTH, raw, &mut text)?;
     Ok(Some(text))
 }
