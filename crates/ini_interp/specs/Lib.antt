@@ -1,9 +1,14 @@
 pub mod Added
 pub mod Entries
 pub mod Files
+pub mod Frames
 pub mod InTurn
+pub mod Joins
+pub mod Known
 pub mod Lines
+pub mod Merges
 pub mod Parts
+pub mod Paths
 pub mod References
 pub mod Sections
 pub mod Values

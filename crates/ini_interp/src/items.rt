@@ -2,6 +2,8 @@
 ghost use Rattle.std.specs.Prelude.{◌≡◌, ℕ, List, [], OnOk, OnErr, option_copied, option_map, slice_get, string_bytes};
 ghost use Rattle.ini_interp.specs.Sections.{value_of, with_value};
 
+mod entries;
+
 use f2b_base::{NoMemory, Text};
 use indexmap::IndexMap;
 use std::alloc::Global;

@@ -5,12 +5,26 @@
 #![tactic(auto)]
 
 mod error;
+mod file;
+mod file_table;
+mod frames;
+mod includes;
 mod items;
+mod joins;
+mod known;
+mod merge_error;
+mod merges;
 mod parts;
 mod sections;
+#[cfg(test)]
+mod tests;
 mod value_error;
 mod values;
 
 pub use error::IniError;
+pub use file::read_file;
+pub use merge_error::MergeError;
+pub use merges::merge;
 pub use sections::Sections;
 pub use value_error::InterpError;
+pub use values::value;

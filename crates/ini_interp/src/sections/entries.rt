@@ -1,0 +1,23 @@
+//! The sections one by one.
+ghost use Rattle.std.specs.Prelude.{◌≡◌, ◌<◌, Some, length, slice_get};
+
+use crate::items::Items;
+use crate::sections::Sections;
+
+impl Sections {
+    /// How many there are.
+    pub(crate) fn len(&self) -> usize
+        ensures { result ≡ length self.now }
+    {
+        self.map.len()
+    }
+
+    /// The section at the place, and its items.
+    pub(crate) fn at(&self, index: usize) -> Option<(&str, &Items)>
+    {
+        match self.map.get_index(index) {
+            Some((name, items)) => Some((name.as_str(), items)),
+            None => None,
+        }
+    }
+}
