@@ -41,7 +41,7 @@ module _ (f : Piece → List ℕ) (whole rest text : List ℕ) where
             so_far.so_far
             ∙ ap (λ (l : List ℕ). text ++ l)
             (ap (flat_map f) (first at) ∙ flat_map-append f (pieces_of at cut.part) (pieces_from (at + (length rest - length cut.rest.now)) 0 cut.rest.now)
-                ∙ ap (λ (k : ℕ). flat_map f (pieces_of at cut.part) ++ further k) moved)
+            ∙ ap (λ (k : ℕ). flat_map f (pieces_of at cut.part) ++ further k) moved)
             ∙ sym (append_assoc text (flat_map f (pieces_of at cut.part)) (further (length whole - length cut.rest.now)))
             ∙ ap (λ (front : List ℕ). front ++ further (length whole - length cut.rest.now)) (sym (added at));
         within = omega (arith, so_far.within, shorter);

@@ -60,12 +60,16 @@ base_files files base = files_ending files base (codes ".conf") ++ files_ending 
 abbrev pub is_newline : ℕ → Bool
 is_newline x = x == 10
 
+-- the lines of a text, the empty ones too
+abbrev pub all_lines : Option (List ℕ) → List (List ℕ)
+all_lines None = []
+all_lines (Some text) = slice_split is_newline text
+
 abbrev pub lines_of : Option (List ℕ) → List (List ℕ)
-lines_of None = []
-lines_of (Some text) = filter (λ line. not (length line == 0)) (slice_split is_newline text)
+lines_of text = filter (λ line. not (length line == 0)) (all_lines text)
 
 -- the names on the lines of this item of [INCLUDES]
-unfoldable pub includes : Sections → List ℕ → List (List ℕ)
+abbrev pub includes : Sections → List ℕ → List (List ℕ)
 includes file name = lines_of (raw file (codes "INCLUDES") name)
 
 -- the path up to its last slash
@@ -76,7 +80,7 @@ directory (x ∷ xs) = if list_any is_slash (x ∷ xs) then x ∷ directory xs e
 -- two dots stand side by side
 abbrev pub has_dots : List ℕ → Bool
 has_dots [] = false
-has_dots (x ∷ xs) = starts_with nat_eq (x ∷ xs) (codes "..") || has_dots xs
+has_dots (x ∷ xs) = x == 46 && slice_index xs 0 == 46 || has_dots xs
 
 -- an absolute name, or one that may lead out of the directory
 abbrev pub is_outside : List ℕ → Bool

@@ -7,9 +7,10 @@ ghost use Rattle.ini_interp.specs.Frames.{steps_of};
 use crate::error::IniError;
 use crate::file::read_file;
 use crate::file_table::FileTable;
-use crate::includes::{beside, includes, is_outside};
+use crate::includes::includes;
 use crate::joins::join;
 use crate::merge_error::MergeError;
+use crate::names::{beside, ends_with, is_outside};
 use crate::sections::Sections;
 use f2b_base::{NoMemory, Plain, Seq, Text};
 use std::alloc::Global;
@@ -94,7 +95,7 @@ fn included(
     }
     match files.get(path.as_str()) {
         Some(content) => Ok(Some(opened(alloc, path, content)?)),
-        None if name.as_str().ends_with(".local") => Ok(None),
+        None if ends_with(name.as_str(), ".local") => Ok(None),
         None => Err(missing(alloc, file, name)),
     }
 }

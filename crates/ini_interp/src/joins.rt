@@ -24,8 +24,7 @@ fn push_section<'a>(
     section: &'a str,
     items: &'a Items,
     settings: &mut Seq<Setting<'a>>,
-) -> Result<(), NoMemory>
-{
+) -> Result<(), NoMemory> {
     settings.push(Setting::Opens(section))?;
     for index in 0..items.len() {
         let Some((name, raw)) = items.at(index) else {
@@ -42,8 +41,7 @@ fn settings<'a>(
     alloc: Global,
     before: &Sections,
     file: &'a Sections,
-) -> Result<Seq<Setting<'a>>, NoMemory>
-{
+) -> Result<Seq<Setting<'a>>, NoMemory> {
     let mut settings = Seq::new(alloc);
     for index in 0..file.len() {
         let Some((section, items)) = file.at(index) else {

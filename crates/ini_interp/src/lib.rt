@@ -14,6 +14,7 @@ mod joins;
 mod known;
 mod merge_error;
 mod merges;
+mod names;
 mod parts;
 mod sections;
 #[cfg(test)]

@@ -12,8 +12,7 @@ impl Items {
     }
 
     /// The item at the place: its name and its raw value.
-    pub(crate) fn at(&self, index: usize) -> Option<(&str, &str)>
-    {
+    pub(crate) fn at(&self, index: usize) -> Option<(&str, &str)> {
         match self.map.get_index(index) {
             Some((name, value)) => Some((name.as_str(), value.as_str())),
             None => None,

@@ -13,8 +13,7 @@ impl Sections {
     }
 
     /// The section at the place, and its items.
-    pub(crate) fn at(&self, index: usize) -> Option<(&str, &Items)>
-    {
+    pub(crate) fn at(&self, index: usize) -> Option<(&str, &Items)> {
         match self.map.get_index(index) {
             Some((name, items)) => Some((name.as_str(), items)),
             None => None,
