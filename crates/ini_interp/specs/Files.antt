@@ -6,7 +6,7 @@ use Rattle.std.specs.Str.{is_utf8, str_to_ascii_lowercase}
 use Rattle.std.specs.Str.Lines.{lines}
 use Rattle.std.specs.Str.Lossy.{utf8_valid_len}
 use Rattle.ini_interp.specs.declared.error.IniError.{IniError}
-use Rattle.ini_interp.specs.declared.error.IniError.TheVariants.{NoSection, NoDelimiter, Indent, NotUtf8}
+use Rattle.ini_interp.specs.declared.error.IniError.TheVariants.{NoSection, NoDelimiter, Indent, NotUtf8, NoMemory}
 use Rattle.ini_interp.specs.Lines.{Form, Nothing, Opens, Continues, Sets, Broken, form_of}
 use Rattle.ini_interp.specs.Sections.{Items, Sections, value_of, with_value}
 
@@ -102,3 +102,8 @@ meaning_of lines = unless_at_fault lines (first_fault [] lines)
 -- what a file means: bytes that are not UTF-8 are a fault of the whole file
 unfoldable pub file_of : List ℕ → Result Sections IniError
 file_of bytes = if is_utf8 bytes then meaning_of (map form_of (lines bytes)) else Err (NotUtf8 (utf8_valid_len bytes))
+
+-- What is said of an error: want of memory is free.
+abbrev pub UnlessNoMemory : IniError → Type 0 → Type 0
+UnlessNoMemory NoMemory claim = Unit {0}
+UnlessNoMemory error claim = claim

@@ -1,9 +1,11 @@
 pub mod Added
+pub mod Changes
 pub mod Entries
 pub mod Files
 pub mod Frames
 pub mod InTurn
 pub mod Joins
+pub mod Kept
 pub mod Known
 pub mod Lines
 pub mod Merges
@@ -11,4 +13,5 @@ pub mod Parts
 pub mod Paths
 pub mod References
 pub mod Sections
+pub mod Seen
 pub mod Values

@@ -1,19 +1,144 @@
 //! Reading one configuration file.
-ghost use Rattle.std.specs.Prelude.{◌≡◌, ◌⊎◌, Ok, Err, IfOk, IfErr};
-ghost use Rattle.ini_interp.specs.declared.error.IniError.TheVariants.{NoMemory};
-ghost use Rattle.ini_interp.specs.Files.{file_of};
+ghost use Rattle.std.specs.Prelude.{◌≡◌, [], None, Some, Ok, Err, IfOk, IfErr, OnOk, MatchResult, is_some, map};
+ghost use Rattle.std.specs.Str.{str_to_ascii_lowercase};
+ghost use Rattle.std.specs.Str.Lines.{lines};
+ghost use Rattle.ini_interp.specs.Files.{file_of, meaning_of, UnlessNoMemory};
+ghost use Rattle.ini_interp.specs.Kept.{with_open, with_changed, with_item, with_more, with_line, open_kept, open_value, fault_of, without_last};
+ghost use Rattle.ini_interp.specs.Lines.{form_of};
+ghost use Rattle.ini_interp.specs.Seen.{form};
 
 use crate::error::IniError;
+use crate::items::Items;
+use crate::line::Line;
 use crate::sections::Sections;
+use f2b_base::{NoMemory, Text};
+use indexmap::IndexMap;
 use std::alloc::Global;
+use std::marker::Model;
+
+/// The sections that were read so far, and the place of the one that is open.
+#[derive(Drop)]
+struct Reader {
+    map: IndexMap<String, Items>,
+    open: Option<usize>,
+}
+
+impl Model for Reader {
+    ghost use Rattle.ini_interp.specs.Entries.{by_bytes};
+    ghost use Rattle.ini_interp.specs.Kept.{Read};
+
+    ghost Value = { Read };
+
+    ghost view = { λ r. record { sections = by_bytes r.map.entries; at = r.open } };
+}
+
+impl Reader {
+    fn new(alloc: Global) -> Reader
+        ensures { result ≡ record { sections = []; at = None } }
+    {
+        Reader {
+            map: IndexMap::new(alloc),
+            open: None,
+        }
+    }
+
+    /// Opens the section, which goes last where it is new.
+    fn open(&mut self, section: &str) -> Result<(), NoMemory>
+        ensures { OnOk result (self.new ≡ with_open section.now self.old) }
+    {
+        if let Some(place) = self.map.get_index_of(section) {
+            self.open = Some(place);
+            return Ok(());
+        }
+        let alloc = *self.map.allocator();
+        let name = String::from_str(alloc, section)?;
+        let (place, _) = self.map.insert_full(name, Items::new(alloc))?;
+        self.open = Some(place);
+        Ok(())
+    }
+
+    /// Sets the value of an item of the open section, and says whether one is open.
+    fn set(&mut self, name: &str, value: &str) -> Result<bool, NoMemory>
+        ensures found { IfOk result (λ found. found ≡ is_some (open_kept self.old)) }
+        ensures ok { OnOk result (self.new ≡ with_changed (with_item (str_to_ascii_lowercase name.now) value.now) self.old) }
+    {
+        let alloc = *self.map.allocator();
+        let name = name.to_ascii_lowercase(alloc)?;
+        let value = Text::from_str(alloc, value)?;
+        let Some(place) = self.open else {
+            return Ok(false);
+        };
+        let Some(items) = self.map.get_index_mut(place) else {
+            return Ok(false);
+        };
+        items.set(name, value)?;
+        Ok(true)
+    }
+
+    /// Continues the value that was set last in the open section, and says whether there is one.
+    fn extend(&mut self, text: &str) -> Result<bool, NoMemory>
+        ensures found { IfOk result (λ found. found ≡ is_some (open_value self.old)) }
+        ensures ok { OnOk result (self.new ≡ with_changed (with_more text.now) self.old) }
+    {
+        let Some(place) = self.open else {
+            return Ok(false);
+        };
+        let Some(items) = self.map.get_index_mut(place) else {
+            return Ok(false);
+        };
+        items.extend(text)
+    }
+
+    /// Reads one more line, which has this number.
+    fn read(&mut self, line: Line<'_>, number: u64) -> Result<(), IniError>
+        ensures ok { OnOk result (self.new ≡ with_line (form line.entry) self.old) }
+        ensures fault { MatchResult result (λ _. fault_of (form line.entry) number self.old ≡ None) (λ e. UnlessNoMemory e (fault_of (form line.entry) number self.old ≡ Some e)) }
+    {
+        match line {
+            Line::Skipped => Ok(()),
+            Line::Header(section) => Ok(self.open(section)?),
+            Line::Continuation(text) => {
+                if self.extend(text)? {
+                    Ok(())
+                } else {
+                    Err(IniError::Indent(number))
+                }
+            }
+            Line::Item(name, value) => {
+                if self.set(name, value)? {
+                    Ok(())
+                } else {
+                    Err(IniError::NoSection(number))
+                }
+            }
+            Line::Broken => Err(IniError::NoDelimiter(number)),
+        }
+    }
+}
+
+/// Reads the lines of a text.
+fn read_text(alloc: Global, text: &str) -> Result<Sections, IniError>
+    ensures sections { IfOk result (λ sections. meaning_of (map form_of (lines text.now)) ≡ Ok sections) }
+    ensures fault { IfErr result (λ e. UnlessNoMemory e (meaning_of (map form_of (lines text.now)) ≡ Err e)) }
+{
+    let mut reader = Reader::new(alloc);
+    let mut number: u64 = 0;
+    for line in text.lines() {
+        number += 1;
+        reader.read(Line::read(line), number)?;
+    }
+    Ok(Sections::from(reader.map))
+}
 
 /// What the bytes of a configuration file mean.
+///
+/// The bytes are UTF-8. A line ends at LF, and one CR before it is dropped; lines count from 1.
 pub fn read_file(alloc: Global, bytes: &[u8]) -> Result<Sections, IniError>
     ensures sections { IfOk result (λ sections. file_of bytes.now ≡ Ok sections) }
-    ensures fault { IfErr result (λ e. (e ≡ NoMemory) ⊎ (file_of bytes.now ≡ Err e)) }
+    ensures fault { IfErr result (λ e. UnlessNoMemory e (file_of bytes.now ≡ Err e)) }
 {
     match str::from_utf8(bytes) {
-        Ok(_) => Ok(Sections::new(alloc)),
+        Ok(text) => read_text(alloc, text),
         Err(error) => Err(IniError::NotUtf8(error.valid_up_to() as u64)),
     }
 }

@@ -1,6 +1,7 @@
 //! A file laid over what was read before it.
-ghost use Rattle.std.specs.Prelude.{◌≡◌, ◌++◌, OnOk, IfOk, map, length, ◌<◌};
+ghost use Rattle.std.specs.Prelude.{◌≡◌, ◌++◌, OnOk, IfOk};
 ghost use Rattle.ini_interp.specs.Joins.{settings, section_settings, joined, with_setting};
+ghost use Rattle.ini_interp.specs.Changes.{setting_of, settings_of};
 
 use crate::items::Items;
 use crate::known::known_replaced;
@@ -10,11 +11,11 @@ use std::alloc::Global;
 
 /// What a file does to the sections.
 #[derive(Drop)]
-pub(crate) enum Setting<'a> {
+pub(crate) enum Change<'a> {
     /// It names a section.
-    Opens(&'a str),
+    Open(&'a str),
     /// It gives an item of a section this raw value.
-    Sets(&'a str, &'a str, Text),
+    Set(&'a str, &'a str, Text),
 }
 
 /// Adds what a section of a file sets.
@@ -23,47 +24,55 @@ fn push_section<'a>(
     before: &Sections,
     section: &'a str,
     items: &'a Items,
-    settings: &mut Seq<Setting<'a>>,
-) -> Result<(), NoMemory> {
-    settings.push(Setting::Opens(section))?;
+    changes: &mut Seq<Change<'a>>,
+) -> Result<(), NoMemory>
+    ensures { OnOk result (settings_of changes.new
+        ≡ settings_of changes.old ++ section_settings before.now (section.now, items.now.items)) }
+{
+    changes.push(Change::Open(section))?;
     for index in 0..items.len() {
-        let Some((name, raw)) = items.at(index) else {
-            break;
-        };
+        let (name, raw) = items.at(index);
         let value = known_replaced(alloc, before, section, raw)?;
-        settings.push(Setting::Sets(section, name, value))?;
+        changes.push(Change::Set(section, name, value))?;
     }
     Ok(())
 }
 
 /// What a file sets, in order.
-fn settings<'a>(
+fn changes<'a>(
     alloc: Global,
     before: &Sections,
     file: &'a Sections,
-) -> Result<Seq<Setting<'a>>, NoMemory> {
-    let mut settings = Seq::new(alloc);
+) -> Result<Seq<Change<'a>>, NoMemory>
+    ensures { IfOk result (λ changes. settings_of changes ≡ settings before.now file.now) }
+{
+    let mut changes = Seq::new(alloc);
     for index in 0..file.len() {
-        let Some((section, items)) = file.at(index) else {
-            break;
-        };
+        let (section, items) = file.at(index);
         if section != "INCLUDES" {
-            push_section(alloc, before, section, items, &mut settings)?;
+            push_section(alloc, before, section, items, &mut changes)?;
         }
     }
-    Ok(settings)
+    Ok(changes)
+}
+
+/// Makes a change.
+fn apply(sections: &mut Sections, change: &Change<'_>) -> Result<(), NoMemory>
+    ensures { OnOk result (sections.new ≡ with_setting sections.old (setting_of change.now)) }
+{
+    match change {
+        Change::Open(section) => sections.open(section),
+        Change::Set(section, name, value) => sections.put(section, name, value.as_str()),
+    }
 }
 
 /// Lays a file over the sections of the files read before.
 pub(crate) fn join(alloc: Global, sections: &mut Sections, file: &Sections) -> Result<(), NoMemory>
     ensures { OnOk result (sections.new ≡ joined sections.old file.now) }
 {
-    let settings = settings(alloc, sections, file)?;
-    for setting in settings.as_slice() {
-        match setting {
-            Setting::Opens(section) => sections.open(section)?,
-            Setting::Sets(section, name, value) => sections.put(section, name, value.as_str())?,
-        }
+    let changes = changes(alloc, sections, file)?;
+    for change in changes.as_slice() {
+        apply(sections, change)?;
     }
     Ok(())
 }

@@ -12,6 +12,7 @@ mod includes;
 mod items;
 mod joins;
 mod known;
+mod line;
 mod merge_error;
 mod merges;
 mod names;

@@ -1,5 +1,5 @@
 //! Sections in order.
-ghost use Rattle.std.specs.Prelude.{◌≡◌, ℕ, List, [], OnOk, OnErr, option_copied};
+ghost use Rattle.std.specs.Prelude.{◌≡◌, [], OnOk, OnErr, option_copied};
 ghost use Rattle.ini_interp.specs.Sections.{raw, with_raw, opened, section_at, item_at};
 
 mod entries;
@@ -19,10 +19,11 @@ pub struct Sections {
 impl Model for Sections {
     ghost use Rattle.std.specs.Prelude.{ℕ, List};
     ghost use Rattle.ini_interp.specs.Entries.{by_bytes};
+    ghost use Rattle.ini_interp.specs.Kept.{without_last};
 
     ghost Value = { List (List ℕ × List (List ℕ × List ℕ)) };
 
-    ghost view = { λ s. by_bytes s.map.entries };
+    ghost view = { λ s. without_last (by_bytes s.map.entries) };
 }
 
 impl Sections {
@@ -47,23 +48,24 @@ impl Sections {
 
     /// The raw value of an item, or `None` where the section or the item is not there. The name of the section is compared as
     /// written, that of the item in ASCII lower case. Takes no memory.
-    #[tactic(auto, unfolding(crate::specs::Sections::raw))]
     pub fn raw(&self, section: &str, name: &str) -> Option<&str>
         ensures { option_copied result ≡ raw self.now section.now name.now }
     {
-        match self.map.get(section)?.get(name) {
-            Some(value) => Some(value.as_str()),
+        match self.map.get(section) {
+            Some(items) => items.raw(name),
             None => None,
         }
     }
 
     /// The name, in ASCII lower case, of the item at that place of that section, from 0, or `None` where the section is not there
     /// or has not so many items. Takes no memory.
-    #[tactic(auto, unfolding(crate::specs::Sections::item_at))]
     pub fn item(&self, section: &str, index: usize) -> Option<&str>
         ensures { option_copied result ≡ item_at self.now section.now index }
     {
-        self.map.get(section)?.name(index)
+        match self.map.get(section) {
+            Some(items) => items.name(index),
+            None => None,
+        }
     }
 
     /// Adds the section behind the others where it is not there. An error changes nothing.
@@ -97,5 +99,17 @@ impl Sections {
         items.set(name, value)?;
         self.map.insert(section, items)?;
         Ok(())
+    }
+}
+
+impl From<IndexMap<String, Items>> for Sections {
+    ghost use Rattle.std.specs.Prelude.{◌≡◌};
+    ghost use Rattle.ini_interp.specs.Entries.{by_bytes};
+    ghost use Rattle.ini_interp.specs.Kept.{without_last};
+
+    ghost from_gives = { λ map sections. sections ≡ without_last (by_bytes map.entries) };
+
+    fn from(map: IndexMap<String, Items>) -> Sections {
+        Sections { map }
     }
 }

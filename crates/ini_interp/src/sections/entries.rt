@@ -12,11 +12,14 @@ impl Sections {
         self.map.len()
     }
 
-    /// The section at the place, and its items.
-    pub(crate) fn at(&self, index: usize) -> Option<(&str, &Items)> {
+    /// The section at the place: its name and its items.
+    pub(crate) fn at(&self, index: usize) -> (&str, &Items)
+        requires { index < length self.now }
+        ensures { Some (result.0.now, result.1.now.items) ≡ slice_get self.now index }
+    {
         match self.map.get_index(index) {
-            Some((name, items)) => Some((name.as_str(), items)),
-            None => None,
+            Some((name, items)) => (name.as_str(), items),
+            None => unreachable!(),
         }
     }
 }
