@@ -1,8 +1,9 @@
 //! The files that are being read, each with what is left to do with it. A file whose includes are read waits below them, so that the
 //! depth of includes takes memory and not the machine's stack.
-ghost use Rattle.std.specs.Prelude.{◌≡◌, ◌≢◌, ◌++◌, Ok, Err, IsOk, IsErr, IfOk, IfErr, OnOk, map};
-ghost use Rattle.ini_interp.specs.Files.{file_of};
-ghost use Rattle.ini_interp.specs.Frames.{steps_of};
+ghost use Rattle.std.specs.Prelude.{◌≡◌, ◌≢◌, ◌<◌, ◌++◌, [], ◌∷◌, Some, Ok, Err, IfOk, IfErr, IfSome, IfNone, OnOk, map};
+ghost use Rattle.ini_interp.specs.Frames.{steps_of, read_at, pending, way_of, weight, IsWay, IsKept, IsOpened, IsFaulty, IsEntered};
+ghost use Rattle.ini_interp.specs.Merges.{included, is_among};
+ghost use Rattle.ini_interp.specs.Sections.{value_of};
 
 use crate::error::IniError;
 use crate::file::read_file;
@@ -56,13 +57,10 @@ fn steps_of(alloc: Global, file: Sections) -> Result<VecDeque<Step>, NoMemory>
     Ok(steps)
 }
 
-/// The file with all its steps.
+/// The frame of a file, with all its steps.
 fn opened(alloc: Global, path: Text, content: &[u8]) -> Result<Frame, MergeError>
-    ensures path { IfOk result (λ frame. frame.path ≡ path) }
-    ensures steps { IfOk result (λ frame. IfOk (file_of content.now) (λ file. frame.steps.items ≡ steps_of file)) }
-    ensures well_formed { OnOk result (IsOk (file_of content.now)) }
-    ensures fault { IfErr result (λ fault. fault ≢ MergeError.NoMemory
-        → IfErr (file_of content.now) (λ error. fault ≡ MergeError.Ini path error) × IsErr (file_of content.now)) }
+    ensures ok { IfOk result (IsOpened path content.now) }
+    ensures fault { IfErr result (λ fault. fault ≢ MergeError.NoMemory → IsFaulty path content.now fault) }
 {
     let file = match read_file(alloc, content) {
         Ok(file) => file,
@@ -73,19 +71,39 @@ fn opened(alloc: Global, path: Text, content: &[u8]) -> Result<Frame, MergeError
     Ok(Frame { path, steps })
 }
 
-/// Whether one of the frames has this path.
-fn is_among(frames: &[Frame], path: &str) -> bool {
+/// Whether one of the frames is that of the path.
+fn is_among(frames: &[Frame], path: &str) -> bool
+    ensures { result ≡ is_among (way_of [] frames.now) path.now }
+{
     frames.iter().any(|frame| frame.path.as_str() == path)
 }
 
-/// The frame of what the last file includes under a name, or `None` where it is not there and may be missing.
+/// The error that the file includes what is not there.
+fn missing(alloc: Global, file: &str, path: Text) -> MergeError
+    ensures { result ≢ MergeError.NoMemory → result ≡ MergeError.MissingInclude file.now path }
+{
+    match Text::from_str(alloc, file) {
+        Ok(file) => MergeError::MissingInclude { file, path },
+        Err(_) => MergeError::NoMemory,
+    }
+}
+
+/// The frame of what the file includes under a name, or `None` where it is not there and may be missing. The file is that of the last
+/// frame.
 fn included(
     alloc: Global,
     files: &FileTable<'_>,
     frames: &[Frame],
     file: &str,
     name: Text,
-) -> Result<Option<Frame>, MergeError> {
+) -> Result<Option<Frame>, MergeError>
+    requires { IsWay files.now (way_of [] frames.now) }
+    ensures none { IfOk result (λ next. IfNone next
+        (included files.now (read_at files.now (way_of [] frames.now)) (way_of [] frames.now) file.now name ≡ Ok [])) }
+    ensures some { IfOk result (λ next. IfSome next (IsEntered files.now (way_of [] frames.now) file.now name)) }
+    ensures fault { IfErr result (λ fault. fault ≢ MergeError.NoMemory
+        → included files.now (read_at files.now (way_of [] frames.now)) (way_of [] frames.now) file.now name ≡ Err fault) }
+{
     if is_outside(name.as_str()) {
         return Err(missing(alloc, file, name));
     }
@@ -93,19 +111,13 @@ fn included(
     if is_among(frames, path.as_str()) {
         return Err(MergeError::IncludeLoop { file: path });
     }
-    match files.get(path.as_str()) {
-        Some(content) => Ok(Some(opened(alloc, path, content)?)),
-        None if ends_with(name.as_str(), ".local") => Ok(None),
-        None => Err(missing(alloc, file, name)),
-    }
-}
-
-/// The error that the file includes what is not there.
-fn missing(alloc: Global, file: &str, path: Text) -> MergeError {
-    match Text::from_str(alloc, file) {
-        Ok(file) => MergeError::MissingInclude { file, path },
-        Err(_) => MergeError::NoMemory,
-    }
+    let Some(content) = files.get(path.as_str()) else {
+        if ends_with(name.as_str(), ".local") {
+            return Ok(None);
+        }
+        return Err(missing(alloc, file, name));
+    };
+    Ok(Some(opened(alloc, path, content)?))
 }
 
 /// Does the next step of a file, which stands above these frames.
@@ -115,12 +127,22 @@ fn advance(
     frames: &mut Vec<Frame>,
     mut frame: Frame,
     sections: &mut Sections,
-) -> Result<(), MergeError> {
+) -> Result<(), MergeError>
+    requires { IsWay files.now (way_of [] (frames.old.items ++ frame ∷ [])) }
+    ensures ok { OnOk result (IsKept (pending files.now [] (frames.old.items ++ frame ∷ []))
+        (pending files.now [] frames.new.items) sections.old sections.new) }
+    ensures way { OnOk result (IsWay files.now (way_of [] frames.new.items)) }
+    ensures less { OnOk result (weight files.now [] frames.new.items
+        < weight files.now [] (frames.old.items ++ frame ∷ [])) }
+    ensures fault { IfErr result (λ fault. fault ≢ MergeError.NoMemory
+        → pending files.now [] (frames.old.items ++ frame ∷ []) ≡ Err fault) }
+{
     match frame.steps.pop_front() {
         None => Ok(()),
         Some(Step::Join(file)) => {
             join(alloc, sections, &file)?;
-            Ok(frames.push(frame)?)
+            frames.push(frame)?;
+            Ok(())
         }
         Some(Step::Include(name)) => {
             let file = frame.path.copy()?;
@@ -140,7 +162,12 @@ pub(crate) fn read_with_includes(
     path: &Text,
     content: &[u8],
     sections: &mut Sections,
-) -> Result<(), MergeError> {
+) -> Result<(), MergeError>
+    requires { value_of path.now files.now ≡ Some content.now }
+    ensures ok { OnOk result (IsKept (read_at files.now [] path.now content.now) (Ok []) sections.old sections.new) }
+    ensures fault { IfErr result (λ fault. fault ≢ MergeError.NoMemory
+        → read_at files.now [] path.now content.now ≡ Err fault) }
+{
     let mut frames = Vec::new(alloc);
     frames.push(opened(alloc, path.copy()?, content)?)?;
     while let Some(frame) = frames.pop() {

@@ -1,6 +1,6 @@
 //! A file laid over what was read before it.
-ghost use Rattle.std.specs.Prelude.{◌≡◌, ◌++◌, OnOk, IfOk};
-ghost use Rattle.ini_interp.specs.Joins.{settings, section_settings, joined, with_setting};
+ghost use Rattle.std.specs.Prelude.{◌≡◌, ◌++◌, [], ◌∷◌, OnOk, IfOk};
+ghost use Rattle.ini_interp.specs.Joins.{settings, joined, with_setting};
 ghost use Rattle.ini_interp.specs.Changes.{setting_of, settings_of};
 
 use crate::items::Items;
@@ -18,7 +18,7 @@ pub(crate) enum Change<'a> {
     Set(&'a str, &'a str, Text),
 }
 
-/// Adds what a section of a file sets.
+/// Adds what a section of a file sets. [INCLUDES] sets nothing.
 fn push_section<'a>(
     alloc: Global,
     before: &Sections,
@@ -27,8 +27,11 @@ fn push_section<'a>(
     changes: &mut Seq<Change<'a>>,
 ) -> Result<(), NoMemory>
     ensures { OnOk result (settings_of changes.new
-        ≡ settings_of changes.old ++ section_settings before.now (section.now, items.now.items)) }
+        ≡ settings_of changes.old ++ settings before.now ((section.now, items.now.items) ∷ [])) }
 {
+    if section == "INCLUDES" {
+        return Ok(());
+    }
     changes.push(Change::Open(section))?;
     for index in 0..items.len() {
         let (name, raw) = items.at(index);
@@ -49,9 +52,7 @@ fn changes<'a>(
     let mut changes = Seq::new(alloc);
     for index in 0..file.len() {
         let (section, items) = file.at(index);
-        if section != "INCLUDES" {
-            push_section(alloc, before, section, items, &mut changes)?;
-        }
+        push_section(alloc, before, section, items, &mut changes)?;
     }
     Ok(changes)
 }
