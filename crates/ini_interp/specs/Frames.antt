@@ -1,5 +1,5 @@
 -- The files that are being read, and what is left to do with each.
-use Rattle.std.specs.Prelude.{◌≡◌, ◌≢◌, ℕ, zero, suc, ◌+◌, ◌*◌, ◌-◌, sum_by, List, [], ◌∷◌, ◌++◌, length, map, fold, Option, None, Some, Result, Ok, Err, Bool, false, codes}
+use Rattle.std.specs.Prelude.{◌≡◌, ◌≢◌, ℕ, zero, suc, ◌+◌, ◌*◌, ◌-◌, List, [], ◌∷◌, ◌++◌, length, map, fold, Option, None, Some, Result, Ok, Err, Bool, false, codes}
 use Rattle.ini_interp.specs.declared.frames.Frame.{Frame}
 use Rattle.ini_interp.specs.declared.frames.Step.{Step}
 use Rattle.ini_interp.specs.declared.frames.Step.TheVariants.{Include, Join}
@@ -76,7 +76,8 @@ steps_in (Ok file) = length (steps_of file)
 
 -- the steps of all files
 abbrev pub most_steps : Files → ℕ
-most_steps files = sum_by (λ file. steps_in (file_of file.1)) files
+most_steps [] = 0
+most_steps (file ∷ files) = steps_in (file_of file.1) + most_steps files
 
 -- what a step costs at most, where so many more files may stand on the way
 unfoldable pub cost : Files → ℕ → ℕ

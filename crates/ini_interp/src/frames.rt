@@ -1,6 +1,8 @@
 //! The files that are being read, each with what is left to do with it. A file whose includes are read waits below them, so that the
 //! depth of includes takes memory and not the machine's stack.
 ghost use Rattle.std.specs.Prelude.{◌≡◌, ◌≢◌, ◌<◌, ◌++◌, [], ◌∷◌, Some, Ok, Err, IfOk, IfErr, IfSome, IfNone, OnOk, map};
+ghost use Rattle.std.specs.List.{list_any};
+ghost use Rattle.std.specs.Str.{bytes_eq};
 ghost use Rattle.ini_interp.specs.Frames.{steps_of, read_at, pending, way_of, weight, IsWay, IsKept, IsOpened, IsFaulty, IsEntered};
 ghost use Rattle.ini_interp.specs.Merges.{included, is_among};
 ghost use Rattle.ini_interp.specs.Sections.{value_of};
@@ -72,10 +74,17 @@ fn opened(alloc: Global, path: Text, content: &[u8]) -> Result<Frame, MergeError
 }
 
 /// Whether one of the frames is that of the path.
+fn has_frame(frames: &[Frame], path: &str) -> bool
+    ensures { result ≡ list_any (λ frame. bytes_eq path.now frame.path) frames.now }
+{
+    frames.iter().any(|frame| path == frame.path.as_str())
+}
+
+/// Whether the path stands on the way of these frames.
 fn is_among(frames: &[Frame], path: &str) -> bool
     ensures { result ≡ is_among (way_of [] frames.now) path.now }
 {
-    frames.iter().any(|frame| frame.path.as_str() == path)
+    has_frame(frames, path)
 }
 
 /// The error that the file includes what is not there.
@@ -141,16 +150,15 @@ fn advance(
         None => Ok(()),
         Some(Step::Join(file)) => {
             join(alloc, sections, &file)?;
-            frames.push(frame)?;
-            Ok(())
+            Ok(frames.push(frame)?)
         }
         Some(Step::Include(name)) => {
             let file = frame.path.copy()?;
             frames.push(frame)?;
-            if let Some(next) = included(alloc, files, frames.as_slice(), file.as_str(), name)? {
-                frames.push(next)?;
+            match included(alloc, files, frames.as_slice(), file.as_str(), name)? {
+                Some(next) => Ok(frames.push(next)?),
+                None => Ok(()),
             }
-            Ok(())
         }
     }
 }
