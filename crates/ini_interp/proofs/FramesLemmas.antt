@@ -1,5 +1,5 @@
 -- Frames that are pushed and popped.
-use Rattle.std.proofs.Common.{◌≡◌, ◌≢◌, ℕ, zero, suc, ◌+◌, ◌*◌, ◌-◌, ◌<◌, ◌≤◌, ◌||◌, Bool, true, false, cond, List, [], ◌∷◌, ◌++◌, length, map, fold, Option, None, Some, Result, Ok, Err, refl, sym, ap, subst, ◌∙◌, arith, codes, suc-mul, mul-le-mul_left}
+use Rattle.std.proofs.Common.{◌≡◌, ◌≢◌, ℕ, zero, suc, ◌+◌, ◌*◌, ◌-◌, ◌<◌, ◌≤◌, ◌||◌, Bool, true, false, cond, List, [], ◌∷◌, ◌++◌, length, map, fold, drop, Option, None, Some, Result, Ok, Err, refl, sym, ap, subst, ◌∙◌, arith, codes, suc-mul, mul-le-mul_left}
 use Rattle.std.specs.List.{list_any}
 use Rattle.std.specs.Str.{bytes_eq}
 use Rattle.std.proofs.lemmas.Option.{none-some}
@@ -8,12 +8,12 @@ use Rattle.ini_interp.specs.declared.frames.Step.{Step}
 use Rattle.ini_interp.specs.declared.frames.Step.TheVariants.{Include, Join}
 use Rattle.ini_interp.specs.declared.error.IniError.{IniError}
 use Rattle.ini_interp.specs.declared.merge_error.MergeError.{MergeError}
-use Rattle.ini_interp.specs.declared.merge_error.MergeError.TheVariants.{Ini}
+use Rattle.ini_interp.specs.declared.merge_error.MergeError.TheVariants.{Ini, MissingInclude, IncludeLoop}
 use Rattle.ini_interp.specs.Files.{file_of}
 use Rattle.ini_interp.specs.Frames.{steps_of, read_at, step_adds, pending, way_of, IsWay, IsKept, IsOpened, IsFaulty, IsEntered, steps_in, most_steps, cost, weight}
 use Rattle.ini_interp.specs.InTurn.{followed, in_turn}
 use Rattle.ini_interp.specs.Joins.{joined}
-use Rattle.ini_interp.specs.Merges.{Files, Reading, includes, included, read_with, with_includes, if_well_formed, is_among}
+use Rattle.ini_interp.specs.Merges.{Files, Reading, includes, included, read_with, with_includes, if_well_formed, is_among, is_outside, directory, if_there, missing}
 use Rattle.ini_interp.specs.Sections.{Sections, value_of}
 use Rattle.ini_interp.proofs.ValuesLemmas.{followed_assoc, followed-nothing, followed-end, in_turn-append}
 use Rattle.ini_interp.proofs.WayLemmas.{way_within}
@@ -286,3 +286,41 @@ started-way files path content frame there opened =
 pub started-fault : (files : Files) (path content : List ℕ) (fault : MergeError) → value_of path files ≡ Some content → IsFaulty path content fault →
     read_at files [] path content ≡ Err fault
 started-fault files path content fault there faulty = reads_fault files [] path content fault (within_files files [] path content tt refl there) faulty
+
+-- a name that may be read, and names a file that is not on the way
+pub included_reads : (files : Files) (read : List ℕ → List ℕ → Reading) (way : List (List ℕ)) (file name path content : List ℕ) →
+    path ≡ directory file ++ name → is_outside name ≡ false → is_among way path ≡ false → Some content ≡ value_of path files →
+    included files read way file name ≡ read path content
+included_reads files read way file name path content is inside apart there =
+    let meant : List ℕ = directory file ++ name in
+    let found : Reading = if_there (read meant) (missing file name) (value_of meant files) in
+    ap (λ (b : Bool). cond b (Err (MissingInclude file name)) (cond (is_among way meant) (Err (IncludeLoop meant)) found)) inside
+    ∙ ap (λ (b : Bool). cond b (Err (IncludeLoop meant)) found) (ap (is_among way) (sym is) ∙ apart)
+    ∙ ap (if_there (read meant) (missing file name)) (ap (λ (p : List ℕ). value_of p files) (sym is) ∙ sym there)
+    ∙ ap (λ (p : List ℕ). read p content) (sym is)
+
+-- A frame that is done.
+module _ (files : Files) (below : List Frame) (frame : Frame) (none : length frame.steps.items ≡ 0) where
+  empty : (steps : List Step) → length steps ≡ 0 → steps ≡ []
+  empty [] none = refl
+  empty (step ∷ steps) none = absurd (omega (arith, none))
+
+  pub kept_done : (old : Sections) → IsKept (pending files [] (below ++ frame ∷ [])) (pending files [] below) old old
+  kept_done old = record {
+    done = [];
+    pending =
+        pending-push files [] below frame
+        ∙ ap (λ (l : List Step). followed (in_turn (step_adds files (frame.path ∷ way_of [] below) frame.path) l) (pending files [] below)) (empty frame.steps.items none);
+    merged = refl;
+  }
+
+  pub stands_done : IsWay files (way_of [] (below ++ frame ∷ [])) → IsWay files (way_of [] below)
+  stands_done stands = (subst (IsWay files) (way_of-push [] below frame) stands).2
+
+  pub less_done : weight files [] below < weight files [] (below ++ frame ∷ [])
+  less_done = omega (arith, weight-push files [] below frame)
+
+-- nothing was taken away, so nothing was there
+pub no_steps : (steps after : List Step) → steps ≡ after → after ≡ drop 1 steps → length steps ≡ 0
+no_steps [] after same rest = refl
+no_steps (step ∷ steps) after same rest = absurd (omega (arith, ap length same, ap length rest))

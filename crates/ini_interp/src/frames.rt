@@ -126,7 +126,10 @@ fn included(
         }
         return Err(missing(alloc, file, name));
     };
-    Ok(Some(opened(alloc, path, content)?))
+    match opened(alloc, path, content) {
+        Ok(frame) => Ok(Some(frame)),
+        Err(fault) => Err(fault),
+    }
 }
 
 /// Does the next step of a file, which stands above these frames.
@@ -155,9 +158,10 @@ fn advance(
         Some(Step::Include(name)) => {
             let file = frame.path.copy()?;
             frames.push(frame)?;
-            match included(alloc, files, frames.as_slice(), file.as_str(), name)? {
-                Some(next) => Ok(frames.push(next)?),
-                None => Ok(()),
+            match included(alloc, files, frames.as_slice(), file.as_str(), name) {
+                Ok(Some(next)) => Ok(frames.push(next)?),
+                Ok(None) => Ok(()),
+                Err(fault) => Err(fault),
             }
         }
     }
@@ -176,10 +180,17 @@ pub(crate) fn read_with_includes(
     ensures fault { IfErr result (λ fault. fault ≢ MergeError.NoMemory
         → read_at files.now [] path.now content.now ≡ Err fault) }
 {
+    let first = match opened(alloc, path.copy()?, content) {
+        Ok(frame) => frame,
+        Err(fault) => return Err(fault),
+    };
     let mut frames = Vec::new(alloc);
-    frames.push(opened(alloc, path.copy()?, content)?)?;
+    frames.push(first)?;
     while let Some(frame) = frames.pop() {
-        advance(alloc, files, &mut frames, frame, sections)?;
+        match advance(alloc, files, &mut frames, frame, sections) {
+            Ok(()) => (),
+            Err(fault) => return Err(fault),
+        }
     }
     Ok(())
 }
