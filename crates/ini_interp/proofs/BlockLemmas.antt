@@ -1,6 +1,6 @@
 -- What one more line does to the blocks of a file and to the entries of a section.
-use Rattle.std.proofs.Common.{◌≡◌, ℕ, List, [], ◌∷◌, ◌++◌, length, map, fold, Option, None, Some, refl, sym, ap, ap₂, ◌∙◌, append_assoc}
-use Rattle.std.specs.List.{join_with_byte, last_or}
+use Rattle.std.proofs.Common.{◌≡◌, ℕ, List, [], ◌∷◌, ◌++◌, refl, sym, ap, ap₂, ◌∙◌, append_assoc}
+use Rattle.std.specs.List.{join_with_byte}
 use Rattle.std.specs.Str.{str_to_ascii_lowercase}
 use Rattle.ini_interp.specs.Lines.{Form, Nothing, Opens, Continues, Sets, Broken}
 use Rattle.ini_interp.specs.Files.{before_header, blocks, continued, entries}

@@ -1,7 +1,7 @@
 -- A map under texts, seen as a list.
-use Rattle.std.proofs.Common.{option_map, slice_get, zero, suc, ◌≡◌, ℕ, ◌+◌, not, Bool, true, false, cond, List, [], ◌∷◌, map, drop, None, Some, Option, String, string_bytes, refl, sym, ap, ◌∙◌}
+use Rattle.std.proofs.Common.{option_map, slice_get, zero, suc, ◌≡◌, ℕ, ◌+◌, not, Bool, true, false, cond, List, [], ◌∷◌, drop, None, Some, Option, String, string_bytes, refl, sym, ap, ◌∙◌}
 use Rattle.std.proofs.lemmas.Option.{none-some}
-use Rattle.std.specs.List.{position_or_len, position}
+use Rattle.std.specs.List.{position_or_len}
 use Rattle.std.specs.Map.{lookup, set_value, keys_of, values_of}
 use Rattle.std.specs.Str.{bytes_eq}
 use Rattle.std.specs.String.{string_eq}

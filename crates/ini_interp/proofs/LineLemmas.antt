@@ -1,11 +1,11 @@
 -- Where a line is cut.
-use Rattle.std.proofs.Common.{◌≡◌, ◌≢◌, ℕ, zero, suc, ◌+◌, ◌-◌, ◌<◌, ◌≤◌, ◌==◌, ◌&&◌, ◌||◌, eqb-true, Bool, true, false, cond, List, [], ◌∷◌, length, get_or, take, drop, position, Some, None, option_map, refl, sym, ap, subst, ◌∙◌, arith, true≢false}
-use Rattle.std.specs.List.{prefix_len, suffix_len, position_or_len}
+use Rattle.std.proofs.Common.{◌≡◌, ◌≢◌, ℕ, zero, suc, ◌-◌, ◌<◌, ◌≤◌, ◌==◌, ◌&&◌, ◌||◌, eqb-true, Bool, true, false, cond, List, [], ◌∷◌, length, get_or, take, drop, position, Some, None, option_map, refl, sym, ap, ◌∙◌, arith}
+use Rattle.std.specs.List.{position_or_len}
 use Rattle.std.proofs.lemmas.Bool.{lt-ltb, le-ltb}
 use Rattle.std.proofs.lemmas.Bool.Decides.{nat_tests}
 use Rattle.std.proofs.lemmas.List.Sums.{prefix_len_is, suffix_len_is, position_or_len_is}
 use Rattle.std.specs.List.{before_first}
-use Rattle.ini_interp.specs.Lines.{is_blank, trimmed, trimmed_start, trimmed_end, without_comment, opened_by, Form, Broken, Sets, named, item_of, divided_at}
+use Rattle.ini_interp.specs.Lines.{is_blank, trimmed_start, trimmed_end, without_comment, opened_by, Broken, Sets, named, item_of, divided_at}
 
 -- the first byte that is no blank
 pub trimmed_start_at : (text : List ℕ) (place : ℕ) → place ≤ length text → ((k : ℕ) → k < place → is_blank (get_or text k 0) ≡ true) →

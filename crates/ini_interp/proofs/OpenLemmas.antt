@@ -1,5 +1,5 @@
 -- Opening a section.
-use Rattle.std.proofs.Common.{◌≡◌, ℕ, Bool, true, false, cond, List, [], Option, None, Some, is_some, refl, sym, ap, ◌∙◌, true≢false}
+use Rattle.std.proofs.Common.{◌≡◌, ℕ, Bool, true, false, cond, List, [], Option, None, Some, is_some, refl, sym, true≢false}
 use Rattle.std.proofs.lemmas.Option.{none-some}
 use Rattle.ini_interp.specs.Kept.{Kept, kept_or_none}
 use Rattle.ini_interp.specs.Sections.{value_of, with_value}

@@ -1,5 +1,6 @@
-use Rattle.std.proofs.Common.{◌≡◌, ◌∙◌, [], refl, sym, ap}
+use Rattle.std.proofs.Common.{◌≡◌, ◌∙◌, ◌∷◌, [], refl, sym, ap}
 use Rattle.ini_interp.specs.declared.frames.Frame.{Frame}
+use Rattle.ini_interp.specs.declared.frames.Step.{Step}
 use Rattle.ini_interp.proofs.FramesLemmas.{stands_kept, kept_joined, kept_skipped, faults_included, less_step, stands_entered, kept_entered, less_entered, kept_done, stands_done, less_done, no_steps}
 use Rattle.ini_interp.proofs.frames.advance.Goals as goal
 
@@ -16,7 +17,7 @@ pub returns-in-Some-Join-clause-ok : goal.returns-in-Some-Join-clause-ok
 returns-in-Some-Join-clause-ok c =
     let rest : Frame = record { path = c.args.frame.path; steps = c.pop_front.new.self } in
     kept_joined c.args.files.now c.args.frames.now.items c.args.frame rest refl c.push.new.self.items c.in-Some-Join.file c.args.sections.now c.join.new.sections
-    c.in_ok-push-in-Some-Join.ensures.items c.in-Some-Join.ensures.items c.in_ok-join-in-Some-Join.ensures
+    c.in_ok-push-in-Some-Join.ensures.items (c.in-Some-Join.ensures.items ∙ ap (λ (step : Step). step ∷ c.pop_front.new.self.items) c.in-Some-Join.field-0-is) c.in_ok-join-in-Some-Join.ensures
 
 pub returns-in-Some-Join-clause-way : goal.returns-in-Some-Join-clause-way
 returns-in-Some-Join-clause-way c =
@@ -34,5 +35,3 @@ included-requires c =
     stands_kept c.args.files.now c.args.frames.now.items c.args.frame rest refl c.as_slice.result.now
     (c.as_slice.ensures.value ∙ c.in_ok-push-in-Some-Include.ensures.items) c.requires
 
-pub returns-in_err-included-clause-fault : goal.returns-in_err-included-clause-fault
-returns-in_err-included-clause-fault c = ?

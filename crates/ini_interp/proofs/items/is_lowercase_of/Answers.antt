@@ -1,4 +1,4 @@
-use Rattle.std.proofs.Common.{◌≡◌, ◌≢◌, ◌∙◌, ap, sym, length, get_or, ℕ, ◌<◌, arith, rules}
+use Rattle.std.proofs.Common.{◌≡◌, ◌≢◌, ◌∙◌, ap, sym, length, get_or, ◌<◌, arith, rules}
 use Rattle.std.specs.Char.{to_ascii_lowercase}
 use Rattle.std.specs.Str.{str_to_ascii_lowercase}
 use Rattle.ini_interp.proofs.CaseLemmas.{lowercase_is, byte_lowercase, length-lowercase, same_bytes, other_bytes}

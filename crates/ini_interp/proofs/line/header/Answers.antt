@@ -1,6 +1,5 @@
-use Rattle.std.proofs.Common.{◌≡◌, ◌≢◌, ◌∙◌, ap, sym, length, ℕ, List, ◌∷◌, ◌<◌, take, arith, None, Some, option_copied, Bor, lit<}
+use Rattle.std.proofs.Common.{◌≡◌, ◌∷◌, None, Some, lit<}
 use Rattle.std.proofs.lemmas.Str.Pattern.{strip_prefix_char, split_once_first}
-use Rattle.ini_interp.specs.Lines.{opened_by}
 use Rattle.ini_interp.proofs.LineLemmas.{opens_none, opens_no_end, opens_name}
 use Rattle.ini_interp.proofs.line.header.Goals as goal
 

@@ -1,5 +1,4 @@
-use Rattle.std.proofs.Common.{◌≡◌, ◌==◌, ◌||◌, ◌∙◌, ◌<◌, ℕ, get_or, sym, true, refl, ◌⊎◌, inl, inr, arith}
-use Rattle.ini_interp.proofs.Named.{own_name}
+use Rattle.std.proofs.Common.{◌≡◌, ◌∙◌, ℕ, get_or, true, refl, ◌⊎◌, inl, inr, arith}
 use Rattle.ini_interp.proofs.LineLemmas.{is_divider, divider_at, no_divider}
 use Rattle.ini_interp.proofs.line.item.Goals as goal
 

@@ -1,7 +1,7 @@
-use Rattle.std.proofs.Common.{◌≡◌, ◌∙◌, ap, sym, below_more, length, get_or, true, ℕ, drop, arith, rules}
+use Rattle.std.proofs.Common.{◌≡◌, ◌∙◌, sym, below_more, length, get_or, true, arith, rules}
 use Rattle.std.proofs.lemmas.Str.{IsCharBoundary-after_ascii, IsCharBoundary-start}
 use Rattle.std.proofs.Math.Seq.{drop-length}
-use Rattle.ini_interp.specs.Lines.{is_blank, trimmed_start}
+use Rattle.ini_interp.specs.Lines.{is_blank}
 use Rattle.ini_interp.proofs.LineLemmas.{trimmed_start_at, blank_is_ascii}
 use Rattle.ini_interp.proofs.line.trim_start.Goals as goal
 

@@ -1,4 +1,4 @@
-use Rattle.std.proofs.Common.{◌≡◌, ◌==◌, ◌&&◌, ℕ, List, zero, suc, eq-eqb, ◌+◌, ◌-◌, ◌<◌, ◌∙◌, length, get_or, ap, ap₂, sym, arith, rules, true, false, take}
+use Rattle.std.proofs.Common.{◌≡◌, ◌&&◌, ℕ, List, zero, suc, eq-eqb, ◌-◌, ◌<◌, length, get_or, ap₂, arith, rules, true, false, take}
 use Rattle.std.proofs.lemmas.Grind.{common_steps}
 use Rattle.ini_interp.specs.Lines.{is_blank, without_comment}
 use Rattle.ini_interp.proofs.LineLemmas.{begins_comment, first_comment, no_comment}

@@ -1,4 +1,4 @@
-use Rattle.std.proofs.Common.{◌≡◌, ◌∙◌, ℕ, List, ap, ap₂, is_some, Some, None, string_bytes}
+use Rattle.std.proofs.Common.{◌≡◌, ◌∙◌, ap, ap₂, is_some, Some, None}
 use Rattle.std.specs.Str.{str_to_ascii_lowercase}
 use Rattle.indexmap.specs.IndexMap.{set_value_at}
 use Rattle.ini_interp.specs.Entries.{by_bytes}
@@ -17,7 +17,7 @@ returns-in_default-get_index_mut-clause-ok c =
     let change : Kept → Kept = with_item (str_to_ascii_lowercase c.args.name.now) c.args.value.now in
     let same = unchanged_is change es c.self.inside.open c.in-Some.place c.in-Some.is c.in_default-get_index_mut.ensures.value in
     let made : record { sections = by_bytes es; at = c.self.inside.open } ≡ with_changed change (record { sections = by_bytes es; at = c.self.inside.open }) =
-      λ i. record { sections = same i; at = c.self.inside.open } in
+    λ i. record { sections = same i; at = c.self.inside.open } in
     made ∙ ap (with_changed change) c.self.view_is
 
 pub returns-clause-found : goal.returns-clause-found
@@ -33,5 +33,5 @@ returns-clause-ok c =
     let set : c.set.new.self ≡ change items = c.in_ok-set.ensures.ok ∙ ap₂ (λ name value. with_item name value items) c.in_ok-name.ensures.ok c.in_ok-value.ensures in
     let sections = changed_is change es c.self.inside.open c.in-Some.place items c.set.new.self c.in-Some.is c.in-Some-get_index_mut.ensures.value set in
     let made : record { sections = by_bytes (set_value_at es c.in-Some.place c.set.new.self); at = c.self.inside.open } ≡ with_changed change (record { sections = by_bytes es; at = c.self.inside.open }) =
-      λ i. record { sections = sections i; at = c.self.inside.open } in
+    λ i. record { sections = sections i; at = c.self.inside.open } in
     made ∙ ap (with_changed change) c.self.view_is

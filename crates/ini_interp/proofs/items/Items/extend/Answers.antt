@@ -1,7 +1,7 @@
 use Rattle.std.proofs.Common.{◌≡◌, ◌∙◌, ◌++◌, ◌∷◌, [], List, ℕ, ap, append_assoc, is_some, Some, None}
 use Rattle.indexmap.specs.IndexMap.{set_value_at}
 use Rattle.ini_interp.specs.Entries.{by_bytes}
-use Rattle.ini_interp.specs.Kept.{Kept, changed, last_value, with_more}
+use Rattle.ini_interp.specs.Kept.{Kept, last_value, with_more}
 use Rattle.ini_interp.proofs.EntriesLemmas.{changed_is, unchanged_is, found_is}
 use Rattle.ini_interp.proofs.items.Items.extend.Goals as goal
 
@@ -16,7 +16,7 @@ returns-in_default-get_index_mut-clause-ok c =
     let more : List ℕ → List ℕ = λ v. v ++ 10 ∷ c.args.text.now in
     let same = unchanged_is more es c.self.inside.last c.in-Some.place c.in-Some.is c.in_default-get_index_mut.ensures.value in
     let made : record { items = by_bytes es; last = c.self.inside.last } ≡ with_more c.args.text.now (record { items = by_bytes es; last = c.self.inside.last }) =
-      λ i. record { items = same i; last = c.self.inside.last } in
+    λ i. record { items = same i; last = c.self.inside.last } in
     made ∙ ap (with_more c.args.text.now) c.self.view_is
 
 pub returns-clause-found : goal.returns-clause-found
@@ -30,8 +30,8 @@ returns-clause-ok c =
     let value = c.in-Some-get_index_mut.value.now in
     let more : List ℕ → List ℕ = λ v. v ++ 10 ∷ c.args.text.now in
     let pushed : c.push_str-2.new.self ≡ more value =
-      c.in_ok-push_str-2.ensures.ok ∙ ap (λ v. v ++ c.args.text.now) c.in_ok-push_str.ensures.ok ∙ append_assoc value (10 ∷ []) c.args.text.now in
+    c.in_ok-push_str-2.ensures.ok ∙ ap (λ v. v ++ c.args.text.now) c.in_ok-push_str.ensures.ok ∙ append_assoc value (10 ∷ []) c.args.text.now in
     let items = changed_is more es c.self.inside.last c.in-Some.place value c.push_str-2.new.self c.in-Some.is c.in-Some-get_index_mut.ensures.value pushed in
     let made : record { items = by_bytes (set_value_at es c.in-Some.place c.push_str-2.new.self); last = c.self.inside.last } ≡ with_more c.args.text.now (record { items = by_bytes es; last = c.self.inside.last }) =
-      λ i. record { items = items i; last = c.self.inside.last } in
+    λ i. record { items = items i; last = c.self.inside.last } in
     made ∙ ap (with_more c.args.text.now) c.self.view_is

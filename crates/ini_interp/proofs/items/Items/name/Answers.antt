@@ -1,4 +1,4 @@
-use Rattle.std.proofs.Common.{◌≡◌, ◌∙◌, ap, option_map, slice_get, string_bytes, ℕ}
+use Rattle.std.proofs.Common.{◌∙◌, ap, option_map, slice_get, string_bytes}
 use Rattle.ini_interp.proofs.EntriesLemmas.{name_at}
 use Rattle.ini_interp.specs.Kept.{Kept}
 use Rattle.ini_interp.proofs.items.Items.name.Goals as goal

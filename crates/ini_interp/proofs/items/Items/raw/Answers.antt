@@ -1,4 +1,4 @@
-use Rattle.std.proofs.Common.{◌≡◌, ◌∙◌, ◌≤◌, ◌+◌, suc, ap, sym, refl, length, drop, true, false, Some, None, string_bytes, add-one, arith, rules}
+use Rattle.std.proofs.Common.{◌≡◌, ◌∙◌, ◌≤◌, ap, sym, refl, length, true, false, Some, string_bytes, add-one, arith}
 use Rattle.std.proofs.lemmas.List.{drop_all}
 use Rattle.std.proofs.lemmas.Slice.Eq.{bytes_eq-Decides}
 use Rattle.std.specs.Str.{bytes_eq, str_to_ascii_lowercase}
@@ -39,7 +39,7 @@ returns-then-is_lowercase_of-2 c =
     let low = str_to_ascii_lowercase c.args.name.now in
     let es = c.self.inside.map.entries in
     let is : bytes_eq low (string_bytes c.in_ok-kept.kept.now) ≡ true =
-      ap (bytes_eq low) (sym c.as_str-in-loop-index.ensures.value) ∙ sym c.is_lowercase_of-in-loop-index.ensures ∙ c.if-is_lowercase_of-2.true in
+    ap (bytes_eq low) (sym c.as_str-in-loop-index.ensures.value) ∙ sym c.is_lowercase_of-in-loop-index.ensures ∙ c.if-is_lowercase_of-2.true in
     ap Some c.as_str-then-is_lowercase_of-2.ensures.value
     ∙ sym (found_at low es c.loop-index.index (c.in_ok-kept.kept.now, c.in_ok-kept.value.now) (sym c.in_ok-kept.ensures.entry) is)
     ∙ sym c.loop-index.invariant ∙ ap (λ (kept : Kept). value_of low kept.items) c.self.view_is
@@ -49,7 +49,7 @@ loop-index-preserved c =
     let low = str_to_ascii_lowercase c.args.name.now in
     let es = c.self.inside.map.entries in
     let other : bytes_eq low (string_bytes c.in_ok-kept.kept.now) ≡ false =
-      ap (bytes_eq low) (sym c.as_str-in-loop-index.ensures.value) ∙ sym c.is_lowercase_of-in-loop-index.ensures ∙ c.if-is_lowercase_of-2.false in
+    ap (bytes_eq low) (sym c.as_str-in-loop-index.ensures.value) ∙ sym c.is_lowercase_of-in-loop-index.ensures ∙ c.if-is_lowercase_of-2.false in
     c.loop-index.invariant ∙ rw add-one (passed_at low es c.loop-index.index (c.in_ok-kept.kept.now, c.in_ok-kept.value.now) (sym c.in_ok-kept.ensures.entry) other)
 
 pub returns : goal.returns

@@ -1,6 +1,6 @@
-use Rattle.std.proofs.Common.{◌≡◌, ◌∙◌, ap, ap₂, string_bytes, Some}
+use Rattle.std.proofs.Common.{◌≡◌, ◌∙◌, ap, string_bytes, Some}
 use Rattle.ini_interp.proofs.EntriesLemmas.{inserted_is, insert_place_is}
-use Rattle.ini_interp.specs.Kept.{Kept, with_item}
+use Rattle.ini_interp.specs.Kept.{with_item}
 use Rattle.ini_interp.specs.Entries.{by_bytes}
 use Rattle.ini_interp.proofs.items.Items.set.Goals as goal
 
