@@ -180,7 +180,8 @@ pub(crate) fn read_with_includes(
     ensures fault { IfErr result (λ fault. fault ≢ MergeError.NoMemory
         → read_at files.now [] path.now content.now ≡ Err fault) }
 {
-    let first = match opened(alloc, path.copy()?, content) {
+    let own = path.copy()?;
+    let first = match opened(alloc, own, content) {
         Ok(frame) => frame,
         Err(fault) => return Err(fault),
     };

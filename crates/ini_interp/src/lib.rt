@@ -14,6 +14,8 @@ mod joins;
 mod known;
 mod line;
 mod merge_error;
+#[cfg(test)]
+mod merge_tests;
 mod merges;
 mod names;
 mod parts;
@@ -21,6 +23,8 @@ mod sections;
 #[cfg(test)]
 mod tests;
 mod value_error;
+#[cfg(test)]
+mod value_tests;
 mod values;
 
 pub use error::IniError;

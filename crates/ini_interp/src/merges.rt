@@ -1,6 +1,7 @@
 //! The files of a base, merged.
-ghost use Rattle.std.specs.Prelude.{◌≡◌, ◌≢◌, Ok, Err, IfOk, IfErr};
-ghost use Rattle.ini_interp.specs.Merges.{merged};
+ghost use Rattle.std.specs.Prelude.{◌≡◌, ◌≢◌, ◌++◌, [], Ok, Err, IfOk, IfErr, OnOk};
+ghost use Rattle.ini_interp.specs.Frames.{IsKept};
+ghost use Rattle.ini_interp.specs.Merges.{base_file, base_files, files_ending, merged};
 
 use crate::file_table::FileTable;
 use crate::frames::read_with_includes;
@@ -10,7 +11,9 @@ use f2b_base::{NoMemory, Seq, Text, Tree};
 use std::alloc::Global;
 
 /// The files of a base, in the order in which they are read.
-fn base_files(alloc: Global, files: &FileTable<'_>, base: &str) -> Result<Seq<Text>, NoMemory> {
+fn base_files(alloc: Global, files: &FileTable<'_>, base: &str) -> Result<Seq<Text>, NoMemory>
+    ensures { IfOk result (λ paths. paths ≡ base_files files.now base.now) }
+{
     let mut paths = Seq::new(alloc);
     push_files_ending(alloc, files, base, ".conf", &mut paths)?;
     push_files_ending(alloc, files, base, ".local", &mut paths)?;
@@ -33,13 +36,32 @@ fn push_files_ending(
     base: &str,
     ending: &str,
     paths: &mut Seq<Text>,
-) -> Result<(), NoMemory> {
+) -> Result<(), NoMemory>
+    ensures { OnOk result (paths.new ≡ paths.old ++ files_ending files.now base.now ending.now) }
+{
     paths.push(appended(alloc, base, ending)?)?;
     if base == "jail" || base == "fail2ban" {
         let directory = appended(alloc, base, ".d/")?;
         files.push_paths(alloc, directory.as_str(), ending, paths)?;
     }
     Ok(())
+}
+
+/// Reads a file of the base with what it includes, where it is there.
+fn read_base_file(
+    alloc: Global,
+    files: &FileTable<'_>,
+    path: &Text,
+    sections: &mut Sections,
+) -> Result<(), MergeError>
+    ensures ok { OnOk result (IsKept (base_file files.now path.now) (Ok []) sections.old sections.new) }
+    ensures fault { IfErr result (λ fault. fault ≢ MergeError.NoMemory
+        → base_file files.now path.now ≡ Err fault) }
+{
+    match files.get(path.as_str()) {
+        Some(content) => read_with_includes(alloc, files, path, content, sections),
+        None => Ok(()),
+    }
 }
 
 /// What the files of a base come to.
@@ -54,10 +76,12 @@ pub fn merge(alloc: Global, tree: &Tree, base: &str) -> Result<Sections, MergeEr
     ensures fault { IfErr result (λ fault. fault ≢ MergeError.NoMemory → merged tree.now base.now ≡ Err fault) }
 {
     let files = FileTable::new(alloc, tree)?;
+    let paths = base_files(alloc, &files, base)?;
     let mut sections = Sections::new(alloc);
-    for path in base_files(alloc, &files, base)?.as_slice() {
-        if let Some(content) = files.get(path.as_str()) {
-            read_with_includes(alloc, &files, path, content, &mut sections)?;
+    for path in paths.as_slice() {
+        match read_base_file(alloc, &files, path, &mut sections) {
+            Ok(()) => (),
+            Err(fault) => return Err(fault),
         }
     }
     Ok(sections)
