@@ -3,6 +3,9 @@ use Rattle.std.proofs.Common.{◌≡◌, ℕ, ◌+◌, List, [], ◌∷◌, ◌+
 use Rattle.std.specs.List.{fold}
 use Rattle.f2b_base.specs.declared.outside.Tree.{Tree}
 use Rattle.ini_interp.specs.declared.merge_error.MergeError.{MergeError}
+use Rattle.ini_interp.specs.declared.merge_error.MergeError.TheVariants.{NoMemory}
+use Rattle.std.specs.Result.{IfOk, IfErr}
+use Rattle.std.proofs.Common.{◌≢◌}
 use Rattle.ini_interp.specs.Frames.{IsKept}
 use Rattle.ini_interp.specs.InTurn.{followed, in_turn}
 use Rattle.ini_interp.specs.Joins.{joined}
@@ -10,7 +13,7 @@ use Rattle.ini_interp.specs.Merges.{Files, Reading, files_of, all_read, base_fil
 use Rattle.ini_interp.specs.Sections.{Sections}
 use Rattle.ini_interp.proofs.FramesLemmas.{kept_on, kept_fault}
 use Rattle.ini_interp.proofs.PlacesLemmas.{drop_at_place}
-use Rattle.ini_interp.proofs.ValuesLemmas.{followed_assoc, followed-end}
+use Rattle.ini_interp.proofs.ValuesLemmas.{followed-nothing, followed-end}
 
 module _ (give : List ℕ → Reading) (whole : Reading) (paths : List (List ℕ)) (index : ℕ) (path : List ℕ) (old between : Sections)
     (there : Some path ≡ slice_get paths index) (kept : IsKept whole (in_turn give (drop index paths)) old between) where
@@ -39,14 +42,25 @@ pub merged_fault : (tree : Tree) (base : List ℕ) (files : Files) (fault : Merg
 unfolding merged all_read
 merged_fault tree base files fault is faulty = ap (λ (fs : Files). joined_all (all_read fs base)) (sym is) ∙ ap joined_all faulty
 
--- nothing is kept of no file
-pub nothing_kept : (whole : Reading) (old : Sections) → IsKept whole whole old old
-nothing_kept (Ok files) old = record { done = []; pending = refl; merged = refl }
-nothing_kept (Err fault) old = record { done = []; pending = refl; merged = refl }
+-- what is answered
+pub merged_answer : (tree : Tree) (base : List ℕ) (files : Files) (result : Result Sections MergeError) → files ≡ files_of tree →
+    IfOk result (λ (sections : Sections). IsKept (in_turn (base_file files) (base_files files base)) (Ok []) [] sections) →
+    IfOk result (λ (sections : Sections). merged tree base ≡ Ok sections)
+merged_answer tree base files (Ok sections) is kept = merged_is tree base files sections is kept
+merged_answer tree base files (Err fault) is kept = tt
 
-pub kept_same : (was now : Reading) (old : Sections) → was ≡ now → IsKept was now old old
-kept_same was now old same = record { done = []; pending = same ∙ sym (followed-none now); merged = refl }
-  where
-    followed-none : (r : Reading) → followed (Ok []) r ≡ r
-    followed-none (Ok files) = refl
-    followed-none (Err fault) = refl
+pub merged_failure : (tree : Tree) (base : List ℕ) (files : Files) (result : Result Sections MergeError) → files ≡ files_of tree →
+    IfErr result (λ (fault : MergeError). fault ≢ NoMemory → in_turn (base_file files) (base_files files base) ≡ Err fault) →
+    IfErr result (λ (fault : MergeError). fault ≢ NoMemory → merged tree base ≡ Err fault)
+merged_failure tree base files (Ok sections) is faulty = tt
+merged_failure tree base files (Err fault) is faulty = λ memory. merged_fault tree base files fault is (faulty memory)
+
+-- before the first file
+pub base_starts : (files : Files) (base : List ℕ) (paths items : List (List ℕ)) (new : Sections) → items ≡ paths → paths ≡ base_files files base → new ≡ [] →
+    IsKept (in_turn (base_file files) (base_files files base)) (in_turn (base_file files) (drop 0 items)) [] new
+base_starts files base paths items new seen is empty = record {
+  done = [];
+  pending =
+      ap (in_turn (base_file files)) (sym (seen ∙ is)) ∙ sym (followed-nothing (in_turn (base_file files) items));
+  merged = empty;
+}

@@ -1,6 +1,7 @@
 //! The files of a base, merged.
 ghost use Rattle.std.specs.Prelude.{◌≡◌, ◌≢◌, ◌++◌, [], Ok, Err, IfOk, IfErr, OnOk};
 ghost use Rattle.ini_interp.specs.Frames.{IsKept};
+ghost use Rattle.ini_interp.specs.InTurn.{in_turn};
 ghost use Rattle.ini_interp.specs.Merges.{base_file, base_files, files_ending, merged};
 
 use crate::file_table::FileTable;
@@ -64,6 +65,27 @@ fn read_base_file(
     }
 }
 
+/// Reads the files of a base, with what they include.
+fn read_base(
+    alloc: Global,
+    files: &FileTable<'_>,
+    base: &str,
+) -> Result<Sections, MergeError>
+    ensures ok { IfOk result (λ sections. IsKept (in_turn (base_file files.now) (base_files files.now base.now)) (Ok []) [] sections) }
+    ensures fault { IfErr result (λ fault. fault ≢ MergeError.NoMemory
+        → in_turn (base_file files.now) (base_files files.now base.now) ≡ Err fault) }
+{
+    let paths = base_files(alloc, files, base)?;
+    let mut sections = Sections::new(alloc);
+    for path in paths.as_slice() {
+        match read_base_file(alloc, files, path, &mut sections) {
+            Ok(()) => (),
+            Err(fault) => return Err(fault),
+        }
+    }
+    Ok(sections)
+}
+
 /// What the files of a base come to.
 ///
 /// For the bases `jail` and `fail2ban` these are read: `BASE.conf`, the files `BASE.d/*.conf` in byte order, `BASE.local`, and the
@@ -76,13 +98,5 @@ pub fn merge(alloc: Global, tree: &Tree, base: &str) -> Result<Sections, MergeEr
     ensures fault { IfErr result (λ fault. fault ≢ MergeError.NoMemory → merged tree.now base.now ≡ Err fault) }
 {
     let files = FileTable::new(alloc, tree)?;
-    let paths = base_files(alloc, &files, base)?;
-    let mut sections = Sections::new(alloc);
-    for path in paths.as_slice() {
-        match read_base_file(alloc, &files, path, &mut sections) {
-            Ok(()) => (),
-            Err(fault) => return Err(fault),
-        }
-    }
-    Ok(sections)
+    read_base(alloc, &files, base)
 }
