@@ -1,6 +1,17 @@
+pub mod Added
+pub mod Changes
 pub mod Entries
 pub mod Files
+pub mod Frames
+pub mod InTurn
+pub mod Joins
 pub mod Kept
+pub mod Known
 pub mod Lines
+pub mod Merges
+pub mod Parts
+pub mod Paths
+pub mod References
 pub mod Sections
 pub mod Seen
+pub mod Values

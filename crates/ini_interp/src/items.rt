@@ -4,6 +4,8 @@ ghost use Rattle.std.specs.Str.{bytes_eq, str_to_ascii_lowercase};
 ghost use Rattle.ini_interp.specs.Sections.{value_of};
 ghost use Rattle.ini_interp.specs.Kept.{with_item, with_more, last_value};
 
+mod entries;
+
 use f2b_base::{NoMemory, Text};
 use indexmap::IndexMap;
 use std::alloc::Global;

@@ -2,6 +2,8 @@
 ghost use Rattle.std.specs.Prelude.{◌≡◌, [], OnOk, OnErr, option_copied};
 ghost use Rattle.ini_interp.specs.Sections.{raw, with_raw, opened, section_at, item_at};
 
+mod entries;
+
 use crate::items::Items;
 use f2b_base::{NoMemory, Text};
 use indexmap::IndexMap;
