@@ -9,14 +9,7 @@ use Rattle.jiff_core.proofs.MarchLemmas.{day_count-early}
 use Rattle.jiff_core.proofs.CalendarLemmas.{days_from_civil-day_count, day_count-later_year, day_count-day_of_year, day_of_year_bound, day_count-lt_year, days_in_year_bounds}
 use borrow.Author.Differences.{up, down, le-true, le-false}
 use Rattle.date_detect.specs.Calendar.{year_up_to, first_back}
-
-option_or-none : (a b : Option ℤ) → is_some a ≡ false → option_or a b ≡ b
-option_or-none None b h = refl
-option_or-none (Some x) b h = absurd (true≢false h)
-
-option_or-some : (a b : Option ℤ) → is_some a ≡ true → option_or a b ≡ a
-option_or-some None b h = absurd (true≢false (sym h))
-option_or-some (Some x) b h = refl
+use Rattle.date_detect.proofs.OptionLemmas.{option_or-some, option_or-none}
 
 test_holds : (a b : ℤ) → a ≤ℤ b → int_le a b ≡ true
 test_holds a b h = go (int_le a b) refl where

@@ -1,5 +1,5 @@
 -- The date of a line, by the forms of a jail.
-use Rattle.std.specs.Prelude.{ℕ, ◌+◌, ◌≤◌, ◌==◌, ◌&&◌, ℤ, Bool, List, [], ◌∷◌, drop, slice_range, slice_index, length, nat_lt, Option, Some, None, is_none, option_and_then, option_map, if◌then◌else◌, IsCharBoundary}
+use Rattle.std.specs.Prelude.{ℕ, ◌+◌, ◌≤◌, ◌==◌, ◌&&◌, ℤ, Bool, false, List, [], ◌∷◌, drop, slice_range, Option, Some, None, is_none, option_and_then, option_map, if◌then◌else◌, IsCharBoundary}
 use Rattle.std.specs.Option.{option_or}
 use Rattle.f2b_world.specs.Matches.{numbered_in}
 use Rattle.f2b_world.specs.declared.pattern.spans.Cut.{Cut}
@@ -52,7 +52,8 @@ one_on found = record found { start = found.start + 1; end = found.end + 1 }
 
 -- the line begins with `[`
 abbrev pub has_bracket : List ℕ → Bool
-has_bracket line = nat_lt 0 (length line) && slice_index line 0 == 91
+has_bracket [] = false
+has_bracket (c ∷ line) = c == 91
 
 -- The date of a form in a line. A date that has to stand at the beginning may also stand right behind a `[` there, where the
 -- form has no match at the beginning itself.

@@ -1,15 +1,15 @@
 //! The dates of a jail, and how they are built.
 ghost use Rattle.std.specs.Prelude.{◌≡◌, ◌≢◌, Err, IfOk, string_bytes};
-ghost use Rattle.date_detect.specs.Forms.{framed, names_in, named_groups, usual_rule, own_rule, rule_of, texts, HasDatePattern, IsUsual};
+ghost use Rattle.date_detect.specs.Forms.{framed, usual_rule, own_rule, rule_of, texts, HasDatePattern, IsUsual};
 ghost use Rattle.date_detect.specs.Builds.{Builds, Makes};
 
 use crate::error::BuildError;
-use crate::form::{Form, Groups};
+use crate::form::Form;
+use crate::names::named_groups;
 use crate::pattern::expand;
 use crate::usual::UsualForm;
 use f2b_base::{DateSpec, NoMemory};
 use f2b_world::{Made, Pattern, Patterns};
-use regex_syntax::Config;
 use std::alloc::Global;
 use std::marker::Model;
 
@@ -53,35 +53,6 @@ fn framed(alloc: Global, anchored: bool, text: &str) -> Result<String, NoMemory>
         pattern.push_str(text)?;
     }
     Ok(pattern)
-}
-
-/// The number of the group with that name.
-fn number_of(names: &[Option<String>], name: &str) -> Option<usize> {
-    names
-        .iter()
-        .position(|given| matches!(given, Some(given) if given.as_str() == name))
-}
-
-/// The groups of a user's pattern, by their names. The text has to be a pattern, and so only memory can be missing.
-fn named_groups(alloc: Global, text: &str) -> Result<Groups, NoMemory>
-    ensures { IfOk result (λ groups. groups ≡ named_groups (names_in text.now)) }
-{
-    let Ok(parsed) = regex_syntax::parse(alloc, text, &Config::default()) else {
-        return Err(NoMemory);
-    };
-    let names = parsed.names.as_slice();
-    Ok(Groups {
-        year: number_of(names, "f2bY"),
-        short_year: number_of(names, "f2by"),
-        month: number_of(names, "f2bm"),
-        month_name: number_of(names, "f2bb"),
-        day: number_of(names, "f2bd"),
-        hour: number_of(names, "f2bH"),
-        minute: number_of(names, "f2bM"),
-        second: number_of(names, "f2bS"),
-        zone: number_of(names, "f2bz"),
-        moment: None,
-    })
 }
 
 /// Builds usual forms, in their order.

@@ -12,6 +12,7 @@ mod directive;
 mod error;
 mod fields;
 mod form;
+mod names;
 mod pattern;
 mod search;
 mod usual;

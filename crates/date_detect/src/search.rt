@@ -74,8 +74,9 @@ impl<'d> Searcher<'d> {
         ensures lies { IfSome result (LiesIn line.now) }
         ensures same { self.new ≡ self.old }
     {
-        for form in &mut self.forms {
-            let found = form.date(self.anchored, line, now, zone);
+        let anchored = self.anchored;
+        for form in self.forms.iter_mut() {
+            let found = form.date(anchored, line, now, zone);
             if found.is_some() {
                 return found;
             }
