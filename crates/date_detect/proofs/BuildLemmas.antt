@@ -116,10 +116,10 @@ module _ (anchored : Bool) (usual : List UsualForm) where
   text_take i = take-map _ i _ ∙ ap (map (λ (f : Form). f.pattern)) (take-map _ i usual)
 
 -- where each text has a reading, none is refused as Syntax
-pub never_syntax : (texts : List (List ℕ)) (outcome : Result Rule BuildError) (old new : Standing) → All (λ text. IsSome (reading text)) texts →
-    Builds texts outcome old new → outcome ≢ Err Syntax
-never_syntax texts outcome old new reads builds is =
-    let P : Result Rule BuildError → Type 0 = λ o. HasCause texts o old new in
+pub never_syntax : (all : List (List ℕ)) (outcome : Result Rule BuildError) (old new : Standing) → All (λ text. IsSome (reading text)) all →
+    Builds all outcome old new → outcome ≢ Err Syntax
+never_syntax all outcome old new reads builds is =
+    let P : Result Rule BuildError → Type 0 = λ o. HasCause all o old new in
     let cause = subst P is builds.cause in
-    let read = rw cause.1.2 at (All-get_or reads cause.1.0 cause.0 cause.1.1) in
+    let read = rw cause.1.2 at (reads cause.1.0 cause.0 cause.1.1) in
     absurd (true≢false (sym read ∙ ap is_some cause.2))

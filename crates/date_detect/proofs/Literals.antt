@@ -1,9 +1,10 @@
 -- The usual forms are patterns, at the beginning of a line and anywhere: their readings are computed.
-use Rattle.std.proofs.Common.{◌≡◌, Bool, true, false, All, IsSome, refl}
+use Rattle.std.proofs.Common.{List, [], ◌∷◌, Bool, true, false, All, IsSome, arith, refl}
+use Rattle.std.proofs.lemmas.List.Elements.{All-cons}
 use Rattle.regex.proofs.OnLiterals.{regex_on_literals}
 use Rattle.f2b_world.specs.Reading.{reading}
 use Rattle.date_detect.specs.Forms.{framed, usual_rule, texts}
-use Rattle.date_detect.specs.Usual.{usual_text, all_usual}
+use Rattle.date_detect.specs.Usual.{usual_text}
 use Rattle.date_detect.specs.declared.usual.UsualForm.{UsualForm}
 use Rattle.date_detect.specs.declared.usual.UsualForm.TheVariants.{Iso, Access, Ctime, Slashes, Syslog, Epoch}
 
@@ -22,13 +23,6 @@ usual_reads true Slashes = refl
 usual_reads true Syslog = refl
 usual_reads true Epoch = refl
 
-pub all_read : (anchored : Bool) → All (λ text. IsSome (reading text)) (texts (usual_rule anchored all_usual))
-all_read anchored = (
-  usual_reads anchored Iso,
-  usual_reads anchored Access,
-  usual_reads anchored Ctime,
-  usual_reads anchored Slashes,
-  usual_reads anchored Syslog,
-  usual_reads anchored Epoch,
-  tt,
-)
+pub all_read : (anchored : Bool) (usual : List UsualForm) → All (λ text. IsSome (reading text)) (texts (usual_rule anchored usual))
+all_read anchored [] = λ k d within. absurd (omega (arith, within))
+all_read anchored (form ∷ usual) = All-cons (λ text. IsSome (reading text)) (framed anchored (usual_text form)) _ (usual_reads anchored form) (all_read anchored usual)
