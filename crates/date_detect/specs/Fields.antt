@@ -100,7 +100,7 @@ moment_in None None now d = latest now d
 unfoldable pub day_time : Said → ℤ → Option DayTime
 day_time said zone =
     option_and_then (λ month. option_and_then (λ day. option_and_then (λ time. option_map (λ ahead.
-        let d : DayTime = record { month = month; day = day; time = time; zone = ahead } in d)
+    let d : DayTime = record { month = month; day = day; time = time; zone = ahead } in d)
     (zone_of zone said.zone)) (time_of said.hour said.minute said.second)) (option_and_then number said.day))
     (month_of said.month said.month_name)
 

@@ -176,12 +176,7 @@ fn whole_year(short: u16) -> u16
 }
 
 /// The moment of a day and a time in the year that is given, or in the latest that may be meant at `now`.
-fn moment_in(
-    year: Option<&str>,
-    short_year: Option<&str>,
-    now: u64,
-    date: DayTime,
-) -> Option<i64>
+fn moment_in(year: Option<&str>, short_year: Option<&str>, now: u64, date: DayTime) -> Option<i64>
     ensures { result ≡ moment_in (option_copied year.entry) (option_copied short_year.entry) now date }
 {
     if let Some(year) = year {

@@ -33,19 +33,25 @@ returns-in_err-push-clause-calls g c =
     let makes = rw text at c.in_ok-pattern.ensures in
     let have = have_more _ _ _ _ c.loop-form.invariant.1 _ c.in_ok-pattern.pattern makes in
     rw outcome (lacks _ (c.loop-form.form-index + 1) _ _
-    (rw (text_take c.args.anchored c.args.usual.now (c.loop-form.form-index + 1),
-      text_more c.args.anchored c.args.usual.now c.loop-form.form-index Iso c.loop-form-test.true) have))
+    (rw (
+      text_take c.args.anchored c.args.usual.now (c.loop-form.form-index + 1),
+      text_more c.args.anchored c.args.usual.now c.loop-form.form-index Iso c.loop-form-test.true,
+    ) have))
 
 pub loop-form-preserved : goal.loop-form-preserved
-loop-form-preserved g c = 
+loop-form-preserved g c =
     let text : c.as_str.result.now ≡ framed c.args.anchored (usual_text (get_or c.args.usual.now c.loop-form.form-index Iso)) =
     c.as_str.ensures.value ∙ c.in_ok-text.ensures ∙ ap (framed c.args.anchored) c.text.ensures in
-    let makes = rw text at c.in_ok-pattern.ensures in
-    (
-      rw (c.in_ok-push.ensures.items, makes.0, c.groups.ensures, c.loop-form.invariant.0,
-        form_more c.args.anchored c.args.usual.now c.loop-form.form-index Iso c.loop-form-test.true) refl,
+    let makes = rw text at c.in_ok-pattern.ensures in (
+      rw (
+        c.in_ok-push.ensures.items,
+        makes.0,
+        c.groups.ensures,
+        c.loop-form.invariant.0,
+        form_more c.args.anchored c.args.usual.now c.loop-form.form-index Iso c.loop-form-test.true,
+      ) refl,
       rw (text_more c.args.anchored c.args.usual.now c.loop-form.form-index Iso c.loop-form-test.true)
-      (have_more _ _ _ _ c.loop-form.invariant.1 _ c.in_ok-pattern.pattern makes),
+          (have_more _ _ _ _ c.loop-form.invariant.1 _ c.in_ok-pattern.pattern makes),
     )
 
 pub returns-clause-value : goal.returns-clause-value

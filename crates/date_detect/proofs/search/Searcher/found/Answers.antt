@@ -20,7 +20,7 @@ returns-then-is_some-clause-found c =
 pub returns-then-is_some-clause-same : goal.returns-then-is_some-clause-same
 returns-then-is_some-clause-same c =
     let kept = ap (set c.loop-form.form-items c.loop-form.form-index) c.date-found.ensures.same
-        ∙ set-get_or c.loop-form.form-items c.loop-form.form-index c.form-item.result in
+    ∙ set-get_or c.loop-form.form-items c.loop-form.form-index c.form-item.result in
     let value = c.deref_mut-form-items.ensures.value in
     rw (kept ∙ c.loop-form.invariant.0 ∙ value, with_items_is c.self.inside.forms c.self.inside.forms.items (ap length (sym value) ∙ c.deref_mut-form-items.ensures.len)) c.self.view_is
 
@@ -31,9 +31,9 @@ loop-form-preserved c =
     let none = ap is_some (sym found) ∙ sym c.is_some.ensures ∙ c.if-is_some.false in
     let within : c.loop-form.form-index < length c.loop-form.form-items = omega arith in
     let kept = ap (set c.loop-form.form-items c.loop-form.form-index) c.date-found.ensures.same
-        ∙ set-get_or c.loop-form.form-items c.loop-form.form-index c.form-item.result in
+    ∙ set-get_or c.loop-form.form-items c.loop-form.form-index c.form-item.result in
     let more = sym (first_date-more c.self.inside.anchored c.args.now c.args.zone c.args.line.now c.loop-form.form-items c.loop-form.form-index c.form-item.result within none)
-        ∙ (rw (to_z-of_z zone) at c.loop-form.invariant.1) in (
+    ∙ (rw (to_z-of_z zone) at c.loop-form.invariant.1) in (
       kept ∙ c.loop-form.invariant.0,
       rw (kept, to_z-of_z zone) more,
     )
