@@ -1,0 +1,8 @@
+pub mod Usual
+pub mod Directives
+pub mod Calendar
+pub mod Fields
+pub mod Texts
+pub mod Forms
+pub mod Dates
+pub mod Builds
