@@ -38,27 +38,36 @@ impl Patterns for Library {
     }
 }
 
-/// What a jail of a test is made of.
+/// What a jail of a test is made of. A list is given by lines; no line, no item.
 #[derive(Clone, Copy)]
 struct Parts<'p> {
     undated: bool,
-    pref: Option<&'p str>,
-    fail: &'p [&'p str],
-    ignore_lines: &'p [&'p str],
-    ignore: &'p [&'p str],
+    pref: &'p str,
+    fail: &'p str,
+    ignore_lines: &'p str,
+    ignore: &'p str,
 }
 
-fn texts(alloc: Global, list: &[&str]) -> Result<Seq<Text>, NoMemory> {
+/// Nothing but dates.
+const NONE: Parts<'static> = Parts {
+    undated: false,
+    pref: "",
+    fail: "",
+    ignore_lines: "",
+    ignore: "",
+};
+
+fn texts(alloc: Global, list: &str) -> Result<Seq<Text>, NoMemory> {
     let mut texts = Seq::new(alloc);
-    for text in list {
+    for text in list.lines() {
         texts.push(Text::from_str(alloc, text)?)?;
     }
     Ok(texts)
 }
 
-fn masks(alloc: Global, list: &[&str]) -> Result<Seq<Cidr>, Fail> {
+fn masks(alloc: Global, list: &str) -> Result<Seq<Cidr>, Fail> {
     let mut masks = Seq::new(alloc);
-    for text in list {
+    for text in list.lines() {
         masks.push(Cidr::read(text.as_bytes()).ok_or("no mask")?)?;
     }
     Ok(masks)
@@ -80,9 +89,10 @@ fn jail(alloc: Global, parts: Parts<'_>) -> Result<JailDef, Fail>
     } else {
         DateSpec::Epoch
     };
-    let pref = match parts.pref {
-        Some(text) => Some(Text::from_str(alloc, text)?),
-        None => None,
+    let pref = if parts.pref.is_empty() {
+        None
+    } else {
+        Some(Text::from_str(alloc, parts.pref)?)
     };
     Ok(JailDef {
         name: Text::from_str(alloc, "jail")?,

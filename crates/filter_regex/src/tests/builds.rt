@@ -1,22 +1,14 @@
 //! How filters are built, and what is refused.
 use super::*;
 
-const NONE: Parts<'static> = Parts {
-    undated: false,
-    pref: None,
-    fail: &[],
-    ignore_lines: &[],
-    ignore: &[],
-};
-
 #[test]
 fn refused_patterns(rt: HostRuntime) -> Result<(), Fail> {
     let alloc = rt.alloc();
     let rows = [
         (
             Parts {
-                pref: Some("("),
-                fail: &["("],
+                pref: "(",
+                fail: "(",
                 ..NONE
             },
             PatternPlace::Pref,
@@ -25,8 +17,8 @@ fn refused_patterns(rt: HostRuntime) -> Result<(), Fail> {
         ),
         (
             Parts {
-                pref: Some("a"),
-                fail: &["(?=x)<IP4>"],
+                pref: "a",
+                fail: "(?=x)<IP4>",
                 ..NONE
             },
             PatternPlace::Fail(1),
@@ -35,8 +27,8 @@ fn refused_patterns(rt: HostRuntime) -> Result<(), Fail> {
         ),
         (
             Parts {
-                fail: &["a", "b", "a{1000}{1000}{100}"],
-                ignore_lines: &["("],
+                fail: "a\nb\na{1000}{1000}{100}",
+                ignore_lines: "(",
                 ..NONE
             },
             PatternPlace::Fail(3),
@@ -45,8 +37,8 @@ fn refused_patterns(rt: HostRuntime) -> Result<(), Fail> {
         ),
         (
             Parts {
-                fail: &["a"],
-                ignore_lines: &["b", "("],
+                fail: "a",
+                ignore_lines: "b\n(",
                 ..NONE
             },
             PatternPlace::Ignore(2),
@@ -56,7 +48,7 @@ fn refused_patterns(rt: HostRuntime) -> Result<(), Fail> {
         (
             Parts {
                 undated: true,
-                ignore_lines: &["("],
+                ignore_lines: "(",
                 ..NONE
             },
             PatternPlace::Ignore(1),

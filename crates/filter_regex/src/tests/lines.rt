@@ -5,14 +5,12 @@ const NOW: u64 = 1_700_000_110;
 
 const SSHD: Parts<'static> = Parts {
     undated: false,
-    pref: Some(r"^\s*\S+ sshd(?:-session)?\[[0-9]+\]: <F-CONTENT>.+</F-CONTENT>$"),
-    fail: &[
-        r"^Failed \S+ for (?:invalid user )?<F-USER>.*</F-USER> from <HOST> port [0-9]+(?: ssh2)?$",
-        r"^Invalid user <F-USER>.*</F-USER> from <HOST>(?: port [0-9]+)?$",
-        r"^Connection closed by authenticating user <F-USER>.*</F-USER> <HOST> port [0-9]+ \[preauth\]$",
-    ],
-    ignore_lines: &["^ backup ", "for probe from"],
-    ignore: &["10.0.0.0/8", "::1"],
+    pref: r"^\s*\S+ sshd(?:-session)?\[[0-9]+\]: <F-CONTENT>.+</F-CONTENT>$",
+    fail: r"^Failed \S+ for (?:invalid user )?<F-USER>.*</F-USER> from <HOST> port [0-9]+(?: ssh2)?$
+^Invalid user <F-USER>.*</F-USER> from <HOST>(?: port [0-9]+)?$
+^Connection closed by authenticating user <F-USER>.*</F-USER> <HOST> port [0-9]+ \[preauth\]$",
+    ignore_lines: "^ backup \nfor probe from",
+    ignore: "10.0.0.0/8\n::1",
 };
 
 #[test]
@@ -81,9 +79,8 @@ fn times(rt: HostRuntime) -> Result<(), Fail> {
     let filter = filter(
         rt.alloc(),
         Parts {
-            pref: None,
-            fail: &["^ fail from <IP4>$"],
-            ..SSHD
+            fail: "^ fail from <IP4>$",
+            ..NONE
         },
     )?;
     let mut searcher = filter.searcher(rt.alloc())?;
@@ -133,10 +130,9 @@ fn times(rt: HostRuntime) -> Result<(), Fail> {
 fn ignored_addresses(rt: HostRuntime) -> Result<(), Fail> {
     let parts = Parts {
         undated: true,
-        pref: None,
-        fail: &["from <HOST>$"],
-        ignore_lines: &[],
-        ignore: &["10.0.0.0/8"],
+        fail: "from <HOST>$",
+        ignore: "10.0.0.0/8",
+        ..NONE
     };
     let mut filter = filter(rt.alloc(), parts)?;
     let rows = [
@@ -154,12 +150,25 @@ fn ignored_addresses(rt: HostRuntime) -> Result<(), Fail> {
             "{line}"
         );
     }
-    filter.set_ignore(rt.alloc(), &masks(rt.alloc(), &["11.0.0.0/8"])?)?;
+    filter.set_ignore(rt.alloc(), &masks(rt.alloc(), "11.0.0.0/8")?)?;
     let found = filter.found(rt.alloc(), "from 11.0.0.0", NOW, 600)?;
     assert_eq!(rt; found, Finding::IgnoredAddr(1));
     let found = filter.found(rt.alloc(), "from 10.0.0.0", NOW, 600)?;
     assert_eq!(rt; found, failure("10.0.0.0", NOW, 1)?);
     Ok(())
+}
+
+fn found(alloc: Global, pref: &str, line: &str) -> Result<Finding, Fail> {
+    let filter = filter(
+        alloc,
+        Parts {
+            undated: true,
+            pref,
+            fail: "^from <HOST>$",
+            ..NONE
+        },
+    )?;
+    Ok(filter.found(alloc, line, NOW, 600)?)
 }
 
 #[test]
@@ -189,21 +198,7 @@ fn prefixes(rt: HostRuntime) -> Result<(), Fail> {
         ),
     ];
     for (pref, line, finding) in rows {
-        let filter = filter(
-            rt.alloc(),
-            Parts {
-                undated: true,
-                pref: Some(pref),
-                fail: &["^from <HOST>$"],
-                ignore_lines: &[],
-                ignore: &[],
-            },
-        )?;
-        assert_eq!(rt;
-            filter.found(rt.alloc(), line, NOW, 600)?,
-            finding,
-            "{pref} at {line}"
-        );
+        assert_eq!(rt; found(rt.alloc(), pref, line)?, finding, "{pref} at {line}");
     }
     Ok(())
 }
