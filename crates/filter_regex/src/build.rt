@@ -33,8 +33,15 @@ impl Model for Filter {
 
     ghost Value = { Rules };
 
-    ghost view = { λ f. record { dates = f.dates; undated = f.undated; zone = f.zone; pref = f.pref; fail = f.fail.items;
-        ignore_lines = f.ignore_lines.items; ignore = f.ignore } };
+    ghost view = { λ f. record {
+      dates = f.dates;
+      undated = f.undated;
+      zone = f.zone;
+      pref = f.pref;
+      fail = f.fail.items;
+      ignore_lines = f.ignore_lines.items;
+      ignore = f.ignore;
+    } };
 
     ghost invariant = { λ f. (length f.fail.items < 2 ^ 32) × (length f.ignore_lines.items < 2 ^ 32) };
 }
@@ -81,8 +88,7 @@ impl Filter {
         let dates = made_dates(alloc, patterns, &jail.date)?;
         let pref = made_pref(alloc, patterns, &jail.pref)?;
         let fail = made_list(alloc, patterns, Role::Fail, jail.fail.as_slice())?;
-        let ignore_lines =
-            made_list(alloc, patterns, Role::Ignore, jail.ignore_lines.as_slice())?;
+        let ignore_lines = made_list(alloc, patterns, Role::Ignore, jail.ignore_lines.as_slice())?;
         let ignore = IgnoreSet::new(alloc, &jail.ignore)?;
         Ok(Filter {
             dates,

@@ -76,12 +76,7 @@ pub(crate) fn made_pref<P: Patterns>(
 {
     match pref {
         None => Ok(None),
-        Some(text) => Ok(Some(made_expanded(
-            alloc,
-            patterns,
-            PatternPlace::Pref,
-            text,
-        )?)),
+        Some(text) => Ok(Some(made_expanded(alloc, patterns, PatternPlace::Pref, text)?)),
     }
 }
 

@@ -45,10 +45,7 @@ pub(crate) fn rest_of<'l>(
 }
 
 /// The first pattern that matches, by its number from 1.
-pub(crate) fn first_match(
-    patterns: &mut Vec<Matcher<'_>>,
-    line: &str,
-) -> Option<Hit>
+pub(crate) fn first_match(patterns: &mut Vec<Matcher<'_>>, line: &str) -> Option<Hit>
     requires { length patterns.old.items < 2 ^ 32 }
     ensures found { result ≡ first_match 1 patterns.old.items line.now }
     ensures cuts { IfSome result (λ hit. AreHostCuts line.now hit.spans) }

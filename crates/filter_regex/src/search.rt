@@ -33,8 +33,15 @@ impl<'f> Model for Searcher<'f> {
 
     ghost Value = { Rules };
 
-    ghost view = { λ s. record { dates = s.dates; undated = s.undated; zone = s.zone; pref = s.pref; fail = s.fail.items;
-        ignore_lines = s.ignore_lines.items; ignore = s.ignore.now } };
+    ghost view = { λ s. record {
+      dates = s.dates;
+      undated = s.undated;
+      zone = s.zone;
+      pref = s.pref;
+      fail = s.fail.items;
+      ignore_lines = s.ignore_lines.items;
+      ignore = s.ignore.now;
+    } };
 
     ghost invariant = { λ s. (length s.fail.items < 2 ^ 32) × (length s.ignore_lines.items < 2 ^ 32) };
 }
@@ -110,13 +117,6 @@ impl<'f> Searcher<'f> {
             return Ok(Finding::Missed);
         };
         let host = host_in(text, hit.spans);
-        Ok(failure(
-            self.ignore,
-            now,
-            findtime,
-            moment,
-            hit.number,
-            host,
-        ))
+        Ok(failure(self.ignore, now, findtime, moment, hit.number, host))
     }
 }

@@ -2,8 +2,12 @@
 ghost use Rattle.std.specs.Prelude.{IfOk};
 ghost use Rattle.filter_regex.specs.Rules.{IsSupported};
 
+mod builds;
+mod hosts;
+mod lines;
+
 use super::*;
-use f2b_base::{Addr, BanRule, DateSpec, JailDef, NoMemory, Seq, Text};
+use f2b_base::{Addr, BanRule, Cidr, DateSpec, JailDef, NoMemory, Seq, Text};
 use f2b_world::{Made, Outside, Patterns, build_pattern};
 use std::alloc::Global;
 use std::test::*;
@@ -12,6 +16,8 @@ use std::test::*;
 #[derive(Drop)]
 struct Library {
     alloc: Global,
+    /// How many patterns it was asked for.
+    asked: u64,
 }
 
 impl Outside for Library {
@@ -22,6 +28,7 @@ impl Outside for Library {
 
 impl Patterns for Library {
     fn make(&mut self, text: &str) -> Made {
+        self.asked = self.asked.saturating_add(1);
         match build_pattern(self.alloc, text) {
             Made::Built(pattern) => Made::Built(pattern),
             Made::Syntax => Made::Syntax,
@@ -31,20 +38,71 @@ impl Patterns for Library {
     }
 }
 
-fn jail(alloc: Global, fail: &str) -> Result<JailDef, NoMemory>
+/// What a jail of a test is made of. A list is given by lines; no line, no item.
+#[derive(Clone, Copy)]
+struct Parts<'p> {
+    undated: bool,
+    pref: &'p str,
+    fail: &'p str,
+    ignore_lines: &'p str,
+    ignore: &'p str,
+}
+
+/// Nothing but dates.
+const NONE: Parts<'static> = Parts {
+    undated: false,
+    pref: "",
+    fail: "",
+    ignore_lines: "",
+    ignore: "",
+};
+
+fn texts(alloc: Global, list: &str) -> Result<Seq<Text>, NoMemory> {
+    let mut texts = Seq::new(alloc);
+    for text in list.lines() {
+        texts.push(Text::from_str(alloc, text)?)?;
+    }
+    Ok(texts)
+}
+
+fn masks(alloc: Global, list: &str) -> Result<Seq<Cidr>, Fail> {
+    let mut masks = Seq::new(alloc);
+    for text in list.lines() {
+        masks.push(Cidr::read(text.as_bytes()).ok_or("no mask")?)?;
+    }
+    Ok(masks)
+}
+
+fn jail(alloc: Global, parts: Parts<'_>) -> Result<JailDef, Fail>
     ensures { IfOk result IsSupported }
 {
-    let mut fails = Seq::new(alloc);
-    fails.push(Text::from_str(alloc, fail)?)?;
+    let fail = texts(alloc, parts.fail)?;
+    let ignore_lines = texts(alloc, parts.ignore_lines)?;
+    if fail.len() > 512 {
+        return Err(Fail::from("too many patterns"));
+    }
+    if ignore_lines.len() > 512 {
+        return Err(Fail::from("too many patterns"));
+    }
+    let date = if parts.undated {
+        DateSpec::NoDate
+    } else {
+        DateSpec::Epoch
+    };
+    let pref = if parts.pref.is_empty() {
+        None
+    } else {
+        Some(Text::from_str(alloc, parts.pref)?)
+    };
     Ok(JailDef {
         name: Text::from_str(alloc, "jail")?,
         watches: Seq::new(alloc),
         zone: 0,
-        date: DateSpec::Epoch,
-        pref: None,
-        fail: fails,
-        ignore_lines: Seq::new(alloc),
-        ignore: Seq::new(alloc),
+        date,
+        pref,
+        fail,
+        ignore_lines,
+        ignore: masks(alloc, parts.ignore)?,
         findtime: 600,
         maxretry: 3,
         maxmatches: 10,
@@ -60,89 +118,12 @@ fn jail(alloc: Global, fail: &str) -> Result<JailDef, NoMemory>
     })
 }
 
-fn filter(alloc: Global, fail: &str) -> Result<Filter, Fail> {
-    let mut library = Library { alloc };
-    Ok(Filter::build(alloc, &mut library, &jail(alloc, fail)?)?)
+fn filter(alloc: Global, parts: Parts<'_>) -> Result<Filter, Fail> {
+    let mut library = Library { alloc, asked: 0 };
+    Ok(Filter::build(alloc, &mut library, &jail(alloc, parts)?)?)
 }
 
-fn failure(addr: Addr, time: u64) -> Finding {
-    Finding::Failure {
-        addr,
-        time,
-        index: 1,
-    }
-}
-
-#[test]
-fn worked_lines(rt: HostRuntime) -> Result<(), Fail> {
-    let seven = Addr::V4(0xC000_0207);
-    let first = filter(rt.alloc(), "^ fail from <IP4>$")?;
-    let mut searcher = first.searcher(rt.alloc())?;
-    let line = "1700000100 fail from 192.0.2.7";
-    let rows = [
-        (line, 1_700_000_110, failure(seven, 1_700_000_100)),
-        ("no date", 1_700_000_110, Finding::NoDate),
-        ("1700000100 ok", 1_700_000_110, Finding::Missed),
-        (
-            "1700000100 fail from 999.1.1.1",
-            1_700_000_110,
-            Finding::NameOnly(1),
-        ),
-        (line, 1_700_000_699, failure(seven, 1_700_000_100)),
-        (line, 1_700_000_700, Finding::TooOld(1)),
-        (line, 1_700_000_090, failure(seven, 1_700_000_090)),
-    ];
-    for (line, now, finding) in rows {
-        assert_eq!(rt; searcher.found(line, now, 600)?, finding, "{line} at {now}");
-    }
-    Ok(())
-}
-
-#[test]
-fn dates_are_taken_out_and_hosts_may_have_names(rt: HostRuntime) -> Result<(), Fail> {
-    let filter = filter(rt.alloc(), "^a  fail from <HOST>$")?;
-    let rows = [
-        (
-            "a 1700000100.25 fail from 192.0.2.7",
-            failure(Addr::V4(0xC000_0207), 1_700_000_100),
-        ),
-        (
-            "a 1700000100 fail from ::ffff:192.0.2.7",
-            failure(Addr::V4(0xC000_0207), 1_700_000_100),
-        ),
-        (
-            "a 1700000100 fail from [::7]",
-            failure(Addr::V6(7), 1_700_000_100),
-        ),
-        ("a 1700000100 fail from example.org", Finding::NameOnly(1)),
-    ];
-    for (line, finding) in rows {
-        assert_eq!(rt;
-            filter.found(rt.alloc(), line, 1_700_000_110, 600)?,
-            finding,
-            "{line}"
-        );
-    }
-    Ok(())
-}
-
-#[test]
-fn refused_patterns(rt: HostRuntime) -> Result<(), Fail> {
-    let mut library = Library { alloc: rt.alloc() };
-    for (text, kind) in [
-        ("(?=x)<IP4>", BuildKind::Syntax),
-        ("a{1000}{1000}{100}", BuildKind::TooBig),
-    ] {
-        let error = Filter::build(rt.alloc(), &mut library, &jail(rt.alloc(), text)?)
-            .err()
-            .ok_or("not refused")?;
-        assert_eq!(rt;
-            error,
-            PatternError::Refused {
-                place: PatternPlace::Fail(1),
-                kind
-            }
-        );
-    }
-    Ok(())
+fn failure(text: &str, time: u64, index: u32) -> Result<Finding, Fail> {
+    let addr = Addr::read(text.as_bytes()).ok_or("no address")?;
+    Ok(Finding::Failure { addr, time, index })
 }

@@ -85,4 +85,3 @@ returns-clause-found c =
     rw (c.failure.ensures, moment, c.host_in-host.ensures, ← c.self.view_is)
     (failed all _ _ _ _ _ date c.in_ok-rest.ensures c.in_default.ensures.found _ c.in-Some-moment_of.ensures _
     c.in-Some-content.ensures.found _ c.in-Some-first_match.ensures.found)
-

@@ -1,0 +1,68 @@
+//! How filters are built, and what is refused.
+use super::*;
+
+#[test]
+fn refused_patterns(rt: HostRuntime) -> Result<(), Fail> {
+    let alloc = rt.alloc();
+    let rows = [
+        (
+            Parts {
+                pref: "(",
+                fail: "(",
+                ..NONE
+            },
+            PatternPlace::Pref,
+            BuildKind::Syntax,
+            2,
+        ),
+        (
+            Parts {
+                pref: "a",
+                fail: "(?=x)<IP4>",
+                ..NONE
+            },
+            PatternPlace::Fail(1),
+            BuildKind::Syntax,
+            3,
+        ),
+        (
+            Parts {
+                fail: "a\nb\na{1000}{1000}{100}",
+                ignore_lines: "(",
+                ..NONE
+            },
+            PatternPlace::Fail(3),
+            BuildKind::TooBig,
+            4,
+        ),
+        (
+            Parts {
+                fail: "a",
+                ignore_lines: "b\n(",
+                ..NONE
+            },
+            PatternPlace::Ignore(2),
+            BuildKind::Syntax,
+            4,
+        ),
+        (
+            Parts {
+                undated: true,
+                ignore_lines: "(",
+                ..NONE
+            },
+            PatternPlace::Ignore(1),
+            BuildKind::Syntax,
+            1,
+        ),
+    ];
+    for (parts, place, kind, asked) in rows {
+        let mut library = Library { alloc, asked: 0 };
+        let error = Filter::build(alloc, &mut library, &jail(alloc, parts)?)
+            .err()
+            .ok_or("not refused")?;
+        assert_eq!(rt; error, PatternError::Refused { place, kind });
+        assert_eq!(rt; library.asked, asked);
+    }
+    Ok(())
+}
