@@ -10,6 +10,7 @@ pub mod NameLemmas
 pub mod LawLemmas
 pub mod ToldLemmas
 pub mod NumberLemmas
+pub mod WatchLemmas
 pub mod WindowLemmas
 pub mod StandLemmas
 pub mod PartLemmas

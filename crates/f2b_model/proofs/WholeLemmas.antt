@@ -3,6 +3,7 @@ use Rattle.std.proofs.Common.{◌≡◌, Bool, true, false, ◌||◌, None, List
 use Rattle.f2b_base.specs.declared.addr.Addr.{Addr}
 use Rattle.f2b_base.specs.declared.input.Input.{Input}
 use Rattle.f2b_base.specs.declared.job.LaneId.{LaneId}
+use Rattle.f2b_base.specs.declared.view.View.{View}
 use Rattle.f2b_model.specs.declared.jail_now.JailNow.{JailNow}
 use Rattle.f2b_model.specs.Active.{held}
 use Rattle.f2b_model.specs.Jobs.{pending, settled, head}
@@ -138,10 +139,28 @@ view_sound s sound = record { sound = back_sound s sound; same = view_again s so
 pub view_later : (s : State) (inputs : List Input) → AllOf IsFit inputs → IsSound s → view_of (steps (back (view_of s)) inputs) ≡ view_of (steps s inputs)
 view_later s inputs fit sound = ap spread (nows_alike (back (view_of s)) s inputs fit (back_sound s sound) sound (now_back s sound))
 
+-- equal views are of equal middle states
+same_now : (n m : Now) → spread n ≡ spread m → n ≡ m
+same_now n m same = sym (gathered_spread n) ∙ ap gathered same ∙ gathered_spread m
+
 pub told_alike : (s t : State) (input : Input) → IsFit input → IsSound s → IsSound t → view_of s ≡ view_of t → told s input ≡ told t input
 told_alike s t input fit ss st same =
-    let now : now_of s ≡ now_of t = sym (gathered_spread (now_of s)) ∙ ap gathered same ∙ gathered_spread (now_of t) in
-    whole_tells s input fit ss ∙ ap (λ (n : Now). told_now n input) now ∙ sym (whole_tells t input fit st)
+    whole_tells s input fit ss ∙ ap (λ (n : Now). told_now n input) (same_now (now_of s) (now_of t) same) ∙ sym (whole_tells t input fit st)
+
+pub view_taken : (s : State) (n : Now) (input : Input) → IsFit input → IsSound s → view_of s ≡ spread n → view_of (step s input) ≡ spread (step_now n input)
+view_taken s n input fit sound same = ap spread (whole_shows s input fit sound ∙ ap (λ (m : Now). step_now m input) (same_now (now_of s) n same))
+
+now_of_back : (v : View) → IsSoundView v → now_of (back v) ≡ gathered v
+now_of_back v is = sym (gathered_spread (now_of (back v))) ∙ ap gathered is.same
+
+pub view_kept : (v : View) → IsSoundView v → spread (gathered v) ≡ v
+view_kept v is = ap spread (sym (now_of_back v is)) ∙ is.same
+
+pub kept_sound : (v : View) (input : Input) → IsFit input → IsSoundView v → IsSoundView (spread (step_now (gathered v) input))
+kept_sound v input fit is =
+    let after : view_of (step (back v) input) ≡ spread (step_now (gathered v) input) =
+    ap spread (whole_shows (back v) input fit is.sound ∙ ap (λ (n : Now). step_now n input) (now_of_back v is)) in
+    subst IsSoundView after (view_sound (step (back v) input) (whole_keeps (back v) input fit is.sound))
 
 -- ---- from the empty state
 

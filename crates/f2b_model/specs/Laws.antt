@@ -1,10 +1,13 @@
 -- What is proved of the model.
-use Rattle.std.specs.Prelude.{◌≡◌, ℕ, ◌+◌, ◌-◌, ◌*◌, ◌<◌, ◌≤◌, ◌↔◌, true, false, List, [], ◌∷◌, ◌++◌, length, filter, None}
+use Rattle.std.specs.Prelude.{◌≡◌, ℕ, ◌+◌, ◌-◌, ◌*◌, ◌<◌, ◌≤◌, ◌↔◌, true, false, List, [], ◌∷◌, ◌++◌, length, filter, map, None}
 use Rattle.f2b_base.specs.declared.addr.Addr.{Addr}
 use Rattle.f2b_base.specs.declared.ban.Failure.{Failure}
 use Rattle.f2b_base.specs.declared.input.Input.{Input}
 use Rattle.f2b_base.specs.declared.jail.Defs.{Defs}
+use Rattle.f2b_base.specs.declared.jail.WatchDef.{WatchDef}
+use Rattle.f2b_base.specs.declared.view.WatchView.{WatchView}
 use Rattle.f2b_base.specs.declared.job.LaneId.{LaneId}
+use Rattle.f2b_base.specs.declared.view.View.{View}
 use Rattle.f2b_model.specs.declared.jail_now.JailNow.{JailNow}
 use Rattle.f2b_model.specs.Lists.{AllOf, placed}
 use Rattle.f2b_model.specs.Full.{IsFull, IsFullByChoice, is_full, is_late}
@@ -18,13 +21,21 @@ use Rattle.f2b_model.specs.Active.{held}
 use Rattle.f2b_model.specs.LaneSound.{IsBanStep, is_banned_in}
 use Rattle.f2b_model.specs.Jobs.{pending, settled, head}
 use Rattle.f2b_model.specs.Turns.{bans_and_unbans, Alternate, last_is_ban}
-use Rattle.f2b_model.specs.Views.{view_of, back, empty_view}
-use Rattle.f2b_model.specs.Whole.{State, now_of, step, steps, step_now, told, told_now, empty_state}
+use Rattle.f2b_model.specs.Views.{spread, gathered, view_of, back, empty_view}
+use Rattle.f2b_model.specs.Whole.{State, Now, now_of, step, steps, step_now, told, told_now, empty_state}
 use Rattle.f2b_model.specs.Windows.{IsRising, IsFullBy, HasRun}
 
 -- in each jail the serials of the active bans rise, and all are below the next one
 abbrev pub AreNumbered : JailsNow → Type 0
 AreNumbered n = AllOf (λ (j : JailNow). IsNumbered n.next_ban j.bans) n.jails
+
+-- the watches have the paths of these definitions, in their order
+pub record IsWatched (ds : List WatchDef) (ws : List WatchView) : Type 0 where
+  pub same : map (λ (w : WatchView). w.path) ws ≡ map (λ (d : WatchDef). d.path) ds
+
+-- each jail watches just the paths of its definition
+abbrev pub AreWatched : JailsNow → Type 0
+AreWatched n = AllOf (λ (j : JailNow). IsWatched j.definition.watches j.watches) n.jails
 
 pub record JailsLaw : Type 0 where
   -- the step of a state is seen in the middle state as its step, and tells the same
@@ -43,7 +54,9 @@ pub record JailsLaw : Type 0 where
   -- what a step tells leads from the active bans before it to those after it: so lanes can follow it
   pub leads : (s : JailsState) (input : Input) → is_spent s ≡ false → IsFit input → AreSoundJails s
       → IsBanStep input.what (held moves s) (held moves (at_reading moves input.secs s)) (held moves (jails_step s input)) (jails_told moves s input)
+  -- bans stay numbered, and paths watched
   pub numbered : (n : JailsNow) (input : Input) → AreNumbered n → AreNumbered (jails_step_now n input)
+  pub watched : (n : JailsNow) (input : Input) → AreWatched n → AreWatched (jails_step_now n input)
 
 pub record FullLaw : Type 0 where
   -- full by choice is full by spans, and the test decides it
@@ -74,6 +87,11 @@ pub record WholeLaw : Type 0 where
   pub shown : (s : State) → IsSound s → IsSoundView (view_of s)
   -- whatever comes, the state that a view gives back goes on as the state that it was taken of: many runs are one
   pub later : (s : State) (inputs : List Input) → AllOf IsFit inputs → IsSound s → view_of (steps (back (view_of s)) inputs) ≡ view_of (steps s inputs)
+  -- a middle state that has a sound state's view steps as that state does: so code keeps the middle state alone
+  pub taken : (s : State) (n : Now) (input : Input) → IsFit input → IsSound s → view_of s ≡ spread n → view_of (step s input) ≡ spread (step_now n input)
+  -- a sound view is that of the middle state that it gives back, and stays sound
+  pub kept_view : (v : View) → IsSoundView v → spread (gathered v) ≡ v
+  pub kept_sound : (v : View) (input : Input) → IsFit input → IsSoundView v → IsSoundView (spread (step_now (gathered v) input))
   -- what a step tells depends on the view alone
   pub told_alike : (s t : State) (input : Input) → IsFit input → IsSound s → IsSound t → view_of s ≡ view_of t → told s input ≡ told t input
   -- over all jobs that were ever made, the bans and unbans of an address in a lane alternate, beginning with a ban

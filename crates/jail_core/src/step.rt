@@ -11,7 +11,7 @@ use f2b_model::{Happening, JailNow};
 use std::alloc::Global;
 use std::marker::Model;
 
-/// The state of the server's failures and bans.
+/// The state of the server's jails.
 #[derive(Drop)]
 pub struct Core {
     at: u64,
@@ -80,7 +80,7 @@ impl Core {
     }
 
     /// Takes an input, and tells what it did, in order: bans that ended by time, and then, failure by failure, that it counted and
-    /// the ban that began.
+    /// the ban that began. What was read of a log that the jail does not watch is not taken.
     pub fn take(self, alloc: Global, input: &Input) -> Result<(Core, Seq<Happening>), NoMemory>
         requires { IsTaken input.now.what }
         ensures core { IfOk result (λ r. r.0 ≡ jails_step_now self input.now) }

@@ -1,6 +1,6 @@
 use Rattle.std.proofs.Common.{refl}
 use Rattle.f2b_model.specs.LaneSound.{never}
-use Rattle.f2b_model.proofs.WholeLemmas.{whole_shows, whole_keeps, whole_tells, view_again, back_sound, view_sound, view_later, told_alike, empty_sound, all_alternate, all_settled}
+use Rattle.f2b_model.proofs.WholeLemmas.{whole_shows, whole_keeps, whole_tells, view_again, back_sound, view_sound, view_later, view_taken, view_kept, kept_sound, told_alike, empty_sound, all_alternate, all_settled}
 use Rattle.f2b_model.proofs.laws.whole_law.Goals as goal
 
 pub returns : goal.returns
@@ -14,6 +14,9 @@ returns c = record {
   again_sound = back_sound;
   shown = view_sound;
   later = view_later;
+  taken = view_taken;
+  kept_view = view_kept;
+  kept_sound = kept_sound;
   told_alike = told_alike;
   alternate = all_alternate;
   settled = all_settled;
