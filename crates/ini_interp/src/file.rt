@@ -2,7 +2,7 @@
 ghost use Rattle.std.specs.Prelude.{◌≡◌, [], None, Some, Ok, Err, IfOk, IfErr, OnOk, MatchResult, is_some, map};
 ghost use Rattle.std.specs.Str.{str_to_ascii_lowercase};
 ghost use Rattle.std.specs.Str.Lines.{lines};
-ghost use Rattle.ini_interp.specs.Files.{file_of, meaning_of, UnlessNoMemory};
+ghost use Rattle.ini_interp.specs.Files.{file_of, meaning_of, UnlessNoMemory, IsFirstIllFormed};
 ghost use Rattle.ini_interp.specs.Kept.{with_open, with_changed, with_item, with_more, with_line, open_kept, open_value, fault_of, without_last};
 ghost use Rattle.ini_interp.specs.Lines.{form_of};
 ghost use Rattle.ini_interp.specs.Seen.{form};
@@ -130,12 +130,24 @@ fn read_text(alloc: Global, text: &str) -> Result<Sections, IniError>
     Ok(Sections::from(reader.map))
 }
 
-/// What the bytes of a configuration file mean.
+/// What the bytes of a configuration file mean, in time proportional to their number.
 ///
-/// The bytes are UTF-8. A line ends at LF, and one CR before it is dropped; lines count from 1.
+/// The bytes are UTF-8, and a blank is a space or a tab. A line ends at LF, and one CR before it is dropped. Of each line:
+///
+/// 1. One of blanks says nothing, nor does one whose first byte that is no blank is `#` or `;`. In any other what follows from a `;` on
+///    that has a blank before it is dropped, then the blanks at the end.
+/// 2. One that begins with a blank continues the value of the item that was read last in its section, joined by LF.
+/// 3. One that begins with `[` and holds `]` opens the section named between that `[` and the first `]`. A section that is named again
+///    goes on.
+/// 4. Any other is an item, whose name and value the first `=` or `:` divides; blanks around them are dropped. The name is kept in ASCII
+///    lower case. A later value of a name replaces an earlier one, and the item keeps its place.
+///
+/// The error is the first fault: [`IniError::NotUtf8`] before all others, which come by line, from 1. A line without a name and a
+/// divider is no item, so it is [`IniError::NoDelimiter`] also where no section is open.
 pub fn read_file(alloc: Global, bytes: &[u8]) -> Result<Sections, IniError>
     ensures sections { IfOk result (λ sections. file_of bytes.now ≡ Ok sections) }
     ensures fault { IfErr result (λ e. UnlessNoMemory e (file_of bytes.now ≡ Err e)) }
+    ensures place { IfErr result (IsFirstIllFormed bytes.now) }
 {
     match str::from_utf8(bytes) {
         Ok(text) => read_text(alloc, text),
