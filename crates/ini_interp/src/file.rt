@@ -20,7 +20,7 @@ use std::marker::Model;
 #[derive(Drop)]
 struct Reader {
     map: IndexMap<String, Items>,
-    open: Option<usize>,
+    current: Option<usize>,
 }
 
 impl Model for Reader {
@@ -29,7 +29,7 @@ impl Model for Reader {
 
     ghost Value = { Read };
 
-    ghost view = { λ r. record { sections = by_bytes r.map.entries; at = r.open } };
+    ghost view = { λ r. record { sections = by_bytes r.map.entries; at = r.current } };
 }
 
 impl Reader {
@@ -38,7 +38,7 @@ impl Reader {
     {
         Reader {
             map: IndexMap::new(alloc),
-            open: None,
+            current: None,
         }
     }
 
@@ -47,13 +47,13 @@ impl Reader {
         ensures { OnOk result (self.new ≡ with_open section.now self.old) }
     {
         if let Some(place) = self.map.get_index_of(section) {
-            self.open = Some(place);
+            self.current = Some(place);
             return Ok(());
         }
         let alloc = *self.map.allocator();
         let name = String::from_str(alloc, section)?;
         let (place, _) = self.map.insert_full(name, Items::new(alloc))?;
-        self.open = Some(place);
+        self.current = Some(place);
         Ok(())
     }
 
@@ -65,7 +65,7 @@ impl Reader {
         let alloc = *self.map.allocator();
         let name = name.to_ascii_lowercase(alloc)?;
         let value = Text::from_str(alloc, value)?;
-        let Some(place) = self.open else {
+        let Some(place) = self.current else {
             return Ok(false);
         };
         let Some(items) = self.map.get_index_mut(place) else {
@@ -80,7 +80,7 @@ impl Reader {
         ensures found { IfOk result (λ found. found ≡ is_some (open_value self.old)) }
         ensures ok { OnOk result (self.new ≡ with_changed (with_more text.now) self.old) }
     {
-        let Some(place) = self.open else {
+        let Some(place) = self.current else {
             return Ok(false);
         };
         let Some(items) = self.map.get_index_mut(place) else {
