@@ -1,6 +1,7 @@
 -- The lines that are still to come.
-use Rattle.std.proofs.Common.{◌≡◌, ℕ, zero, suc, ◌+◌, ◌==◌, ◌≤◌, Bool, true, false, cond, List, [], ◌∷◌, ◌++◌, length, map, drop, Option, None, Some, Ok, Err, refl, sym, ap, ap₂, subst, ne_eqb, ◌∙◌, add-one, arith}
+use Rattle.std.proofs.Common.{◌≡◌, ℕ, zero, suc, ◌+◌, ◌==◌, ◌≤◌, Bool, true, false, is_none, cond, List, [], ◌∷◌, ◌++◌, length, map, drop, Option, None, Some, Ok, Err, refl, sym, ap, ap₂, subst, ne_eqb, ◌∙◌, add-one, arith}
 use Rattle.std.proofs.lemmas.Bool.{false_from_ne_true}
+use Rattle.std.proofs.lemmas.Option.{none-some}
 use Rattle.std.proofs.lemmas.Str.{is_utf8-from_IsUtf8, IsUtf8-from_is_utf8}
 use Rattle.std.specs.Iterator.{AlwaysYields}
 use Rattle.std.specs.List.{slice_split, onto_first}
@@ -9,8 +10,9 @@ use Rattle.std.specs.Str.Lines.{lines, lines_of_parts}
 use Rattle.std.specs.Str.Lossy.{utf8_valid_len}
 use Rattle.ini_interp.specs.declared.error.IniError.{IniError}
 use Rattle.ini_interp.specs.declared.error.IniError.TheVariants.{NoSection, NoDelimiter, Indent, NotUtf8, NoMemory}
-use Rattle.ini_interp.specs.Files.{fault, first_fault, or_else, meaning_of, unless_at_fault, sections_of, file_of, UnlessNoMemory}
-use Rattle.ini_interp.specs.Lines.{Form, form_of}
+use Rattle.ini_interp.specs.Files.{fault, first_fault, or_else, meaning_of, unless_at_fault, sections_of, file_of, UnlessNoMemory, IsFirstIllFormed, entries, open_lines, open_section}
+use Rattle.ini_interp.specs.Lines.{Form, Nothing, Opens, Continues, Sets, Broken, form_of}
+use Rattle.ini_interp.proofs.Named.{some_value}
 
 drop-suc : {A : Type 0} (k : ℕ) (xs : List A) → drop (suc k) xs ≡ drop 1 (drop k xs)
 drop-suc zero xs = refl
@@ -99,3 +101,42 @@ unfolding file_of
 file_not_text bytes no_text =
     ap (λ b. cond b (meaning_of (map form_of (lines bytes))) (Err (NotUtf8 (utf8_valid_len bytes))))
     (false_from_ne_true (is_utf8 bytes) (λ is. no_text (IsUtf8-from_is_utf8 bytes is)))
+
+-- The faults of lines are no faults of bytes.
+
+none_is_none : {A : Type 0} (test : Bool) (error other : A) → (error ≡ other → ⊥) → cond test (Some error) None ≡ Some other → ⊥
+none_is_none true error other differ is = differ (some_value error other is)
+none_is_none false error other differ is = none-some _ is
+
+fault_of_line : (before : List Form) (line : Form) (place : ℕ) → fault before line ≡ Some (NotUtf8 place) → ⊥
+fault_of_line before Nothing place is = none-some _ is
+fault_of_line before (Opens section) place is = none-some _ is
+fault_of_line before (Continues value) place is =
+    none_is_none (length (entries (open_lines before)) == 0) (Indent (length before + 1)) (NotUtf8 place) (λ same. cc) is
+fault_of_line before (Sets name value) place is = none_is_none (is_none (open_section before)) (NoSection (length before + 1)) (NotUtf8 place) (λ same. cc) is
+fault_of_line before Broken place is = let same = some_value (NoDelimiter (length before + 1)) (NotUtf8 place) is in cc
+
+first_of_line : (before rest : List Form) (place : ℕ) → first_fault before rest ≡ Some (NotUtf8 place) → ⊥
+first_of_line before [] place is = none-some _ is
+first_of_line before (line ∷ rest) place is = by (fault before line) refl is (first_of_line (before ++ line ∷ []) rest place)
+  where
+    by : (o : Option IniError) → fault before line ≡ o → or_else o (first_fault (before ++ line ∷ []) rest) ≡ Some (NotUtf8 place) →
+        (first_fault (before ++ line ∷ []) rest ≡ Some (NotUtf8 place) → ⊥) → ⊥
+    by None here is later = later is
+    by (Some error) here is later = fault_of_line before line place (here ∙ is)
+
+meaning_of_lines : (lines : List Form) (place : ℕ) → meaning_of lines ≡ Err (NotUtf8 place) → ⊥
+unfolding meaning_of
+meaning_of_lines lines place is = by (first_fault [] lines) refl is
+  where
+    by : (o : Option IniError) → first_fault [] lines ≡ o → unless_at_fault lines o ≡ Err (NotUtf8 place) → ⊥
+    by None none is = cc
+    by (Some error) here is = let same : error ≡ NotUtf8 place = cc in first_of_line [] lines place (here ∙ ap Some same)
+
+-- so they say nothing of bytes
+pub well_formed : (bytes : List ℕ) (lines : List Form) (error : IniError) → UnlessNoMemory error (meaning_of lines ≡ Err error) → IsFirstIllFormed bytes error
+well_formed bytes lines (NoSection line) claim = tt
+well_formed bytes lines (NoDelimiter line) claim = tt
+well_formed bytes lines (Indent line) claim = tt
+well_formed bytes lines (NotUtf8 place) claim = absurd (meaning_of_lines lines place claim)
+well_formed bytes lines NoMemory claim = tt

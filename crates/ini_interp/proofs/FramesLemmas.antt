@@ -119,6 +119,7 @@ module _ (files : Files) where
     where
       same : (xs ys : List ℕ) → Some xs ≡ Some ys → steps_in (file_of xs) ≡ steps_in (file_of ys)
       same xs ys eq = let e : xs ≡ ys = cc in ap (λ (x : List ℕ). steps_in (file_of x)) e
+
       by : (b : Bool) → cond b (Some e.1) (value_of path list) ≡ Some content →
           (value_of path list ≡ Some content → steps_in (file_of content) ≤ most_steps list) → steps_in (file_of content) ≤ steps_in (file_of e.1) + most_steps list
       by true found rest = omega (arith, same e.1 content found)
@@ -149,7 +150,7 @@ module _ (files : Files) (below : List Frame) (frame rest : Frame) (same : rest.
       ∙ followed_assoc (adds step) (in_turn adds rest.steps.items) (pending files [] below)
       ∙ ap (followed (adds step))
       (ap (λ (p : List ℕ). followed (in_turn (step_adds files (p ∷ way_of [] below) p) rest.steps.items) (pending files [] below)) (sym same)
-          ∙ sym (pending-push files [] below rest))
+      ∙ sym (pending-push files [] below rest))
 
   pub way_kept : (above : List Frame) → above ≡ below ++ rest ∷ [] → way_of [] above ≡ way_of [] (below ++ frame ∷ [])
   way_kept above is =
@@ -197,9 +198,9 @@ module _ (files : Files) (below : List Frame) (frame rest : Frame) (same : rest.
   less_step above step is first =
       let left : ℕ = length files - length (frame.path ∷ way_of [] below) in
       let now : weight files [] above ≡ weight files [] below + (1 + length rest.steps.items * cost files left) =
-          ap (weight files []) is ∙ weight-push files [] below rest in
+      ap (weight files []) is ∙ weight-push files [] below rest in
       let was : weight files [] (below ++ frame ∷ []) ≡ weight files [] below + (1 + suc (length rest.steps.items) * cost files left) =
-          weight-push files [] below frame ∙ ap (λ (l : List Step). weight files [] below + (1 + length l * cost files left)) first in
+      weight-push files [] below frame ∙ ap (λ (l : List Step). weight files [] below + (1 + length l * cost files left)) first in
       omega (arith, now, was, cost_is files left, suc-mul (length rest.steps.items) (cost files left))
 
 module _ (files : Files) (above : List Frame) (next : Frame) (file name : List ℕ) where
@@ -238,19 +239,26 @@ module _ (files : Files) (below : List Frame) (frame rest : Frame) (same : rest.
       let within : length (way_of [] above) < length files = within_files files (way_of [] above) next.path entered.content stands entered.apart entered.there in
       let way : length (way_of [] above) ≡ suc (length (way_of [] below)) = ap length (way_kept files below frame rest same above is ∙ way_of-push [] below frame) in
       let price : cost files (length files - length (frame.path ∷ way_of [] below)) ≡ 2 + most_steps files * cost files left =
-          ap (cost files) (omega (arith, way, within)) ∙ cost-next files left in
+      ap (cost files) (omega (arith, way, within)) ∙ cost-next files left in
       let now : weight files [] all ≡ weight files [] above + (1 + length next.steps.items * cost files left) = ap (weight files []) put ∙ weight-push files [] above next in
       let mid : weight files [] above ≡ weight files [] below + (1 + length rest.steps.items * cost files (length files - length (frame.path ∷ way_of [] below))) =
-          ap (weight files []) is ∙ weight-push files [] below rest
-          ∙ ap (λ (p : List ℕ). weight files [] below + (1 + length rest.steps.items * cost files (length files - length (p ∷ way_of [] below)))) same in
+      ap (weight files []) is ∙ weight-push files [] below rest
+      ∙ ap (λ (p : List ℕ). weight files [] below + (1 + length rest.steps.items * cost files (length files - length (p ∷ way_of [] below)))) same in
       let was : weight files [] (below ++ frame ∷ [])
-          ≡ weight files [] below + (1 + suc (length rest.steps.items) * cost files (length files - length (frame.path ∷ way_of [] below))) =
-          weight-push files [] below frame
-          ∙ ap (λ (l : List Step). weight files [] below + (1 + length l * cost files (length files - length (frame.path ∷ way_of [] below)))) first in
+      ≡ weight files [] below + (1 + suc (length rest.steps.items) * cost files (length files - length (frame.path ∷ way_of [] below))) =
+      weight-push files [] below frame
+      ∙ ap (λ (l : List Step). weight files [] below + (1 + length l * cost files (length files - length (frame.path ∷ way_of [] below)))) first in
       let bound : length next.steps.items * cost files left ≤ most_steps files * cost files left =
-          omega (arith, mul-le-mul_left (cost files left) (steps_within files next.path entered.content next entered.there entered.opened)) in
-      omega (arith, now, mid, was, price, bound,
-      suc-mul (length rest.steps.items) (cost files (length files - length (frame.path ∷ way_of [] below))))
+      omega (arith, mul-le-mul_left (cost files left) (steps_within files next.path entered.content next entered.there entered.opened)) in
+      omega (
+        arith,
+        now,
+        mid,
+        was,
+        price,
+        bound,
+        suc-mul (length rest.steps.items) (cost files (length files - length (frame.path ∷ way_of [] below))),
+      )
 
 fold-append : {X Y : Type 0} (f : Y → X → Y) (y : Y) (xs zs : List X) → fold f y (xs ++ zs) ≡ fold f (fold f y xs) zs
 fold-append f y [] zs = refl

@@ -2,7 +2,7 @@
 use Rattle.std.specs.Prelude.{ℕ, ◌+◌, ◌==◌, List, [], ◌∷◌, ◌++◌, length, map, fold, Option, None, Some, Result, Ok, Err, is_none, if◌then◌else◌}
 use Rattle.std.specs.List.{join_with_byte, last_or}
 use Rattle.std.specs.Option.{option_map_or}
-use Rattle.std.specs.Str.{is_utf8, str_to_ascii_lowercase}
+use Rattle.std.specs.Str.{IsValidUpTo, is_utf8, str_to_ascii_lowercase}
 use Rattle.std.specs.Str.Lines.{lines}
 use Rattle.std.specs.Str.Lossy.{utf8_valid_len}
 use Rattle.ini_interp.specs.declared.error.IniError.{IniError}
@@ -107,3 +107,8 @@ file_of bytes = if is_utf8 bytes then meaning_of (map form_of (lines bytes)) els
 abbrev pub UnlessNoMemory : IniError → Type 0 → Type 0
 UnlessNoMemory NoMemory claim = Unit {0}
 UnlessNoMemory error claim = claim
+
+-- the place of ill-formed bytes: what stands before it is UTF-8, and no more is
+abbrev pub IsFirstIllFormed : List ℕ → IniError → Type 0
+IsFirstIllFormed bytes (NotUtf8 at) = IsValidUpTo bytes at
+IsFirstIllFormed bytes error = Unit {0}

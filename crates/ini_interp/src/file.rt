@@ -2,7 +2,7 @@
 ghost use Rattle.std.specs.Prelude.{◌≡◌, [], None, Some, Ok, Err, IfOk, IfErr, OnOk, MatchResult, is_some, map};
 ghost use Rattle.std.specs.Str.{str_to_ascii_lowercase};
 ghost use Rattle.std.specs.Str.Lines.{lines};
-ghost use Rattle.ini_interp.specs.Files.{file_of, meaning_of, UnlessNoMemory};
+ghost use Rattle.ini_interp.specs.Files.{file_of, meaning_of, UnlessNoMemory, IsFirstIllFormed};
 ghost use Rattle.ini_interp.specs.Kept.{with_open, with_changed, with_item, with_more, with_line, open_kept, open_value, fault_of, without_last};
 ghost use Rattle.ini_interp.specs.Lines.{form_of};
 ghost use Rattle.ini_interp.specs.Seen.{form};
@@ -20,7 +20,7 @@ use std::marker::Model;
 #[derive(Drop)]
 struct Reader {
     map: IndexMap<String, Items>,
-    open: Option<usize>,
+    current: Option<usize>,
 }
 
 impl Model for Reader {
@@ -29,7 +29,7 @@ impl Model for Reader {
 
     ghost Value = { Read };
 
-    ghost view = { λ r. record { sections = by_bytes r.map.entries; at = r.open } };
+    ghost view = { λ r. record { sections = by_bytes r.map.entries; at = r.current } };
 }
 
 impl Reader {
@@ -38,7 +38,7 @@ impl Reader {
     {
         Reader {
             map: IndexMap::new(alloc),
-            open: None,
+            current: None,
         }
     }
 
@@ -47,13 +47,13 @@ impl Reader {
         ensures { OnOk result (self.new ≡ with_open section.now self.old) }
     {
         if let Some(place) = self.map.get_index_of(section) {
-            self.open = Some(place);
+            self.current = Some(place);
             return Ok(());
         }
         let alloc = *self.map.allocator();
         let name = String::from_str(alloc, section)?;
         let (place, _) = self.map.insert_full(name, Items::new(alloc))?;
-        self.open = Some(place);
+        self.current = Some(place);
         Ok(())
     }
 
@@ -65,7 +65,7 @@ impl Reader {
         let alloc = *self.map.allocator();
         let name = name.to_ascii_lowercase(alloc)?;
         let value = Text::from_str(alloc, value)?;
-        let Some(place) = self.open else {
+        let Some(place) = self.current else {
             return Ok(false);
         };
         let Some(items) = self.map.get_index_mut(place) else {
@@ -80,7 +80,7 @@ impl Reader {
         ensures found { IfOk result (λ found. found ≡ is_some (open_value self.old)) }
         ensures ok { OnOk result (self.new ≡ with_changed (with_more text.now) self.old) }
     {
-        let Some(place) = self.open else {
+        let Some(place) = self.current else {
             return Ok(false);
         };
         let Some(items) = self.map.get_index_mut(place) else {
@@ -130,12 +130,24 @@ fn read_text(alloc: Global, text: &str) -> Result<Sections, IniError>
     Ok(Sections::from(reader.map))
 }
 
-/// What the bytes of a configuration file mean.
+/// What the bytes of a configuration file mean, in time proportional to their number.
 ///
-/// The bytes are UTF-8. A line ends at LF, and one CR before it is dropped; lines count from 1.
+/// The bytes are UTF-8, and a blank is a space or a tab. A line ends at LF, and one CR before it is dropped. Of each line:
+///
+/// 1. One of blanks says nothing, nor does one whose first byte that is no blank is `#` or `;`. In any other what follows from a `;` on
+///    that has a blank before it is dropped, then the blanks at the end.
+/// 2. One that begins with a blank continues the value of the item that was read last in its section, joined by LF.
+/// 3. One that begins with `[` and holds `]` opens the section named between that `[` and the first `]`. A section that is named again
+///    goes on.
+/// 4. Any other is an item, whose name and value the first `=` or `:` divides; blanks around them are dropped. The name is kept in ASCII
+///    lower case. A later value of a name replaces an earlier one, and the item keeps its place.
+///
+/// The error is the first fault: [`IniError::NotUtf8`] before all others, which come by line, from 1. A line without a name and a
+/// divider is no item, so it is [`IniError::NoDelimiter`] also where no section is open.
 pub fn read_file(alloc: Global, bytes: &[u8]) -> Result<Sections, IniError>
     ensures sections { IfOk result (λ sections. file_of bytes.now ≡ Ok sections) }
     ensures fault { IfErr result (λ e. UnlessNoMemory e (file_of bytes.now ≡ Err e)) }
+    ensures place { IfErr result (IsFirstIllFormed bytes.now) }
 {
     match str::from_utf8(bytes) {
         Ok(text) => read_text(alloc, text),

@@ -1,7 +1,9 @@
-//! Configuration files in sections of items: what one file means.
+//! Configuration files in sections of items: what one file means, what the files of a base come to, and what an item's value is.
 //!
 //! A caller hands in the bytes of a file and gets its sections in order, each with its items in order, or the first fault with its
-//! line. Values are as written here: nothing is replaced in them. Reading takes time in proportion to the bytes.
+//! line. Or it hands in a tree of files and the name of a base, and gets what the files of that base come to, each laid over those
+//! before it, with what they include. In both the values are raw; a value is asked for by its name in a scope of sections, and has its
+//! references replaced then. Nothing here knows a directory, or what an item is good for.
 #![tactic(auto)]
 
 mod error;

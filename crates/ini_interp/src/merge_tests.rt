@@ -132,10 +132,7 @@ fn merges(rt: HostRuntime) -> Result<(), Fail> {
             "[a] x=2 y=1 ",
         ),
         (
-            &[
-                ("jail.conf", "[a]\nx=1\n"),
-                ("jail.conf", "[a]\nx=2\n"),
-            ],
+            &[("jail.conf", "[a]\nx=1\n"), ("jail.conf", "[a]\nx=2\n")],
             "jail",
             "[a] x=1 ",
         ),
@@ -153,7 +150,10 @@ fn merges(rt: HostRuntime) -> Result<(), Fail> {
             &[
                 ("a.conf", "[a]\nx=1\ny=1\n"),
                 ("b.conf", "[a]\ny=3\nz=3\n"),
-                ("jail.conf", "[INCLUDES]\nbefore=a.conf\nafter=b.conf\n[a]\nx=2\ny=2\nz=2\n"),
+                (
+                    "jail.conf",
+                    "[INCLUDES]\nbefore=a.conf\nafter=b.conf\n[a]\nx=2\ny=2\nz=2\n",
+                ),
             ],
             "jail",
             "[a] x=2 y=3 z=3 ",
@@ -223,7 +223,10 @@ fn merges(rt: HostRuntime) -> Result<(), Fail> {
             "missing filter.d/x.conf ../a.conf",
         ),
         (
-            &[("jail.conf", "[INCLUDES]\nbefore=%(x)s\n[DEFAULT]\nx=a.local\n")],
+            &[(
+                "jail.conf",
+                "[INCLUDES]\nbefore=%(x)s\n[DEFAULT]\nx=a.local\n",
+            )],
             "jail",
             "missing jail.conf %(x)s",
         ),
@@ -273,10 +276,7 @@ fn merges(rt: HostRuntime) -> Result<(), Fail> {
             "missing jail.conf b.conf",
         ),
         (
-            &[
-                ("jail.conf", "[a]\nx=1\n"),
-                ("jail.local", "[a]\n\tx\n"),
-            ],
+            &[("jail.conf", "[a]\nx=1\n"), ("jail.local", "[a]\n\tx\n")],
             "jail",
             "fault jail.local Indent(2)",
         ),
@@ -284,7 +284,10 @@ fn merges(rt: HostRuntime) -> Result<(), Fail> {
         (
             &[
                 ("jail.conf", "[DEFAULT]\nignoreip = 10.0.0.1\n"),
-                ("jail.local", "[DEFAULT]\nignoreip = %(known/ignoreip)s 10.0.0.2\n"),
+                (
+                    "jail.local",
+                    "[DEFAULT]\nignoreip = %(known/ignoreip)s 10.0.0.2\n",
+                ),
             ],
             "jail",
             "[DEFAULT] ignoreip=10.0.0.1 10.0.0.2 ",
@@ -313,7 +316,10 @@ fn merges(rt: HostRuntime) -> Result<(), Fail> {
         (
             &[
                 ("jail.conf", "[a]\nx=%(known/x)s%%\n"),
-                ("jail.local", "[a]\nx=%%(known/x)s %(known/x)s %z %(known/x)d\n"),
+                (
+                    "jail.local",
+                    "[a]\nx=%%(known/x)s %(known/x)s %z %(known/x)d\n",
+                ),
             ],
             "jail",
             "[a] x=%%(known/x)s %(known/x)s%% %z %(known/x)d ",
@@ -321,7 +327,10 @@ fn merges(rt: HostRuntime) -> Result<(), Fail> {
         (
             &[
                 ("a.conf", "[a]\nx=1\n"),
-                ("jail.conf", "[INCLUDES]\nbefore=a.conf\nafter=b.conf\n[a]\nx=%(known/x)s2\n"),
+                (
+                    "jail.conf",
+                    "[INCLUDES]\nbefore=a.conf\nafter=b.conf\n[a]\nx=%(known/x)s2\n",
+                ),
                 ("b.conf", "[a]\nx=%(known/x)s3\n"),
             ],
             "jail",

@@ -66,11 +66,7 @@ fn read_base_file(
 }
 
 /// Reads the files of a base, with what they include.
-fn read_base(
-    alloc: Global,
-    files: &FileTable<'_>,
-    base: &str,
-) -> Result<Sections, MergeError>
+fn read_base(alloc: Global, files: &FileTable<'_>, base: &str) -> Result<Sections, MergeError>
     ensures ok { IfOk result (λ sections. IsKept (in_turn (base_file files.now) (base_files files.now base.now)) (Ok []) [] sections) }
     ensures fault { IfErr result (λ fault. fault ≢ MergeError.NoMemory
         → in_turn (base_file files.now) (base_files files.now base.now) ≡ Err fault) }

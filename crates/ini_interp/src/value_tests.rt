@@ -6,10 +6,7 @@ use std::alloc::Global;
 use std::test::Fail;
 
 /// The answer as one text.
-fn shown(
-    alloc: Global,
-    answer: Result<Option<Text>, InterpError>,
-) -> Result<String, NoMemory> {
+fn shown(alloc: Global, answer: Result<Option<Text>, InterpError>) -> Result<String, NoMemory> {
     match answer {
         Ok(None) => Ok(String::from_str(alloc, "nothing")?),
         Ok(Some(text)) => {
@@ -85,7 +82,8 @@ fn values(rt: HostRuntime) -> Result<(), Fail> {
         (b"[a]\nx=%(y)s%(z)s\ny=%\n", "percent 0"),
         // A value that refers to itself.
         (b"[a]\nx=%(x)s\n", "too deep x"),
-        (b"[a]\nx=%(y)s\ny=%(X)s\n", "too deep X"),
+        (b"[a]\nx=%(y)s\ny=%(X)s\n", "too deep y"),
+        (b"[a]\nx=%(X)s\n", "too deep X"),
     ] {
         let sections = read_file(rt.alloc(), file)?;
         let got = jail_value(rt.alloc(), &sections, "x")?;
@@ -96,7 +94,8 @@ fn values(rt: HostRuntime) -> Result<(), Fail> {
 
 #[test]
 fn replaces_ten_deep(rt: HostRuntime) -> Result<(), Fail> {
-    let file = b"[DEFAULT]\nx1=%(x2)s\nx2=%(x3)s\nx3=%(x4)s\nx4=%(x5)s\nx5=%(x6)s\nx6=%(x7)s\nx7=%(x8)s\nx8=%(x9)s\nx9=%(x10)s\nx10=%(x11)s\nx11=a\n" as &[u8];
+    let file =
+        b"[DEFAULT]\nx1=%(x2)s\nx2=%(x3)s\nx3=%(x4)s\nx4=%(x5)s\nx5=%(x6)s\nx6=%(x7)s\nx7=%(x8)s\nx8=%(x9)s\nx9=%(x10)s\nx10=%(x11)s\nx11=a\n" as &[u8];
     let mut sections = read_file(rt.alloc(), file)?;
     // An item that refers to x1 has x10 at depth 10, and x11 at depth 11, also where it is not there.
     sections.put("a", "x0", "%(x1)s")?;

@@ -35,7 +35,6 @@ included-requires c =
     stands_kept c.args.files.now c.args.frames.now.items c.args.frame rest refl c.as_slice.result.now
     (c.as_slice.ensures.value ∙ c.in_ok-push-in-Some-Include.ensures.items) c.requires
 
-
 pub returns-in-Ok-Some-clause-ok : goal.returns-in-Ok-Some-clause-ok
 returns-in-Ok-Some-clause-ok c =
     let rest : Frame = record { path = c.args.frame.path; steps = c.pop_front.new.self } in

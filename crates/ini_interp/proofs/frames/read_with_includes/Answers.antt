@@ -8,12 +8,12 @@ use Rattle.ini_interp.proofs.frames.read_with_includes.Goals as goal
 pub loop-frame-init : goal.loop-frame-init
 loop-frame-init c =
     let put : c.push.new.self.items ≡ c.in-Ok.frame ∷ [] =
-        c.in_ok-push.ensures.items ∙ ap (λ (l : List Frame). l ++ c.in-Ok.frame ∷ []) c.new-frames.ensures.items in
+    c.in_ok-push.ensures.items ∙ ap (λ (l : List Frame). l ++ c.in-Ok.frame ∷ []) c.new-frames.ensures.items in
     let opened : IsOpened c.args.path.now c.args.content.now c.in-Ok.frame = rw c.in_ok-own.ensures at c.in-Ok.ensures.ok in
     record {
       kept =
           subst (λ (l : List Frame).
-              IsKept (read_at c.args.files.now [] c.args.path.now c.args.content.now) (pending c.args.files.now [] l) c.args.sections.now c.args.sections.now)
+          IsKept (read_at c.args.files.now [] c.args.path.now c.args.content.now) (pending c.args.files.now [] l) c.args.sections.now c.args.sections.now)
           (sym put) (started c.args.files.now c.args.path.now c.args.content.now c.in-Ok.frame c.args.sections.now c.requires opened);
       way = subst (λ (l : List Frame). IsWay c.args.files.now (way_of [] l)) (sym put)
           (started-way c.args.files.now c.args.path.now c.args.content.now c.in-Ok.frame c.requires opened);

@@ -14,7 +14,7 @@ pub loop-path-preserved : goal.loop-path-preserved
 loop-path-preserved c =
     let within : c.loop-path.path-index < length c.as_slice-path-items.result.now = omega arith in
     let there : Some c.path-item.result ≡ slice_get c.as_slice-path-items.result.now c.loop-path.path-index =
-        ap (λ (path : List ℕ). Some path) c.path-item.is
-        ∙ sym (slice_get-get_or c.as_slice-path-items.result.now c.loop-path.path-index c.path-item.result within) in
+    ap (λ (path : List ℕ). Some path) c.path-item.is
+    ∙ sym (slice_get-get_or c.as_slice-path-items.result.now c.loop-path.path-index c.path-item.result within) in
     turn (base_file c.args.files.now) (in_turn (base_file c.args.files.now) (base_files c.args.files.now c.args.base.now)) c.as_slice-path-items.result.now
     c.loop-path.path-index c.path-item.result [] c.loop-path.sections there c.loop-path.invariant c.read_base_file.new.sections c.in-Ok.ensures.ok

@@ -8,21 +8,21 @@ use Rattle.ini_interp.proofs.file.Reader.extend.Goals as goal
 
 pub returns-in_default-get_index_mut-clause-found : goal.returns-in_default-get_index_mut-clause-found
 returns-in_default-get_index_mut-clause-found c =
-    ap (λ o. is_some (option_and_then last_value o)) (found_is c.self.inside.map.entries c.self.inside.open c.in-Some.place None c.in-Some.is c.in_default-get_index_mut.ensures.value)
+    ap (λ o. is_some (option_and_then last_value o)) (found_is c.self.inside.map.entries c.self.inside.current c.in-Some.place None c.in-Some.is c.in_default-get_index_mut.ensures.value)
     ∙ ap (λ (read : Read). is_some (open_value read)) c.self.view_is
 
 pub returns-in_default-get_index_mut-clause-ok : goal.returns-in_default-get_index_mut-clause-ok
 returns-in_default-get_index_mut-clause-ok c =
     let es = c.self.inside.map.entries in
     let change : Kept → Kept = with_more c.args.text.now in
-    let same = unchanged_is change es c.self.inside.open c.in-Some.place c.in-Some.is c.in_default-get_index_mut.ensures.value in
-    let made : record { sections = by_bytes es; at = c.self.inside.open } ≡ with_changed change (record { sections = by_bytes es; at = c.self.inside.open }) =
-    λ i. record { sections = same i; at = c.self.inside.open } in
+    let same = unchanged_is change es c.self.inside.current c.in-Some.place c.in-Some.is c.in_default-get_index_mut.ensures.value in
+    let made : record { sections = by_bytes es; at = c.self.inside.current } ≡ with_changed change (record { sections = by_bytes es; at = c.self.inside.current }) =
+    λ i. record { sections = same i; at = c.self.inside.current } in
     made ∙ ap (with_changed change) c.self.view_is
 
 pub returns-clause-found : goal.returns-clause-found
 returns-clause-found c =
-    let there = ap (λ o. is_some (option_and_then last_value o)) (found_is c.self.inside.map.entries c.self.inside.open c.in-Some.place (Some c.in-Some-get_index_mut.items.now) c.in-Some.is c.in-Some-get_index_mut.ensures.value)
+    let there = ap (λ o. is_some (option_and_then last_value o)) (found_is c.self.inside.map.entries c.self.inside.current c.in-Some.place (Some c.in-Some-get_index_mut.items.now) c.in-Some.is c.in-Some-get_index_mut.ensures.value)
     ∙ ap (λ (read : Read). is_some (open_value read)) c.self.view_is in
     IfOk-weaker c.extend.result _ _ (λ found is. is ∙ there) c.extend.ensures.found
 
@@ -33,8 +33,8 @@ returns-clause-ok c =
     let change : Kept → Kept = with_more c.args.text.now in
     on_ok_weaker c.extend.result
     (λ (more : c.extend.new.self ≡ change items).
-    let sections = changed_is change es c.self.inside.open c.in-Some.place items c.extend.new.self c.in-Some.is c.in-Some-get_index_mut.ensures.value more in
-    let made : record { sections = by_bytes (set_value_at es c.in-Some.place c.extend.new.self); at = c.self.inside.open } ≡ with_changed change (record { sections = by_bytes es; at = c.self.inside.open }) =
-    λ i. record { sections = sections i; at = c.self.inside.open } in
+    let sections = changed_is change es c.self.inside.current c.in-Some.place items c.extend.new.self c.in-Some.is c.in-Some-get_index_mut.ensures.value more in
+    let made : record { sections = by_bytes (set_value_at es c.in-Some.place c.extend.new.self); at = c.self.inside.current } ≡ with_changed change (record { sections = by_bytes es; at = c.self.inside.current }) =
+    λ i. record { sections = sections i; at = c.self.inside.current } in
     made ∙ ap (with_changed change) c.self.view_is)
     c.extend.ensures.ok

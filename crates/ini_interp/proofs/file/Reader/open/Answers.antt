@@ -13,7 +13,7 @@ returns-in-Some c =
     let there : is_some (value_of section (by_bytes es)) ≡ true = ap is_some (sym (value_is section es)) ∙ sym c.in-Some.ensures.found in
     let sections = opened_there section (by_bytes es) there in
     let place : c.in-Some.place ≡ place_of section (by_bytes es) = found_place _ _ _ c.in-Some.ensures.index ∙ place_is section es in
-    let made : record { sections = by_bytes es; at = Some c.in-Some.place } ≡ with_open section (record { sections = by_bytes es; at = c.self.inside.open }) =
+    let made : record { sections = by_bytes es; at = Some c.in-Some.place } ≡ with_open section (record { sections = by_bytes es; at = c.self.inside.current }) =
     λ i. record { sections = sections i; at = Some (place i) } in
     made ∙ ap (with_open section) c.self.view_is
 
@@ -27,6 +27,6 @@ returns c =
     ∙ ap₂ (λ name items. with_value name items (by_bytes es)) key c.new.ensures ∙ opened_new section (by_bytes es) new in
     let place : c.in_ok-place.place ≡ place_of section (by_bytes es) =
     c.in_ok-place.ensures.index ∙ insert_place_is c.in_ok-name.name es ∙ ap (λ name. place_of name (by_bytes es)) key in
-    let made : record { sections = by_bytes c.insert_full.new.self.entries; at = Some c.in_ok-place.place } ≡ with_open section (record { sections = by_bytes es; at = c.self.inside.open }) =
+    let made : record { sections = by_bytes c.insert_full.new.self.entries; at = Some c.in_ok-place.place } ≡ with_open section (record { sections = by_bytes es; at = c.self.inside.current }) =
     λ i. record { sections = sections i; at = Some (place i) } in
     made ∙ ap (with_open section) c.self.view_is

@@ -8,21 +8,21 @@ use Rattle.ini_interp.proofs.file.Reader.set.Goals as goal
 
 pub returns-in_default-get_index_mut-clause-found : goal.returns-in_default-get_index_mut-clause-found
 returns-in_default-get_index_mut-clause-found c =
-    ap is_some (found_is c.self.inside.map.entries c.self.inside.open c.in-Some.place None c.in-Some.is c.in_default-get_index_mut.ensures.value)
+    ap is_some (found_is c.self.inside.map.entries c.self.inside.current c.in-Some.place None c.in-Some.is c.in_default-get_index_mut.ensures.value)
     ∙ ap (λ (read : Read). is_some (open_kept read)) c.self.view_is
 
 pub returns-in_default-get_index_mut-clause-ok : goal.returns-in_default-get_index_mut-clause-ok
 returns-in_default-get_index_mut-clause-ok c =
     let es = c.self.inside.map.entries in
     let change : Kept → Kept = with_item (str_to_ascii_lowercase c.args.name.now) c.args.value.now in
-    let same = unchanged_is change es c.self.inside.open c.in-Some.place c.in-Some.is c.in_default-get_index_mut.ensures.value in
-    let made : record { sections = by_bytes es; at = c.self.inside.open } ≡ with_changed change (record { sections = by_bytes es; at = c.self.inside.open }) =
-    λ i. record { sections = same i; at = c.self.inside.open } in
+    let same = unchanged_is change es c.self.inside.current c.in-Some.place c.in-Some.is c.in_default-get_index_mut.ensures.value in
+    let made : record { sections = by_bytes es; at = c.self.inside.current } ≡ with_changed change (record { sections = by_bytes es; at = c.self.inside.current }) =
+    λ i. record { sections = same i; at = c.self.inside.current } in
     made ∙ ap (with_changed change) c.self.view_is
 
 pub returns-clause-found : goal.returns-clause-found
 returns-clause-found c =
-    ap is_some (found_is c.self.inside.map.entries c.self.inside.open c.in-Some.place (Some c.in-Some-get_index_mut.items.now) c.in-Some.is c.in-Some-get_index_mut.ensures.value)
+    ap is_some (found_is c.self.inside.map.entries c.self.inside.current c.in-Some.place (Some c.in-Some-get_index_mut.items.now) c.in-Some.is c.in-Some-get_index_mut.ensures.value)
     ∙ ap (λ (read : Read). is_some (open_kept read)) c.self.view_is
 
 pub returns-clause-ok : goal.returns-clause-ok
@@ -31,7 +31,7 @@ returns-clause-ok c =
     let items = c.in-Some-get_index_mut.items.now in
     let change : Kept → Kept = with_item (str_to_ascii_lowercase c.args.name.now) c.args.value.now in
     let set : c.set.new.self ≡ change items = c.in_ok-set.ensures.ok ∙ ap₂ (λ name value. with_item name value items) c.in_ok-name.ensures.ok c.in_ok-value.ensures in
-    let sections = changed_is change es c.self.inside.open c.in-Some.place items c.set.new.self c.in-Some.is c.in-Some-get_index_mut.ensures.value set in
-    let made : record { sections = by_bytes (set_value_at es c.in-Some.place c.set.new.self); at = c.self.inside.open } ≡ with_changed change (record { sections = by_bytes es; at = c.self.inside.open }) =
-    λ i. record { sections = sections i; at = c.self.inside.open } in
+    let sections = changed_is change es c.self.inside.current c.in-Some.place items c.set.new.self c.in-Some.is c.in-Some-get_index_mut.ensures.value set in
+    let made : record { sections = by_bytes (set_value_at es c.in-Some.place c.set.new.self); at = c.self.inside.current } ≡ with_changed change (record { sections = by_bytes es; at = c.self.inside.current }) =
+    λ i. record { sections = sections i; at = c.self.inside.current } in
     made ∙ ap (with_changed change) c.self.view_is

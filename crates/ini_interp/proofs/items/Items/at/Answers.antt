@@ -7,7 +7,7 @@ pub unreachable-requires : goal.unreachable-requires
 unreachable-requires c =
     stands c.args.self.now.items c.args.index c.requires
     (ap (option_map (λ (e : String Global × List ℕ). (string_bytes e.0, e.1))) c.in-None.ensures.entry ∙ entry_at c.self.inside.map.entries c.args.index
-        ∙ ap (λ (kept : Kept). slice_get kept.items c.args.index) c.self.view_is)
+    ∙ ap (λ (kept : Kept). slice_get kept.items c.args.index) c.self.view_is)
 
 pub returns : goal.returns
 returns c =

@@ -9,9 +9,9 @@ pub unreachable-requires : goal.unreachable-requires
 unreachable-requires c =
     stands c.args.self.now c.args.index c.requires
     (ap (option_map (λ (s : List ℕ × Kept). (s.0, s.1.items)))
-        (ap (option_map (λ (e : String Global × Kept). (string_bytes e.0, e.1))) c.in-None.ensures.entry ∙ entry_at c.self.inside.map.entries c.args.index)
-        ∙ map_at (λ (s : List ℕ × Kept). (s.0, s.1.items)) (by_bytes c.self.inside.map.entries) c.args.index
-        ∙ ap (λ (sections : Sections). slice_get sections c.args.index) c.self.view_is)
+    (ap (option_map (λ (e : String Global × Kept). (string_bytes e.0, e.1))) c.in-None.ensures.entry ∙ entry_at c.self.inside.map.entries c.args.index)
+    ∙ map_at (λ (s : List ℕ × Kept). (s.0, s.1.items)) (by_bytes c.self.inside.map.entries) c.args.index
+    ∙ ap (λ (sections : Sections). slice_get sections c.args.index) c.self.view_is)
 
 pub returns : goal.returns
 returns c =
