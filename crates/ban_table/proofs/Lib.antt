@@ -1,0 +1,3 @@
+pub mod BanLemmas
+pub mod IndexLemmas
+pub mod TableLemmas

@@ -1,0 +1,1 @@
+//! Worked rows, through the calls of `BanTable`.
