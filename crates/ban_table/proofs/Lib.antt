@@ -1,3 +1,4 @@
 pub mod BanLemmas
 pub mod IndexLemmas
 pub mod TableLemmas
+pub mod TestLemmas

@@ -39,13 +39,13 @@ lookup_active [] ban keyed rising i = absurd i
 lookup_active (e ∷ es) ban keyed rising i =
     elim i [
       | inl same ↦
-        (let here : is_at (nat_cmp ban.serial) e.0 ≡ true = at_serial ban.serial e.0 (equal ban.serial e.0 (ap (λ (b : Ban). b.serial) same ∙ sym keyed.0)) in
-        rw here (ap (λ b. Some b) (sym same)))
+          (let here : is_at (nat_cmp ban.serial) e.0 ≡ true = at_serial ban.serial e.0 (equal ban.serial e.0 (ap (λ (b : Ban). b.serial) same ∙ sym keyed.0)) in
+          rw here (ap (λ b. Some b) (sym same)))
       | inr j ↦
-        (let lt = each_is (λ (b : Ban). e.1.serial < b.serial) (values_of es) ban rising.0 j in
-        let key = keyed.0 in
-        let apart : is_at (nat_cmp ban.serial) e.0 ≡ false = not_at_serial ban.serial e.0 (unequal ban.serial e.0 (omega arith)) in
-        rw apart (lookup_active es ban keyed.1 rising.1 j))
+          (let lt = each_is (λ (b : Ban). e.1.serial < b.serial) (values_of es) ban rising.0 j in
+          let key = keyed.0 in
+          let apart : is_at (nat_cmp ban.serial) e.0 ≡ false = not_at_serial ban.serial e.0 (unequal ban.serial e.0 (omega arith)) in
+          rw apart (lookup_active es ban keyed.1 rising.1 j))
     ]
   where
     equal : (a b : ℕ) → a ≡ b → (a == b) ≡ true
@@ -146,7 +146,7 @@ pub ended_so : (es fs : List (ℕ × Ban)) (before after : Index) (past capacity
     → Some serial ≡ option_map (λ (b : Ban). b.serial) (find (ban_of addr) (values_of es)) → Some ban ≡ lookup (is_at (nat_cmp serial)) es
     → fs ≡ remove_entry (is_at (nat_cmp serial)) es → length fs + 1 ≡ length es
     → ((bans : List Ban) → IsIndexOf before bans → IsRisingSerials bans → IsOnceEach bans → find (ban_of ban.addr) bans ≡ Some ban
-        → IsIndexOf after (filter (λ b. not (ban_of ban.addr b)) bans))
+    → IsIndexOf after (filter (λ b. not (ban_of ban.addr b)) bans))
     → IsEnded es fs after (past + 1) capacity addr ban
 ended_so es fs before after past capacity addr serial ban table told is left len taken =
     let own : find (ban_of addr) (values_of es) ≡ Some ban = sym (lookup_found es addr serial table.keyed table.rising told) ∙ sym is in
@@ -200,7 +200,7 @@ pub unbegun_so : (es fs : List (ℕ × Ban)) (before mid after : Index) (past ca
     → is_banned ban.addr (values_of es) ≡ false → AllOf (λ (b : Ban). b.serial ≢ ban.serial) (values_of es) → fs ≡ es → past + (length es + 1) ≤ room
     → ((bans : List Ban) → IsIndexOf before bans → is_banned ban.addr bans ≡ false → IsIndexOf mid (placed by_serial ban bans))
     → ((bans : List Ban) → IsIndexOf mid bans → IsRisingSerials bans → IsOnceEach bans → find (ban_of ban.addr) bans ≡ Some ban
-        → IsIndexOf after (filter (λ b. not (ban_of ban.addr b)) bans))
+    → IsIndexOf after (filter (λ b. not (ban_of ban.addr b)) bans))
     → IsTable fs after past room
 unbegun_so es fs before mid after past capacity room ban table free new same enough added taken =
     let bans = values_of es in

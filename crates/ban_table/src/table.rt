@@ -10,7 +10,7 @@ ghost use Rattle.ban_table.specs.Tables.{begun, ended, purged, IsNextDue};
 
 use crate::index::Index;
 use crate::lists::BanLists;
-use crate::past::{copy_of, drop_until, short_count_of};
+use crate::past::{copy_of, drop_until, make_room, short_count_of};
 use f2b_base::{Addr, Ban, NoMemory, Past, Seq};
 use std::alloc::Global;
 use std::collections::{BTreeMap, VecDeque};
@@ -69,7 +69,7 @@ impl BanTable {
         ensures ok { OnOk result (self.new ≡ begun ban self.old) }
         ensures err { OnErr result (self.new ≡ self.old) }
     {
-        self.past.reserve(self.bans.len() + 1)?;
+        make_room(&mut self.past, self.bans.len() + 1)?;
         self.index.add(&ban)?;
         if self.bans.insert(ban.serial, ban).is_err() {
             self.index.remove(&ban);
