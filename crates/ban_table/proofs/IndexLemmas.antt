@@ -18,12 +18,11 @@ use Rattle.f2b_model.specs.Full.{same_addr}
 use Rattle.f2b_model.specs.Lists.{AllOf, IsIn, placed}
 use Rattle.f2b_model.specs.Moves.{ban_of, is_banned}
 use Rattle.f2b_model.specs.Sound.{IsOnceEach, IsRisingSerials}
-use Rattle.f2b_model.proofs.FullLemmas.{both_same}
 use Rattle.f2b_model.proofs.ListLemmas.{by_test}
 use Rattle.ban_table.specs.declared.index.Index.{Index}
 use Rattle.ban_table.specs.Places.{pair_cmp, key_of, is_until, ends_with, IsIndexOf, IsNoSooner, IsLeastEnd}
 use Rattle.ban_table.specs.Tables.{by_serial}
-use Rattle.ban_table.proofs.BanLemmas.{each_is, all_are, some_is, is_some_of, found_in, any_placed, find_none, find_begun, find_others, all_others, other_addr}
+use Rattle.ban_table.proofs.BanLemmas.{each_is, all_are, is_some_of, found_in, any_placed, find_none, find_begun, find_others, all_others, other_addr}
 
 pub number_same : (a b : ℕ) → is_eq (nat_cmp a b) ≡ (a == b)
 number_same a b =

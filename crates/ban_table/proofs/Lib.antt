@@ -2,3 +2,4 @@ pub mod BanLemmas
 pub mod IndexLemmas
 pub mod TableLemmas
 pub mod TestLemmas
+pub mod PastLemmas

@@ -1,6 +1,6 @@
 -- The active bans under their serials: one more, one that goes, and one that is looked up.
 use denote.Bor.{Bor}
-use Rattle.std.proofs.Common.{◌≡◌, ◌++◌, subst, ◌≢◌, ℕ, ◌+◌, ◌<◌, ◌≤◌, Bool, true, false, not, cond, ◌&&◌, ◌==◌, nat_lt, nat_le, List, [], ◌∷◌, length, Option, Some, None, ◌⊎◌, inl, inr, refl, sym, ◌∙◌, ap, ap₂, arith}
+use Rattle.std.proofs.Common.{◌≡◌, ◌++◌, subst, ◌≢◌, ℕ, ◌+◌, ◌<◌, ◌≤◌, Bool, true, false, not, cond, ◌&&◌, ◌==◌, nat_lt, nat_le, List, [], ◌∷◌, length, Option, Some, None, inl, inr, refl, sym, ◌∙◌, ap, ap₂, arith}
 use Rattle.std.specs.BTreeMap.{insert_entry, is_at}
 use Rattle.std.specs.List.{filter, find, list_any}
 use Rattle.std.specs.Map.{lookup, remove_entry, values_of}
@@ -18,11 +18,12 @@ use Rattle.f2b_model.specs.Moves.{ban_of, is_banned}
 use Rattle.f2b_model.specs.Sound.{IsOnceEach, IsRisingSerials}
 use Rattle.f2b_model.specs.Steps.{is_due, is_due_by, own_end, end_of}
 use Rattle.f2b_model.proofs.EndLemmas.{same_addr_same}
+use Rattle.f2b_model.proofs.FullLemmas.{filter_le}
 use Rattle.f2b_model.proofs.ListLemmas.{by_test}
 use Rattle.f2b_model.proofs.SoundLemmas.{same_addr_true}
 use Rattle.ban_table.specs.declared.index.Index.{Index}
 use Rattle.ban_table.specs.declared.lists.BanLists.{BanLists}
-use Rattle.ban_table.specs.Places.{AreKeyed, IsTable, IsIndexOf, IsNoSooner, IsLeastEnd, is_until, ends_with}
+use Rattle.ban_table.specs.Places.{AreKeyed, IsTable, IsIndexOf, IsNoSooner, is_until, ends_with}
 use Rattle.ban_table.specs.Tables.{by_serial, begun, ended, IsNextDue}
 use Rattle.ban_table.proofs.BanLemmas.{each_is, all_are, some_is, is_some_of, none_is, found_in, found_passes, none_found, all_others, find_begun, others_begun, rising_begun, once_begun, rising_filter, once_filter}
 use Rattle.ban_table.proofs.IndexLemmas.{number_same}
@@ -135,6 +136,15 @@ not_banned addr bans told = none_found (ban_of addr) bans (go (find (ban_of addr
     go : (o : Option Ban) → None ≡ option_map (λ (b : Ban). b.serial) o → o ≡ None
     go None t = refl
     go (Some b) t = absurd (let nothing : Option ℕ = None in let e : nothing ≡ Some b.serial = t in cc)
+
+-- a table after past entries were dropped
+pub purged_so : (es : List (ℕ × Ban)) (places : Index) (before after : List Past) (p : Past → Bool) (capacity room : ℕ) → IsTable es places (length before) capacity
+    → after ≡ filter p before → room ≡ capacity → IsTable es places (length after) room
+purged_so es places before after p capacity room table left same =
+    let fewer = filter_le p before in
+    let len = ap length left in
+    let enough = table.room in
+    record { keyed = table.keyed; rising = table.rising; once = table.once; found = table.found; room = omega arith }
 
 -- a table after a ban went
 pub record IsEnded (es fs : List (ℕ × Ban)) (after : Index) (past capacity : ℕ) (addr : Addr) (ban : Ban) : Type 0 where

@@ -1,11 +1,9 @@
 -- The bans of one jail as two lists, and what each call does to them.
-use Rattle.std.specs.Prelude.{◌≡◌, ℕ, ◌+◌, ◌<◌, ◌≤◌, Bool, true, cond, not, nat_lt, List, [], ◌∷◌, ◌++◌, length, filter, ◌⊎◌}
+use Rattle.std.specs.Prelude.{◌≡◌, ℕ, ◌<◌, ◌≤◌, Bool, true, cond, not, nat_lt, List, [], ◌∷◌, ◌++◌, filter, ◌⊎◌}
 use Rattle.f2b_base.specs.declared.addr.Addr.{Addr}
 use Rattle.f2b_base.specs.declared.ban.Ban.{Ban}
-use Rattle.f2b_base.specs.declared.ban.Past.{Past}
-use Rattle.f2b_model.specs.Lists.{IsIn, IsInOrder, placed}
+use Rattle.f2b_model.specs.Lists.{IsIn, placed}
 use Rattle.f2b_model.specs.Moves.{ban_of, is_banned}
-use Rattle.f2b_model.specs.Sound.{IsOnceEach}
 use Rattle.f2b_model.specs.Steps.{is_due, own_end}
 use Rattle.ban_table.specs.declared.lists.BanLists.{BanLists}
 

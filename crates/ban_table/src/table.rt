@@ -10,10 +10,10 @@ ghost use Rattle.ban_table.specs.Tables.{begun, ended, purged, IsNextDue};
 
 use crate::index::Index;
 use crate::lists::BanLists;
-use crate::past::{copy_of, drop_until, make_room, short_count_of};
+use crate::past::PastBans;
 use f2b_base::{Addr, Ban, NoMemory, Past, Seq};
 use std::alloc::Global;
-use std::collections::{BTreeMap, VecDeque};
+use std::collections::BTreeMap;
 use std::marker::Model;
 
 /// The bans of one jail.
@@ -23,20 +23,20 @@ pub struct BanTable {
     bans: BTreeMap<u64, Ban>,
     index: Index,
     /// In the order in which they ended, with room for one entry of each active ban.
-    past: VecDeque<Past>,
+    past: PastBans,
 }
 
 impl Model for BanTable {
     ghost use Rattle.ban_table.specs.declared.lists.BanLists.{BanLists};
     ghost use Rattle.ban_table.specs.Places.{IsTable};
     ghost use Rattle.std.specs.BTreeMap.{values};
-    ghost use Rattle.std.specs.VecDeque.{deque_len, deque_capacity};
+    ghost use Rattle.std.specs.Prelude.{length};
 
     ghost Value = { BanLists };
 
     ghost view = { λ t. record { active = values t.bans; past = t.past.items } };
 
-    ghost invariant = { λ t. IsTable t.bans.entries t.index (deque_len t.past) (deque_capacity t.past) };
+    ghost invariant = { λ t. IsTable t.bans.entries t.index (length t.past.items) t.past.room };
 }
 
 /// A copy of the active bans.
@@ -58,7 +58,7 @@ impl BanTable {
         BanTable {
             bans: BTreeMap::new(alloc),
             index: Index::new(alloc),
-            past: VecDeque::new(alloc),
+            past: PastBans::new(alloc),
         }
     }
 
@@ -69,7 +69,7 @@ impl BanTable {
         ensures ok { OnOk result (self.new ≡ begun ban self.old) }
         ensures err { OnErr result (self.new ≡ self.old) }
     {
-        make_room(&mut self.past, self.bans.len() + 1)?;
+        self.past.make_room(self.bans.len() + 1)?;
         self.index.add(&ban)?;
         if self.bans.insert(ban.serial, ban).is_err() {
             self.index.remove(&ban);
@@ -88,7 +88,7 @@ impl BanTable {
         let serial = self.index.serial_of(addr)?;
         let ban = self.bans.remove(&serial)?;
         self.index.remove(&ban);
-        self.past.push_back_reserved(Past { addr, end: at });
+        self.past.push(Past { addr, end: at });
         Some(ban)
     }
 
@@ -116,22 +116,22 @@ impl BanTable {
     pub fn past(&self, addr: Addr) -> u32
         ensures { result ≡ up_to_32 (length (filter (past_of addr) self.now.past)) }
     {
-        short_count_of(&self.past, addr)
+        self.past.count_of(addr)
     }
 
     /// Drops the past entries that ended at a limit, in seconds since 1970, or before.
     pub fn purge(&mut self, limit: u64)
         ensures { self.new ≡ purged limit self.old }
     {
-        drop_until(&mut self.past, limit);
+        self.past.drop_until(limit);
     }
 
     /// A copy of the lists.
     pub fn lists(&self) -> Result<BanLists, NoMemory>
         ensures { IfOk result (λ lists. lists ≡ self.now) }
     {
-        let past = copy_of(&self.past)?;
-        let active = active_of(*self.past.allocator(), &self.bans)?;
+        let past = self.past.copies()?;
+        let active = active_of(self.past.allocator(), &self.bans)?;
         Ok(BanLists { active, past })
     }
 }

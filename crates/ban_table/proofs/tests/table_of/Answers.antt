@@ -1,4 +1,4 @@
-use Rattle.std.proofs.Common.{◌≡◌, not, refl, sym, ◌∙◌, ap}
+use Rattle.std.proofs.Common.{not, refl, sym, ◌∙◌, ap}
 use Rattle.f2b_model.specs.Moves.{ban_of}
 use Rattle.ban_table.proofs.BanLemmas.{none_found}
 use Rattle.ban_table.proofs.TestLemmas.{none_lent, all_apart, all_below_begun, all_below_more}

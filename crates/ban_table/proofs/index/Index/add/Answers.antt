@@ -1,4 +1,4 @@
-use Rattle.std.proofs.Common.{◌≡◌, sym, ◌∙◌}
+use Rattle.std.proofs.Common.{sym, ◌∙◌}
 use Rattle.ban_table.proofs.IndexLemmas.{serials_begun, serials_back, ends_put, ends_unput, same_ends, ok_holds, err_holds}
 use Rattle.ban_table.proofs.index.Index.add.Goals as goal
 

@@ -1,7 +1,7 @@
-use Rattle.std.proofs.Common.{◌+◌, sym, ◌∙◌, ap, arith}
-use Rattle.std.specs.VecDeque.{deque_len, deque_capacity}
+use Rattle.std.proofs.Common.{◌+◌, length, sym, ◌∙◌, ap}
 use Rattle.f2b_model.specs.Moves.{ban_of}
 use Rattle.ban_table.proofs.BanLemmas.{found_some}
+use Rattle.ban_table.proofs.PastLemmas.{length_pushed}
 use Rattle.ban_table.proofs.TableLemmas.{ended_so, ended_none, ended_some, IsEnded, not_banned, not_lost}
 use Rattle.ban_table.proofs.table.BanTable.end.Goals as goal
 
@@ -20,16 +20,16 @@ returns-in_err-ban-clause-lists c =
     absurd (not_lost c.self.inside.bans.entries c.args.addr c.in_ok-serial.serial table.keyed table.rising (c.in_ok-serial.ensures _ table.found) c.in_err-ban.ensures.value)
 
 -- what the whole body does
-all : (c : goal.After-push_back_reserved)
-    → IsEnded c.self.inside.bans.entries c.remove.new.self.entries c.remove-2.new.self (deque_len c.self.inside.past + 1) (deque_capacity c.self.inside.past) c.args.addr c.in_ok-ban.ban
+all : (c : goal.After-push)
+    → IsEnded c.self.inside.bans.entries c.remove.new.self.entries c.remove-2.new.self (length c.self.inside.past.items + 1) c.self.inside.past.room c.args.addr c.in_ok-ban.ban
 all c =
     let w = c.self.inside in
     let table = c.self.invariant in
-    ended_so w.bans.entries c.remove.new.self.entries w.index c.remove-2.new.self (deque_len w.past) (deque_capacity w.past) c.args.addr c.in_ok-serial.serial c.in_ok-ban.ban table
+    ended_so w.bans.entries c.remove.new.self.entries w.index c.remove-2.new.self (length w.past.items) w.past.room c.args.addr c.in_ok-serial.serial c.in_ok-ban.ban table
     (c.in_ok-serial.ensures _ table.found) c.in_ok-ban.ensures.value c.in_ok-ban.ensures.entries c.in_ok-ban.ensures.len c.remove-2.ensures
 
 pub invariant_of-self-2 : goal.invariant_of-self-2
-invariant_of-self-2 c = rw (c.push_back_reserved.ensures.len, c.push_back_reserved.ensures.capacity) (all c).table
+invariant_of-self-2 c = rw (ap length c.push.ensures.items ∙ length_pushed _ _, c.push.ensures.room) (all c).table
 
 pub returns-clause-ban : goal.returns-clause-ban
 returns-clause-ban c = rw (← c.self.view_is) (sym (all c).own)
@@ -37,4 +37,4 @@ returns-clause-ban c = rw (← c.self.view_is) (sym (all c).own)
 pub returns-clause-lists : goal.returns-clause-lists
 returns-clause-lists c =
     rw (← c.self.view_is)
-    (ended_some c.args.addr c.args.at _ _ _ (found_some (ban_of c.args.addr) _ c.in_ok-ban.ban (all c).own) (all c).others c.push_back_reserved.ensures.items)
+    (ended_some c.args.addr c.args.at _ _ _ (found_some (ban_of c.args.addr) _ c.in_ok-ban.ban (all c).own) (all c).others c.push.ensures.items)
