@@ -1,4 +1,4 @@
-use Rattle.std.proofs.Common.{◌≡◌, ◌≤◌, true, refl, ◌∙◌, arith}
+use Rattle.std.proofs.Common.{◌≡◌, true, refl, ◌∙◌, arith}
 use Rattle.f2b_model.specs.Full.{is_of}
 use Rattle.fail_window.specs.declared.tests.TheConstants.{ADDR}
 use Rattle.fail_window.proofs.FollowLemmas.{kept_own, kept_past, follows_one_more}

@@ -1,4 +1,4 @@
-use Rattle.std.proofs.Common.{◌≡◌, arith, ◌∙◌, ap}
+use Rattle.std.proofs.Common.{arith, ◌∙◌, ap}
 use Rattle.std.specs.List.{filter}
 use Rattle.f2b_model.specs.Full.{is_late}
 use Rattle.fail_window.proofs.AddLemmas.{late_order, IsAdded, added}
