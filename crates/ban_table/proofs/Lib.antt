@@ -1,0 +1,5 @@
+pub mod BanLemmas
+pub mod IndexLemmas
+pub mod TableLemmas
+pub mod TestLemmas
+pub mod PastLemmas

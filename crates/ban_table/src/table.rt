@@ -1,0 +1,137 @@
+//! `BanTable` and its calls.
+ghost use Rattle.std.specs.Prelude.{◌≡◌, ◌≢◌, ◌<◌, ◌^◌, [], false, length, filter, find, is_some, option_copied, OnOk, OnErr, IfOk, IfSome};
+ghost use Rattle.std.specs.BTreeMap.{values};
+ghost use Rattle.std.specs.List.{list_any};
+ghost use Rattle.f2b_base.specs.declared.ban.Ban.{Ban};
+ghost use Rattle.f2b_model.specs.Lists.{AllOf};
+ghost use Rattle.f2b_model.specs.Moves.{ban_of, is_banned, past_of, up_to_32};
+ghost use Rattle.f2b_model.specs.Steps.{is_due};
+ghost use Rattle.ban_table.specs.Tables.{begun, ended, purged, IsNextDue};
+
+use crate::index::Index;
+use crate::lists::BanLists;
+use crate::past::PastBans;
+use f2b_base::{Addr, Ban, NoMemory, Past, Seq};
+use std::alloc::Global;
+use std::collections::BTreeMap;
+use std::marker::Model;
+
+/// The bans of one jail.
+#[derive(Drop)]
+pub struct BanTable {
+    /// The active bans by serial.
+    bans: BTreeMap<u64, Ban>,
+    index: Index,
+    /// In the order in which they ended, with room for one entry of each active ban.
+    past: PastBans,
+}
+
+impl Model for BanTable {
+    ghost use Rattle.ban_table.specs.declared.lists.BanLists.{BanLists};
+    ghost use Rattle.ban_table.specs.Places.{IsTable};
+    ghost use Rattle.std.specs.BTreeMap.{values};
+    ghost use Rattle.std.specs.Prelude.{length};
+
+    ghost Value = { BanLists };
+
+    ghost view = { λ t. record { active = values t.bans; past = t.past.items } };
+
+    ghost invariant = { λ t. IsTable t.bans.entries t.index (length t.past.items) t.past.room };
+}
+
+/// A copy of the active bans.
+fn active_of(alloc: Global, bans: &BTreeMap<u64, Ban>) -> Result<Seq<Ban>, NoMemory>
+    ensures { IfOk result (λ active. active ≡ values bans.now) }
+{
+    let mut active = Seq::new(alloc);
+    for ban in bans.values() {
+        active.push(*ban)?;
+    }
+    Ok(active)
+}
+
+impl BanTable {
+    /// No bans. Takes no memory.
+    pub fn new(alloc: Global) -> BanTable
+        ensures { result ≡ record { active = []; past = [] } }
+    {
+        BanTable {
+            bans: BTreeMap::new(alloc),
+            index: Index::new(alloc),
+            past: PastBans::new(alloc),
+        }
+    }
+
+    /// Starts a ban, and makes room for its past entry. Ask `active` first: the address may not be banned.
+    pub fn start(&mut self, ban: Ban) -> Result<(), NoMemory>
+        requires free { is_banned ban.addr self.old.active ≡ false }
+        requires serial { AllOf (λ (other : Ban). other.serial ≢ ban.serial) self.old.active }
+        ensures ok { OnOk result (self.new ≡ begun ban self.old) }
+        ensures err { OnErr result (self.new ≡ self.old) }
+    {
+        self.past.make_room(self.bans.len() + 1)?;
+        self.index.add(&ban)?;
+        if self.bans.insert(ban.serial, ban).is_err() {
+            self.index.remove(&ban);
+            return Err(NoMemory);
+        }
+        Ok(())
+    }
+
+    /// Ends the address's ban at a moment, in seconds since 1970, and adds a past entry. `None` where it is not banned. Takes no
+    /// memory.
+    pub fn end(&mut self, addr: Addr, at: u64) -> Option<Ban>
+        requires { at < 2 ^ 40 }
+        ensures ban { result ≡ find (ban_of addr) self.old.active }
+        ensures lists { self.new ≡ ended addr at self.old }
+    {
+        let serial = self.index.serial_of(addr)?;
+        let ban = self.bans.remove(&serial)?;
+        self.index.remove(&ban);
+        self.past.push(Past { addr, end: at });
+        Some(ban)
+    }
+
+    /// The address's active ban, or `None` where it is not banned.
+    pub fn active(&self, addr: Addr) -> Option<&Ban>
+        ensures { option_copied result ≡ find (ban_of addr) self.now.active }
+    {
+        let serial = self.index.serial_of(addr)?;
+        self.bans.get(&serial)
+    }
+
+    /// The ban to end next at a moment, in seconds since 1970, or `None` where no end is at most that.
+    pub fn due(&self, now: u64) -> Option<&Ban>
+        ensures some { is_some result ≡ list_any (is_due now) self.now.active }
+        ensures first { IfSome result (λ ban. IsNextDue now self.now.active ban.now) }
+    {
+        let (end, serial) = self.index.least_end()?;
+        if now < end {
+            return None;
+        }
+        self.bans.get(&serial)
+    }
+
+    /// How many past entries the address has. Stays at the greatest u32.
+    pub fn past(&self, addr: Addr) -> u32
+        ensures { result ≡ up_to_32 (length (filter (past_of addr) self.now.past)) }
+    {
+        self.past.count_of(addr)
+    }
+
+    /// Drops the past entries that ended at a limit, in seconds since 1970, or before.
+    pub fn purge(&mut self, limit: u64)
+        ensures { self.new ≡ purged limit self.old }
+    {
+        self.past.drop_until(limit);
+    }
+
+    /// A copy of the lists.
+    pub fn lists(&self) -> Result<BanLists, NoMemory>
+        ensures { IfOk result (λ lists. lists ≡ self.now) }
+    {
+        let past = self.past.copies()?;
+        let active = active_of(self.past.allocator(), &self.bans)?;
+        Ok(BanLists { active, past })
+    }
+}

@@ -1,0 +1,115 @@
+//! Worked rows, through the calls of `BanTable`.
+ghost use Rattle.std.specs.Prelude.{◌<◌, ◌^◌};
+
+use crate::BanTable;
+use f2b_base::{Addr, Ban, NoMemory, Until};
+use std::alloc::Global;
+use std::test::Fail;
+
+/// A table in which these bans began one after the other, with serials from 0 on. Who is banned is passed over.
+fn table_of(alloc: Global, bans: &[(Addr, Until)]) -> Result<BanTable, NoMemory> {
+    let mut table = BanTable::new(alloc);
+    for (index, &(addr, until)) in bans.iter().enumerate() {
+        let count = table.past(addr);
+        if table.active(addr).is_none() {
+            table.start(Ban {
+                serial: index as u64,
+                addr,
+                begin: 0,
+                until,
+                count,
+                failures: 0,
+            })?;
+        }
+    }
+    Ok(table)
+}
+
+/// The serials of the bans that are due at a moment, each of which is ended at it before the next one is asked for.
+fn ended_at(alloc: Global, table: &mut BanTable, now: u64) -> Result<Vec<u64>, NoMemory>
+    requires { now < 2 ^ 40 }
+{
+    let mut serials = Vec::new(alloc);
+    for _ in 0..2_000_000_u64 {
+        let Some(ban) = table.due(now).copied() else {
+            break;
+        };
+        if table.end(ban.addr, now) == Some(ban) {
+            serials.push(ban.serial)?;
+        }
+    }
+    Ok(serials)
+}
+
+#[test]
+fn bans_end_by_end_and_then_by_serial(rt: HostRuntime) -> Result<(), Fail> {
+    let bans = [
+        (Addr::V4(1), Until::At(20)),
+        (Addr::V4(2), Until::At(10)),
+        (Addr::V4(3), Until::Never),
+        (Addr::V6(2), Until::At(10)),
+        (Addr::V6(1), Until::At(30)),
+    ];
+    let mut table = table_of(rt.alloc(), &bans)?;
+    let rows: [(u64, &[u64]); 6] = [
+        (9, &[]),
+        (10, &[1, 3]),
+        (19, &[]),
+        (25, &[0]),
+        (40, &[4]),
+        ((1 << 40) - 1, &[]),
+    ];
+    for (now, serials) in rows {
+        let ended = ended_at(rt.alloc(), &mut table, now)?;
+        assert_eq!(rt; ended.as_slice(), serials, "at {now}");
+    }
+    let lists = table.lists()?;
+    let mut ends = Vec::new(rt.alloc());
+    for entry in lists.past.as_slice() {
+        ends.push(entry.end)?;
+    }
+    assert_eq!(rt; ends.as_slice(), [10, 10, 25, 40].as_slice());
+    assert_eq!(rt; lists.active.len(), 1);
+    assert!(rt; table.active(Addr::V4(3)).is_some());
+    assert!(rt; table.active(Addr::V4(2)).is_none());
+    assert!(rt; table.end(Addr::V4(2), 50).is_none());
+    Ok(())
+}
+
+#[test]
+fn past_entries_count_until_they_are_purged(rt: HostRuntime) -> Result<(), Fail> {
+    let bans = [(Addr::V4(1), Until::At(20)), (Addr::V4(2), Until::At(10))];
+    let mut table = table_of(rt.alloc(), &bans)?;
+    let rows = [
+        (19, 0, 1, 0),
+        (20, 1, 1, 18),
+        (30, 1, 0, 19),
+        (30, 0, 0, 20),
+    ];
+    for (now, first, second, limit) in rows {
+        let _ = ended_at(rt.alloc(), &mut table, now)?;
+        table.purge(limit);
+        assert_eq!(rt;
+            (table.past(Addr::V4(1)), table.past(Addr::V4(2))),
+            (first, second),
+            "at {now}"
+        );
+    }
+    Ok(())
+}
+
+#[test]
+fn a_million_bans_end_in_order(rt: HostRuntime) -> Result<(), Fail> {
+    let mut bans = Vec::new(rt.alloc());
+    for number in 0..1_000_000_u32 {
+        bans.push((Addr::V4(number), Until::At(u64::from(number % 1000))))?;
+    }
+    let mut table = table_of(rt.alloc(), bans.as_slice())?;
+    let ended = ended_at(rt.alloc(), &mut table, 999)?;
+    assert_eq!(rt;
+        (ended.len(), ended.get(1).copied()),
+        (1_000_000, Some(1000))
+    );
+    assert_eq!(rt; table.lists()?.past.len(), 1_000_000);
+    Ok(())
+}

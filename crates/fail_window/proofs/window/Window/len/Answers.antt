@@ -1,0 +1,11 @@
+use Rattle.std.proofs.Common.{arith}
+use Rattle.fail_window.proofs.RunLemmas.{few}
+use Rattle.fail_window.proofs.window.Window.len.Goals as goal
+
+pub returns-clause-short : goal.returns-clause-short
+returns-clause-short c =
+    let w = c.self.inside in
+    let tidy = c.self.invariant in
+    rw (← c.self.view_is) (λ unfilled. (
+    let bound = few w.findtime w.maxretry tidy.late.0 tidy.of_one.0 w.kept.items tidy.positive tidy.of_one.1 tidy.late.1 (unfilled tidy.of_one.0) in
+    omega arith))

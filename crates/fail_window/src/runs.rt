@@ -1,0 +1,77 @@
+//! Failures of one address in order of time: where one goes in, which are too old, and which stand close together.
+ghost use Rattle.std.specs.Prelude.{◌≡◌, ◌+◌, ◌≤◌, ◌<◌, ◌↔◌, ℕ, true, nat_lt, filter, insert};
+ghost use Rattle.std.specs.VecDeque.{deque_len, deque_capacity};
+ghost use Rattle.f2b_model.specs.Full.{is_late};
+ghost use Rattle.f2b_model.specs.Lists.{placed, IsInOrder};
+ghost use Rattle.fail_window.specs.Times.{by_time, IsRunAt};
+
+use f2b_base::Failure;
+use std::collections::VecDeque;
+
+/// The place behind all failures that are not later than this one.
+pub fn place_of(kept: &VecDeque<Failure>, failure: &Failure) -> usize
+    requires { IsInOrder by_time kept.now.items }
+    ensures within { result ≤ deque_len kept.now }
+    ensures place { placed by_time failure.now kept.now.items ≡ insert kept.now.items result failure.now }
+{
+    kept.partition_point(|other| other.time <= failure.time)
+}
+
+/// Whether a failure is later than two `findtime` before a moment.
+fn is_late(at: u64, findtime: u64, failure: &Failure) -> bool
+    ensures { result ≡ is_late at findtime failure.now }
+{
+    let time = failure.time;
+    at < time || (at - time) / 2 < findtime
+}
+
+/// Drops the failures that are not late at a moment, which stand in front.
+pub fn drop_old(kept: &mut VecDeque<Failure>, at: u64, findtime: u64)
+    requires { IsInOrder by_time kept.old.items }
+    ensures kept { kept.new.items ≡ filter (is_late at findtime) kept.old.items }
+    ensures fewer { deque_len kept.new ≤ deque_len kept.old }
+    ensures room { deque_capacity kept.new ≡ deque_capacity kept.old }
+{
+    let old = kept.partition_point(|failure| !is_late(at, findtime, failure));
+    'drops: for _ in 0..old {
+        let _ = kept.pop_front();
+    }
+}
+
+/// Whether a moment is less than `findtime` seconds after another.
+fn is_close(first: u64, last: u64, findtime: u64) -> bool
+    ensures { result ≡ nat_lt last (first + findtime) }
+{
+    last < first || last - first < findtime
+}
+
+/// Whether the `maxretry` failures from a place on are there, the last less than `findtime` seconds after the first.
+fn is_run(kept: &VecDeque<Failure>, index: usize, findtime: u64, maxretry: usize) -> bool
+    requires there { index + maxretry ≤ deque_len kept.now }
+    requires maxretry { 1 ≤ maxretry }
+    ensures { result ≡ true ↔ IsRunAt findtime maxretry kept.now.items index }
+{
+    let first = kept[index].time;
+    let last = kept[index + (maxretry - 1)].time;
+    is_close(first, last, findtime)
+}
+
+/// Whether some `maxretry` neighbours, of which one stands at a place, are so close.
+pub fn has_run_with(kept: &VecDeque<Failure>, place: usize, findtime: u64, maxretry: usize) -> bool
+    requires place { place < deque_len kept.now }
+    requires maxretry { 1 ≤ maxretry }
+    ensures found { result ≡ true → (k : ℕ) × IsRunAt findtime maxretry kept.now.items k }
+    ensures none { (k : ℕ) → k ≤ place → place < k + maxretry → IsRunAt findtime maxretry kept.now.items k → result ≡ true }
+{
+    if kept.len() < maxretry {
+        return false;
+    }
+    let first = (place + 1).saturating_sub(maxretry);
+    let end = place.min(kept.len() - maxretry) + 1;
+    for index in first..end {
+        if is_run(kept, index, findtime, maxretry) {
+            return true;
+        }
+    }
+    false
+}

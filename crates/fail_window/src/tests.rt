@@ -1,0 +1,154 @@
+//! Worked rows, through the calls of `Window`.
+ghost use Rattle.std.specs.Prelude.{◌≡◌, ◌≤◌, IfOk};
+
+use crate::Window;
+use f2b_base::{Addr, Failure, NoMemory, Text};
+use std::alloc::Global;
+use std::test::Fail;
+
+const ADDR: Addr = Addr::V4(0xc000_0207);
+
+/// A failure of the address with a line.
+fn failure(alloc: Global, time: u64, line: &str) -> Result<Failure, NoMemory>
+    ensures addr { IfOk result (λ failure. failure.addr ≡ ADDR) }
+    ensures time { IfOk result (λ failure. failure.time ≡ time) }
+{
+    Ok(Failure {
+        addr: ADDR,
+        time,
+        line: Text::from_str(alloc, line)?,
+    })
+}
+
+/// A window that was given failures, each with its time, the moment at which it came and its line, and at which of them it was full.
+/// It stops there, and where a failure would not count.
+fn fed(
+    alloc: Global,
+    findtime: u64,
+    maxretry: u32,
+    rows: &[(u64, u64, &str)],
+) -> Result<(Window, Option<usize>), NoMemory>
+    requires findtime { 1 ≤ findtime }
+    requires maxretry { 1 ≤ maxretry }
+{
+    let mut window = Window::new(alloc, findtime, maxretry);
+    let mut last = 0;
+    for (index, &(time, now, line)) in rows.iter().enumerate() {
+        if now < last || now < time || now - time >= findtime {
+            return Ok((window, None));
+        }
+        last = now;
+        if window.add(failure(alloc, time, line)?, now)? {
+            return Ok((window, Some(index)));
+        }
+    }
+    Ok((window, None))
+}
+
+#[test]
+fn fills_where_maxretry_failures_are_within_findtime(rt: HostRuntime) -> Result<(), Fail> {
+    let rows: [(u64, u32, &[(u64, u64, &str)], Option<usize>); 10] = [
+        (
+            600,
+            3,
+            &[(100, 100, ""), (300, 300, ""), (699, 699, "")],
+            Some(2),
+        ),
+        (
+            600,
+            3,
+            &[(100, 100, ""), (300, 300, ""), (700, 700, "")],
+            None,
+        ),
+        (
+            600,
+            3,
+            &[(500, 500, ""), (100, 500, ""), (300, 500, "")],
+            Some(2),
+        ),
+        (600, 1, &[(100, 100, "")], Some(0)),
+        (600, 2, &[(100, 100, ""), (100, 100, "")], Some(1)),
+        (
+            600,
+            2,
+            &[(100, 100, ""), (700, 700, ""), (1300, 1300, "")],
+            None,
+        ),
+        (
+            600,
+            3,
+            &[(100, 100, ""), (700, 700, ""), (400, 800, "")],
+            None,
+        ),
+        (
+            600,
+            3,
+            &[
+                (100, 100, ""),
+                (700, 700, ""),
+                (400, 800, ""),
+                (699, 900, ""),
+            ],
+            Some(3),
+        ),
+        (1, 2, &[(5, 5, ""), (6, 6, ""), (6, 6, "")], Some(2)),
+        (
+            10,
+            3,
+            &[
+                (1, 1, ""),
+                (11, 11, ""),
+                (21, 21, ""),
+                (12, 21, ""),
+                (12, 21, ""),
+            ],
+            Some(4),
+        ),
+    ];
+    for (findtime, maxretry, failures, place) in rows {
+        let (_window, at) = fed(rt.alloc(), findtime, maxretry, failures)?;
+        assert_eq!(rt; at, place, "{failures:?}");
+    }
+    Ok(())
+}
+
+#[test]
+fn equal_times_stand_in_order_of_arrival(rt: HostRuntime) -> Result<(), Fail> {
+    let rows = [
+        (5, 5, "a"),
+        (4, 5, "b"),
+        (5, 6, "c"),
+        (4, 7, "d"),
+        (7, 7, "e"),
+    ];
+    let (window, _) = fed(rt.alloc(), 600, 9, &rows)?;
+    assert_eq!(rt; window.len(), 5);
+    let copies = window.failures()?;
+    let failures = window.into_failures();
+    assert!(rt; copies == failures);
+    let mut lines = String::new(rt.alloc());
+    for failure in failures.as_slice() {
+        lines.push_str(failure.line.as_str())?;
+    }
+    assert_eq!(rt; lines.as_str(), "bdace");
+    Ok(())
+}
+
+/// So many failures, one a second.
+fn one_a_second(alloc: Global, count: u64) -> Result<Vec<(u64, u64, &'static str)>, NoMemory> {
+    let mut rows = Vec::new(alloc);
+    for second in 0..count {
+        rows.push((second, second, ""))?;
+    }
+    Ok(rows)
+}
+
+#[test]
+fn a_large_window_is_fast(rt: HostRuntime) -> Result<(), Fail> {
+    let rows = one_a_second(rt.alloc(), 500_000)?;
+    let (window, at) = fed(rt.alloc(), 100_000, 100_000, rows.as_slice())?;
+    assert_eq!(rt; (window.len(), at), (100_000, Some(99_999)));
+    let (window, at) = fed(rt.alloc(), 99_999, 100_000, rows.as_slice())?;
+    assert_eq!(rt; (window.len(), at), (199_998, None));
+    Ok(())
+}

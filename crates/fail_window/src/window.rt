@@ -1,0 +1,92 @@
+//! `Window` and its calls.
+ghost use Rattle.std.specs.Prelude.{◌≡◌, ◌<◌, ◌≤◌, ◌+◌, ◌-◌, ◌*◌, [], length, true, OnOk, OnErr, IfOk};
+ghost use Rattle.f2b_base.specs.declared.ban.Failure.{Failure};
+ghost use Rattle.f2b_model.specs.Full.{is_of};
+ghost use Rattle.f2b_model.specs.Lists.{AllOf};
+ghost use Rattle.fail_window.specs.Opened.{GoesOn, IsOpen, KeepsLimits, TellsFull};
+
+use crate::runs::{drop_old, has_run_with, place_of};
+use f2b_base::{Failure, NoMemory, Plain, Seq};
+use std::alloc::Global;
+use std::collections::VecDeque;
+use std::marker::Model;
+
+/// The failures of one address that can still fill it, with the limits of its jail.
+#[derive(Drop)]
+pub struct Window {
+    findtime: u64,
+    maxretry: u32,
+    /// In order of time, then of arrival.
+    kept: VecDeque<Failure>,
+}
+
+impl Model for Window {
+    ghost use Rattle.fail_window.specs.Opened.{IsTidy, Opened};
+
+    ghost Value = { Opened };
+
+    ghost view = { λ w. record { findtime = w.findtime; maxretry = w.maxretry; failures = w.kept.items } };
+
+    ghost invariant = { λ w. IsTidy w.findtime w.maxretry w.kept.items };
+}
+
+impl Window {
+    /// A window with no failures. Takes no memory.
+    pub fn new(alloc: Global, findtime: u64, maxretry: u32) -> Window
+        requires findtime { 1 ≤ findtime }
+        requires maxretry { 1 ≤ maxretry }
+        ensures { result ≡ record { findtime = findtime; maxretry = maxretry; failures = [] } }
+    {
+        Window {
+            findtime,
+            maxretry,
+            kept: VecDeque::new(alloc),
+        }
+    }
+
+    /// Takes one more failure of the address, at a moment in seconds since 1970, and tells whether it is now full. What is too old
+    /// to fill it from this moment on goes.
+    pub fn add(&mut self, failure: Failure, now: u64) -> Result<bool, NoMemory>
+        requires not_later { failure.time ≤ now }
+        requires recent { now < failure.time + self.old.findtime }
+        requires forward { AllOf (λ (f : Failure). f.time ≤ now) self.old.failures }
+        requires own { AllOf (λ (f : Failure). is_of failure.addr f ≡ true) self.old.failures }
+
+        ensures limits { OnOk result (KeepsLimits self.old self.new) }
+        ensures stands { OnOk result (GoesOn now self.old self.new failure) }
+        ensures full { IfOk result (TellsFull now self.old failure) }
+        ensures err { OnErr result (self.new ≡ self.old) }
+    {
+        self.kept.reserve(1)?;
+        drop_old(&mut self.kept, now, self.findtime);
+        let place = place_of(&self.kept, &failure);
+        self.kept.insert(place, failure)?;
+        Ok(has_run_with(&self.kept, place, self.findtime, self.maxretry as usize))
+    }
+
+    /// How many failures are kept.
+    pub fn len(&self) -> u64
+        ensures count { result ≡ length self.now.failures }
+        ensures short { IsOpen self.now → result ≤ 2 * self.now.maxretry - 2 }
+    {
+        self.kept.len() as u64
+    }
+
+    /// The failures, in order of time, then of arrival. Takes no memory.
+    pub fn into_failures(self) -> Seq<Failure>
+        ensures { result ≡ self.failures }
+    {
+        Seq::from(self.kept.into_vec())
+    }
+
+    /// A copy of the failures, in order of time, then of arrival.
+    pub fn failures(&self) -> Result<Seq<Failure>, NoMemory>
+        ensures { IfOk result (λ failures. failures ≡ self.now.failures) }
+    {
+        let mut failures = Seq::new(*self.kept.allocator());
+        for failure in self.kept.iter() {
+            failures.push(failure.copy()?)?;
+        }
+        Ok(failures)
+    }
+}
