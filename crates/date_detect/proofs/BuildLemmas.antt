@@ -1,18 +1,17 @@
 -- What the calls of a build come to, text by text.
-use Rattle.std.proofs.Common.{◌≡◌, ℕ, suc, ◌+◌, ◌<◌, ◌≤◌, ◌≢◌, All, Result, IsSome, is_some, true≢false, List, [], ◌∷◌, ◌++◌, Ok, Err, Bool, drop-cons, refl, sym, ap, ap₂, ◌∙◌, subst, length, map, take, drop, get_or, inl, inr, arith}
+use Rattle.std.proofs.Common.{◌≡◌, ℕ, suc, ◌+◌, ◌<◌, ◌≤◌, ◌≢◌, All, Result, IsSome, is_some, true≢false, List, [], ◌∷◌, ◌++◌, Ok, Err, Bool, drop-cons, sym, ap, ap₂, ◌∙◌, subst, length, map, take, drop, get_or, inl, inr, arith}
 use Rattle.std.proofs.Math.Seq.{take-append_seam, get_or-append_seam}
 use Rattle.std.proofs.lemmas.List.{map-append, length-append, take_more, take-append-drop, take-map}
 use Rattle.f2b_world.specs.Reading.{reading}
 use Rattle.f2b_world.specs.declared.event.Event.{Event}
 use Rattle.f2b_world.specs.declared.event.Event.TheVariants.{Make}
-use Rattle.f2b_world.specs.declared.answer.MakeAnswer.{MakeAnswer}
 use Rattle.f2b_world.specs.declared.answer.MakeAnswer.TheVariants.{Built as WasBuilt, Syntax as WasSyntax, TooBig as WasTooBig}
-use Rattle.f2b_world.specs.Told.{Standing, History, Fault, OfPatterns, Adds, Called, IsHonest, Rose}
+use Rattle.f2b_world.specs.Told.{Standing, History, Fault, OfPatterns, Adds, IsHonest, Rose}
 use Rattle.date_detect.specs.Forms.{Rule, framed, usual_form, usual_rule, texts}
 use Rattle.date_detect.specs.Usual.{usual_text}
 use Rattle.date_detect.specs.declared.form.Form.{Form}
 use Rattle.date_detect.specs.declared.usual.UsualForm.{UsualForm}
-use Rattle.date_detect.specs.Builds.{Makes, built, Refuses, AreCalls, HasCause, Builds}
+use Rattle.date_detect.specs.Builds.{Makes, built, AreCalls, HasCause, Builds}
 use Rattle.std.specs.List.{Contains}
 use Rattle.date_detect.specs.declared.error.BuildError.{BuildError}
 use Rattle.date_detect.specs.declared.error.BuildError.TheVariants.{Syntax, TooBig, NoMemory}

@@ -1,5 +1,5 @@
 -- Going over the characters of a text.
-use Rattle.std.proofs.Common.{◌≡◌, ℕ, suc, ◌+◌, ◌<◌, ◌≤◌, ◌&&◌, ◌||◌, ◌==◌, not, min, Bool, List, [], ◌∷◌, ◌++◌, length, get_or, drop, is_some, refl, sym, ap, ◌∙◌, arith, drop-cons, add-one, append_assoc, if◌then◌else◌, nat_le, nat_eq, true, false}
+use Rattle.std.proofs.Common.{◌≡◌, ℕ, suc, ◌+◌, ◌<◌, ◌≤◌, ◌&&◌, ◌||◌, ◌==◌, not, min, Bool, List, [], ◌∷◌, ◌++◌, length, get_or, drop, is_some, refl, sym, ap, arith, drop-cons, if◌then◌else◌, nat_le}
 use Rattle.std.proofs.lemmas.List.{length_push, drop_all}
 use Rattle.std.proofs.lemmas.Bool.Decides.{nat_tests}
 use Rattle.date_detect.specs.Directives.{directive_of, opens, are_known, times_in, piece, written}

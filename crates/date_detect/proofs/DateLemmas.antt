@@ -1,11 +1,10 @@
 -- The date of a form in a line, by what its pattern matches.
-use Rattle.std.proofs.Common.{◌≡◌, ℕ, ◌+◌, ◌<◌, length, get_or, drop-cons, add-one, is_some, Bool, true, false, List, [], ◌∷◌, ◌++◌, drop, Option, Some, None, option_map, ne_eqb, refl, sym, ap, ◌∙◌, ℤ, if◌then◌else◌}
+use Rattle.std.proofs.Common.{◌≡◌, ℕ, ◌+◌, ◌<◌, length, get_or, drop-cons, add-one, is_some, Bool, true, false, List, [], ◌∷◌, drop, Some, None, option_map, ne_eqb, refl, ap, ℤ, if◌then◌else◌}
 use Rattle.f2b_world.specs.declared.pattern.spans.Cut.{Cut}
 use Rattle.date_detect.proofs.OptionLemmas.{option_or-some, option_or-none}
 use Rattle.date_detect.specs.Fields.{said_moment}
 use Rattle.date_detect.specs.Dates.{match_in, said_in, found_at, one_on, has_bracket, date_of, date_by, first_date}
 use Rattle.date_detect.specs.declared.form.Form.{Form}
-use Rattle.date_detect.specs.declared.search.Found.{Found}
 
 module _ (form : Form) (now : ℕ) (zone : ℤ) (line : List ℕ) where
   -- a form that has a match gives the match's date, anchored or not

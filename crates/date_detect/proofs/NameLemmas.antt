@@ -1,5 +1,5 @@
 -- The number of the group with a name, and the names that a parser gives.
-use Rattle.std.proofs.Common.{◌≡◌, ℕ, suc, ◌+◌, ◌<◌, Bool, true, false, ◌&&◌, ◌==◌, List, [], ◌∷◌, length, map, drop, get_or, Option, Some, None, option_map, refl, sym, ap, ap₂, ◌∙◌, arith, drop-cons, zero-add, add-one}
+use Rattle.std.proofs.Common.{◌≡◌, ℕ, suc, ◌+◌, ◌<◌, true, false, ◌&&◌, ◌==◌, List, [], ◌∷◌, length, map, drop, get_or, Option, Some, None, option_map, refl, sym, ap, ◌∙◌, arith, drop-cons, zero-add, add-one}
 use Rattle.std.proofs.lemmas.Bool.{cond-true, cond-false}
 use Rattle.std.specs.Option.{option_map_or}
 use Rattle.std.specs.Str.{bytes_eq}
@@ -8,7 +8,7 @@ use Rattle.regex_hir.specs.declared.hir.Hir.{Hir}
 use Rattle.regex_syntax.specs.Grammar.{Names}
 use Rattle.f2b_world.proofs.ReadingLemmas.{read_as}
 use Rattle.f2b_world.specs.Matches.{same_text, has_name, number_of}
-use Rattle.f2b_world.specs.Reading.{Expression, reading}
+use Rattle.f2b_world.specs.Reading.{Expression}
 use Rattle.date_detect.specs.Forms.{names_in}
 
 pub same_text-bytes_eq : (a b : List ℕ) → bytes_eq a b ≡ same_text a b

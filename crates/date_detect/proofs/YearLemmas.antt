@@ -1,13 +1,12 @@
 -- The year of a day, and going back through years.
-use Rattle.std.proofs.Common.{◌≡◌, ℕ, zero, suc, ◌+◌, ◌-◌, ◌*◌, ◌<◌, ◌≤◌, inl, inr, Bool, true, false, Option, Some, None, is_some, refl, sym, true≢false, ap, ◌∙◌, arith, ℤ, pos, negsuc, neg_ℤ, ◌+ℤ◌, ◌<ℤ◌, ◌≤ℤ◌, int_le, unsigned_abs}
+use Rattle.std.proofs.Common.{◌≡◌, ℕ, zero, suc, ◌-◌, ◌<◌, ◌≤◌, inl, inr, Bool, true, false, Option, None, is_some, refl, sym, ◌∙◌, arith, ℤ, pos, negsuc, neg_ℤ, ◌<ℤ◌, ◌≤ℤ◌, int_le, unsigned_abs}
 use Rattle.std.proofs.lemmas.Bool.{cases_lt, cond-true, cond-false}
 use Rattle.std.proofs.lemmas.Int.{by_lt_z}
-use Rattle.std.specs.Option.{option_or}
-use Rattle.jiff_core.specs.Calendar.{days_from_civil, day_count, day_of_year, IsCivilDate, IsYear, days_in_year}
+use Rattle.jiff_core.specs.Calendar.{days_from_civil, IsCivilDate}
 use Rattle.jiff_core.proofs.SignedLemmas.{signed_arith}
 use Rattle.jiff_core.proofs.MarchLemmas.{day_count-early}
 use Rattle.jiff_core.proofs.CalendarLemmas.{days_from_civil-day_count, day_count-later_year, day_count-day_of_year, day_of_year_bound, day_count-lt_year, days_in_year_bounds}
-use borrow.Author.Differences.{up, down, le-true, le-false}
+use borrow.Author.Differences.{le-true, le-false}
 use Rattle.date_detect.specs.Calendar.{year_up_to, first_back}
 use Rattle.date_detect.proofs.OptionLemmas.{option_or-some, option_or-none}
 

@@ -1,12 +1,11 @@
 -- The date of a line, by the forms of a jail.
-use Rattle.std.specs.Prelude.{ℕ, ◌+◌, ◌≤◌, ◌==◌, ◌&&◌, ℤ, Bool, false, List, [], ◌∷◌, drop, slice_range, Option, Some, None, is_none, option_and_then, option_map, if◌then◌else◌, IsCharBoundary}
+use Rattle.std.specs.Prelude.{ℕ, ◌+◌, ◌≤◌, ◌==◌, ◌&&◌, ℤ, Bool, false, List, [], ◌∷◌, drop, slice_range, Option, None, is_none, option_and_then, option_map, if◌then◌else◌, IsCharBoundary}
 use Rattle.std.specs.Option.{option_or}
 use Rattle.f2b_world.specs.Matches.{numbered_in}
 use Rattle.f2b_world.specs.declared.pattern.spans.Cut.{Cut}
 use Rattle.f2b_world.specs.declared.pattern.spans.NumberedSpans.{NumberedSpans}
 use Rattle.date_detect.specs.Fields.{Said, said_moment}
 use Rattle.date_detect.specs.Forms.{Rule}
-use Rattle.date_detect.specs.declared.form.Groups.{Groups}
 use Rattle.date_detect.specs.declared.form.Form.{Form}
 use Rattle.date_detect.specs.declared.search.Found.{Found}
 

@@ -1,5 +1,5 @@
 -- What the groups of a match say, by their texts.
-use Rattle.std.specs.Prelude.{ℕ, ◌+◌, ◌*◌, ◌-◌, nat_le, nat_lt, ◌&&◌, ◌==◌, ℤ, pos, neg_ℤ, List, [], ◌∷◌, Option, Some, None, option_and_then, option_map, fold, codes, position, if◌then◌else◌}
+use Rattle.std.specs.Prelude.{ℕ, ◌+◌, ◌*◌, ◌-◌, nat_le, ◌&&◌, ◌==◌, ℤ, pos, neg_ℤ, List, [], ◌∷◌, Option, Some, None, option_and_then, option_map, fold, codes, if◌then◌else◌}
 use Rattle.std.specs.Str.{bytes_eq}
 use Rattle.date_detect.specs.Calendar.{civil_moment, latest}
 use Rattle.date_detect.specs.declared.calendar.DayTime.{DayTime}

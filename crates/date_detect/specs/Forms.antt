@@ -1,5 +1,5 @@
 -- The forms of dates that a jail goes by.
-use Rattle.std.specs.Prelude.{ℕ, Bool, true, false, List, [], ◌∷◌, ◌++◌, map, Option, Some, None, codes, if◌then◌else◌, IsTrue}
+use Rattle.std.specs.Prelude.{ℕ, Bool, true, false, List, [], ◌∷◌, ◌++◌, map, None, codes, if◌then◌else◌, IsTrue}
 use Rattle.std.specs.Option.{option_map_or}
 use Rattle.regex_syntax.specs.Grammar.{Names}
 use Rattle.f2b_base.specs.declared.jail.DateSpec.{DateSpec}

@@ -1,4 +1,4 @@
-use Rattle.std.proofs.Common.{◌≡◌, Ok, Err, [], ◌∷◌, refl, sym, ap, ◌∙◌, rules}
+use Rattle.std.proofs.Common.{◌≡◌, Err, refl, ap, ◌∙◌, rules}
 use Rattle.date_detect.specs.Directives.{expanded}
 use Rattle.date_detect.specs.Forms.{framed}
 use Rattle.date_detect.specs.declared.error.BuildError.TheVariants.{NoMemory}

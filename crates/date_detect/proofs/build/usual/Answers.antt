@@ -1,11 +1,10 @@
-use Rattle.std.proofs.Common.{◌≡◌, ◌≤◌, ◌<◌, ◌+◌, Ok, Err, length, get_or, take, map, refl, sym, ap, ◌∙◌, rules, arith, subst, List, ℕ}
+use Rattle.std.proofs.Common.{◌≡◌, ◌≤◌, ◌+◌, Err, length, get_or, refl, ap, ◌∙◌, rules, arith}
 use Rattle.std.proofs.lemmas.List.{take_all}
-use Rattle.date_detect.specs.Builds.{Builds}
-use Rattle.date_detect.specs.Forms.{framed, usual_form, usual_rule, texts}
+use Rattle.date_detect.specs.Forms.{framed, usual_rule}
 use Rattle.date_detect.specs.Usual.{usual_text}
 use Rattle.date_detect.specs.declared.usual.UsualForm.TheVariants.{Iso}
 use Rattle.date_detect.specs.declared.error.BuildError.TheVariants.{NoMemory}
-use Rattle.date_detect.proofs.BuildLemmas.{HaveBuilt, have_none, have_more, fails_as, lacks, ends, text_more, text_order, form_more, text_take}
+use Rattle.date_detect.proofs.BuildLemmas.{have_none, have_more, fails_as, lacks, ends, text_more, text_order, form_more, text_take}
 use Rattle.date_detect.proofs.build.usual.Goals as goal
 
 pub loop-form-init : goal.loop-form-init

@@ -1,4 +1,4 @@
-use Rattle.std.proofs.Common.{◌≡◌, pos, neg_ℤ, arith, w16, w64, to_z, of_z, to_z-of_z, ◌≤ℤ◌, ◌≤◌, ◌<◌, ◌^◌, ◌∙◌, sym, ap, unsigned_abs, ℕ, ℤ, negsuc, FitsSigned}
+use Rattle.std.proofs.Common.{◌≡◌, pos, neg_ℤ, arith, w16, w64, to_z, of_z, to_z-of_z, ◌≤ℤ◌, ◌≤◌, ◌∙◌, sym, ap, unsigned_abs, ℕ, ℤ, negsuc, FitsSigned}
 use Rattle.jiff_core.specs.Calendar.{IsCivilDate, days_from_civil}
 use Rattle.jiff_core.proofs.SignedLemmas.{signed_arith, back_small}
 use borrow.Author.Differences.{not_negative_in}

@@ -1,4 +1,4 @@
-use Rattle.std.proofs.Common.{◌≡◌, ap, ◌∙◌}
+use Rattle.std.proofs.Common.{ap, ◌∙◌}
 use Rattle.std.specs.Str.{bytes_eq}
 use Rattle.date_detect.proofs.NameLemmas.{same_text-bytes_eq}
 use Rattle.date_detect.proofs.names.is_named.Goals as goal

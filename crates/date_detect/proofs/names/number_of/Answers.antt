@@ -1,4 +1,4 @@
-use Rattle.std.proofs.Common.{◌≡◌, ◌∙◌, sym, ap, option_map, string_bytes}
+use Rattle.std.proofs.Common.{◌∙◌, sym, option_map, string_bytes}
 use Rattle.date_detect.proofs.NameLemmas.{from_zero, not_here}
 use Rattle.date_detect.proofs.names.number_of.Goals as goal
 

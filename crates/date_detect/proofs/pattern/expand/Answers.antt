@@ -1,4 +1,4 @@
-use Rattle.std.proofs.Common.{◌≡◌, ◌++◌, length, drop, string_bytes, append_assoc, append-nil, ◌∙◌, sym, ap, rules, arith}
+use Rattle.std.proofs.Common.{◌++◌, string_bytes, append_assoc, append-nil, ◌∙◌, sym, ap, rules, arith}
 use Rattle.std.proofs.lemmas.Iterator.{YieldsList-from_chars}
 use Rattle.std.proofs.lemmas.Iterator.Consumers.{YieldsList-turn, YieldsList-end}
 use Rattle.std.specs.Str.{chars}

@@ -1,4 +1,3 @@
-use Rattle.std.proofs.Common.{◌≡◌, None, sym, ◌∙◌, if◌then◌else◌}
 use lib.Utf8.{encode}
 use Rattle.date_detect.proofs.DateLemmas.{no_bracket}
 use Rattle.date_detect.proofs.form.FormSearch.behind_bracket.Goals as goal

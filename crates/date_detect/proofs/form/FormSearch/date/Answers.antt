@@ -1,4 +1,4 @@
-use Rattle.std.proofs.Common.{◌≡◌, FitsSigned, w32, to_z-of_z, ◌∙◌}
+use Rattle.std.proofs.Common.{FitsSigned, w32, to_z-of_z, ◌∙◌}
 use Rattle.date_detect.proofs.DateLemmas.{matched, unmatched, behind_bracket}
 use Rattle.date_detect.proofs.form.FormSearch.date.Goals as goal
 

@@ -1,4 +1,4 @@
-use Rattle.std.proofs.Common.{◌≡◌, ◌<◌, FitsSigned, w32, to_z-of_z, is_some, length, set, refl, sym, ap, ◌∙◌, arith}
+use Rattle.std.proofs.Common.{◌<◌, FitsSigned, w32, to_z-of_z, is_some, length, set, refl, sym, ap, ◌∙◌, arith}
 use Rattle.std.proofs.lemmas.List.{set-get_or, drop_all, with_items_is}
 use Rattle.date_detect.specs.Dates.{first_date}
 use Rattle.date_detect.proofs.DateLemmas.{first_date-none, first_date-some, first_date-more}
