@@ -81,7 +81,8 @@ fn orders_files(rt: HostRuntime) -> Result<(), Fail> {
         (3, "[DEFAULT] bantime=4m "),
         (4, "[DEFAULT] bantime=4m "),
     ] {
-        let got = merged(rt.alloc(), &jail[..count], "jail")?;
+        let files = jail.get(..count).unwrap_or(&[]);
+        let got = merged(rt.alloc(), files, "jail")?;
         assert_eq!(rt; got.as_str(), want);
     }
     let local = [jail[0], jail[1], jail[3]];
