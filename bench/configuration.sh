@@ -1,0 +1,93 @@
+#!/bin/sh
+# Measures how fast a configuration at its limits is merged, 4,096 files of 16 MiB in all, and how long 10,000 values of it take, each
+# ten references deep. Makes a program of its own over the crate ini_interp in a folder that it removes. Needs the kit's command rt.
+set -eu
+cd "$(dirname "$0")/.."
+room=$(mktemp -d)
+trap 'rm -rf "$room"' EXIT
+mkdir -p "$room/crates/configuration_bench/src"
+cp -R crates/f2b_base crates/ini_interp "$room/crates/"
+git -C "$room" init -q
+grep -E '^(f2b_base|ini_interp):' crates.txt >"$room/crates.txt"
+echo 'configuration_bench: f2b_base ini_interp' >>"$room/crates.txt"
+cat >"$room/crates/configuration_bench/src/main.rt" <<'PROGRAM'
+//! Merges a configuration at its limits, and asks for values of it.
+#![tactic(auto)]
+
+use f2b_base::{Bytes, NoMemory, Seq, Text, Tree, TreeFile};
+use ini_interp::{merge, value};
+use std::alloc::Global;
+use std::io;
+use std::time::Instant;
+
+/// The items of a file that fill it up to about 4 KiB.
+const ITEMS: u64 = 89;
+
+fn push_file(alloc: Global, files: &mut Seq<TreeFile>, path: &str, content: &str) -> Result<(), NoMemory> {
+    files.push(TreeFile {
+        path: Text::from_str(alloc, path)?,
+        content: Bytes::from_slice(alloc, content.as_bytes())?,
+    })
+}
+
+// A chain of eleven items, each but the last a reference to the next.
+fn chain(alloc: Global) -> Result<String, NoMemory> {
+    let mut text = String::from_str(alloc, "[DEFAULT]\n")?;
+    for number in 0..10 {
+        let next = number + 1;
+        text.push_str(format!(in alloc; "x{number} = %(x{next})s\n")?.as_str())?;
+    }
+    text.push_str("x10 = a\n")?;
+    Ok(text)
+}
+
+fn filled(alloc: Global, file: u64) -> Result<String, NoMemory> {
+    let mut text = String::from_str(alloc, "[DEFAULT]\n")?;
+    for item in 0..ITEMS {
+        text.push_str(format!(in alloc; "n{file:04}x{item:02} = a value of thirty-three letters\n")?.as_str())?;
+    }
+    Ok(text)
+}
+
+fn tree(alloc: Global) -> Result<Tree, NoMemory> {
+    let mut files = Seq::new(alloc);
+    push_file(alloc, &mut files, "jail.conf", chain(alloc)?.as_str())?;
+    for file in 0..4095 {
+        let path = format!(in alloc; "jail.d/{file:04}.conf")?;
+        push_file(alloc, &mut files, path.as_str(), filled(alloc, file)?.as_str())?;
+    }
+    Ok(Tree { files })
+}
+
+fn main(rt: HostRuntime) -> io::Result<()> {
+    let alloc = rt.alloc();
+    let Ok(tree) = tree(alloc) else {
+        return println!(rt; "no memory");
+    };
+    let start = Instant::now(&rt)?;
+    let Ok(sections) = merge(alloc, &tree, "jail") else {
+        return println!(rt; "not merged");
+    };
+    let merged = start.elapsed(&rt)?.as_millis();
+    println!(rt; "merge of {} files: {merged} ms", tree.files.len())?;
+    let mut scope = Seq::new(alloc);
+    let Ok(section) = Text::from_str(alloc, "DEFAULT") else {
+        return println!(rt; "no memory");
+    };
+    if scope.push(section).is_err() {
+        return println!(rt; "no memory");
+    }
+    let start = Instant::now(&rt)?;
+    let mut found: u64 = 0;
+    for _ in 0..10_000 {
+        if let Ok(Some(_)) = value(alloc, &sections, &scope, "x0") {
+            found = found.saturating_add(1);
+        }
+    }
+    let asked = start.elapsed(&rt)?.as_millis();
+    println!(rt; "{found} values, each ten references deep: {asked} ms")
+}
+PROGRAM
+cd "$room/crates/configuration_bench"
+rt run >"$room/said" 2>"$room/log" || { cat "$room/log" "$room/said"; exit 1; }
+cat "$room/said"
