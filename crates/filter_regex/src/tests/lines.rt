@@ -21,19 +21,19 @@ fn lines_of_sshd(rt: HostRuntime) -> Result<(), Fail> {
     let rows = [
         (
             "1700000100 a sshd[12]: Failed password for root from 192.0.2.7 port 22 ssh2",
-            failure("192.0.2.7", at, 1)?,
+            failure(SEVEN, at, 1),
         ),
         (
             "1700000100 a sshd[12]: Failed none for invalid user x from 10.1.1.1 port 1 ssh2 from 192.0.2.7 port 22",
-            failure("192.0.2.7", at, 1)?,
+            failure(SEVEN, at, 1),
         ),
         (
             "1700000100 a sshd-session[7]: Invalid user admin from 2001:db8::7 port 4",
-            failure("2001:db8::7", at, 2)?,
+            failure(Addr::V6(0x2001_0db8_0000_0000_0000_0000_0000_0007), at, 2),
         ),
         (
             "1700000100 a sshd[7]: Connection closed by authenticating user root 192.0.2.9 port 22 [preauth]",
-            failure("192.0.2.9", at, 3)?,
+            failure(Addr::V4(0xC000_0209), at, 3),
         ),
         (
             "1700000100 a sshd[7]: Accepted password for root from 192.0.2.7 port 22 ssh2",
@@ -65,7 +65,7 @@ fn lines_of_sshd(rt: HostRuntime) -> Result<(), Fail> {
         // The date may stand anywhere.
         (
             "a sshd[7]: Invalid user 1700000100.25 from 192.0.2.7",
-            failure("192.0.2.7", at, 2)?,
+            failure(SEVEN, at, 2),
         ),
     ];
     for (line, finding) in rows {
@@ -87,33 +87,18 @@ fn times(rt: HostRuntime) -> Result<(), Fail> {
     let line = "1700000100 fail from 192.0.2.7";
     let early = "0000000000 fail from 192.0.2.7";
     let rows = [
-        (
-            line,
-            1_700_000_110,
-            600,
-            failure("192.0.2.7", 1_700_000_100, 1)?,
-        ),
-        (
-            line,
-            1_700_000_699,
-            600,
-            failure("192.0.2.7", 1_700_000_100, 1)?,
-        ),
+        (line, 1_700_000_110, 600, failure(SEVEN, 1_700_000_100, 1)),
+        (line, 1_700_000_699, 600, failure(SEVEN, 1_700_000_100, 1)),
         (line, 1_700_000_700, 600, Finding::TooOld(1)),
-        (
-            line,
-            1_700_000_090,
-            600,
-            failure("192.0.2.7", 1_700_000_090, 1)?,
-        ),
+        (line, 1_700_000_090, 600, failure(SEVEN, 1_700_000_090, 1)),
         (line, 1_700_000_100, 0, Finding::TooOld(1)),
         (
             line,
             1_700_000_110,
             u64::MAX,
-            failure("192.0.2.7", 1_700_000_100, 1)?,
+            failure(SEVEN, 1_700_000_100, 1),
         ),
-        (early, 599, 600, failure("192.0.2.7", 0, 1)?),
+        (early, 599, 600, failure(SEVEN, 0, 1)),
         (early, 600, 600, Finding::TooOld(1)),
     ];
     for (line, now, findtime, finding) in rows {
@@ -139,8 +124,8 @@ fn ignored_addresses(rt: HostRuntime) -> Result<(), Fail> {
         ("from 10.0.0.0", Finding::IgnoredAddr(1)),
         ("from 10.255.255.255", Finding::IgnoredAddr(1)),
         ("from ::ffff:10.0.0.1", Finding::IgnoredAddr(1)),
-        ("from 9.255.255.255", failure("9.255.255.255", NOW, 1)?),
-        ("from 11.0.0.0", failure("11.0.0.0", NOW, 1)?),
+        ("from 9.255.255.255", failure(Addr::V4(0x09FF_FFFF), NOW, 1)),
+        ("from 11.0.0.0", failure(Addr::V4(0x0B00_0000), NOW, 1)),
         ("from host.example.org", Finding::NameOnly(1)),
     ];
     for (line, finding) in rows {
@@ -154,7 +139,7 @@ fn ignored_addresses(rt: HostRuntime) -> Result<(), Fail> {
     let found = filter.found(rt.alloc(), "from 11.0.0.0", NOW, 600)?;
     assert_eq!(rt; found, Finding::IgnoredAddr(1));
     let found = filter.found(rt.alloc(), "from 10.0.0.0", NOW, 600)?;
-    assert_eq!(rt; found, failure("10.0.0.0", NOW, 1)?);
+    assert_eq!(rt; found, failure(Addr::V4(0x0A00_0000), NOW, 1));
     Ok(())
 }
 
@@ -178,7 +163,7 @@ fn prefixes(rt: HostRuntime) -> Result<(), Fail> {
         (
             "a <F-CONTENT>.*</F-CONTENT> z",
             "a from 192.0.2.7 z",
-            failure("192.0.2.7", NOW, 1)?,
+            failure(SEVEN, NOW, 1),
         ),
         (
             "a <F-CONTENT>.*</F-CONTENT> z",
@@ -194,7 +179,7 @@ fn prefixes(rt: HostRuntime) -> Result<(), Fail> {
         (
             "a|b<F-CONTENT>.*</F-CONTENT>",
             "bfrom 192.0.2.7",
-            failure("192.0.2.7", NOW, 1)?,
+            failure(SEVEN, NOW, 1),
         ),
     ];
     for (pref, line, finding) in rows {
