@@ -1,0 +1,93 @@
+//! The failures of a jail that can still fill an address: a window for each address.
+ghost use Rattle.std.specs.Prelude.{◌≡◌, ◌≤◌, ◌<◌, ◌+◌, [], not, filter, OnOk, IfOk};
+ghost use Rattle.f2b_base.specs.declared.ban.Failure.{Failure};
+ghost use Rattle.f2b_model.specs.Full.{is_late, is_of};
+ghost use Rattle.f2b_model.specs.Lists.{AllOf, IsInOrder};
+ghost use Rattle.f2b_model.specs.Nows.{comes_before};
+ghost use Rattle.fail_window.specs.Opened.{KeepsLimits};
+ghost use Rattle.jail_moves.specs.Added.{IsAdded, NoneFull};
+
+use f2b_base::{Addr, Failure, NoMemory, Seq};
+use fail_window::Window;
+use std::alloc::Global;
+use std::collections::BTreeMap;
+use std::marker::Model;
+
+/// The open failures of a jail, by address, time, and arrival.
+#[derive(Drop)]
+pub struct Windows {
+    findtime: u64,
+    maxretry: u32,
+    kept: Seq<Failure>,
+    alloc: Global,
+}
+
+impl Model for Windows {
+    ghost use Rattle.fail_window.specs.Opened.{Opened};
+
+    ghost Value = { Opened };
+
+    ghost view = { λ w. record { findtime = w.findtime; maxretry = w.maxretry; failures = w.kept } };
+}
+
+impl Windows {
+    /// No failures. Takes no memory.
+    pub fn new(alloc: Global, findtime: u64, maxretry: u32) -> Windows
+        requires findtime { 1 ≤ findtime }
+        requires maxretry { 1 ≤ maxretry }
+        ensures { result ≡ record { findtime = findtime; maxretry = maxretry; failures = [] } }
+    {
+        Windows {
+            findtime,
+            maxretry,
+            kept: Seq::new(alloc),
+            alloc,
+        }
+    }
+
+    /// Windows of failures that stand in order and fill no address. Where they fill one, some are left out.
+    pub fn of(
+        alloc: Global,
+        findtime: u64,
+        maxretry: u32,
+        at: u64,
+        failures: &[Failure],
+    ) -> Result<Windows, NoMemory>
+        requires findtime { 1 ≤ findtime }
+        requires maxretry { 1 ≤ maxretry }
+        requires in_order { IsInOrder comes_before failures.now }
+        requires times { AllOf (λ (f : Failure). f.time ≤ at) failures.now }
+        ensures limits { IfOk result (λ w. KeepsLimits (record { findtime = findtime; maxretry = maxretry; failures = [] }) w) }
+        ensures times { IfOk result (λ w. AllOf (λ (f : Failure). f.time ≤ at) w.failures) }
+        ensures failures { NoneFull findtime maxretry failures.now → IfOk result (λ w. w.failures ≡ failures.now) }
+    {
+        Err(NoMemory)
+    }
+
+    /// Takes one more failure at a moment. Where its address is then full, its failures go, and the number of them that are near the
+    /// new one is told.
+    pub fn add(&mut self, failure: Failure, now: u64) -> Result<Option<u64>, NoMemory>
+        requires not_later { failure.time ≤ now }
+        requires recent { now < failure.time + self.old.findtime }
+        requires forward { AllOf (λ (f : Failure). f.time ≤ now) self.old.failures }
+        ensures limits { OnOk result (KeepsLimits self.old self.new) }
+        ensures added { IfOk result (λ full. IsAdded now failure self.old self.new full) }
+    {
+        Err(NoMemory)
+    }
+
+    /// Forgets the failures of an address. Takes no memory.
+    pub fn forget(&mut self, addr: Addr)
+        ensures { self.new ≡ record self.old { failures = filter (λ (f : Failure). not (is_of addr f)) self.old.failures } }
+    {
+        self.kept
+            .retain(|failure| !crate::bans::same_addr(failure.addr, addr));
+    }
+
+    /// A copy of the failures that are late at a moment.
+    pub fn failures(&self, moment: u64) -> Result<Seq<Failure>, NoMemory>
+        ensures { IfOk result (λ failures. failures ≡ filter (is_late moment self.now.findtime) self.now.failures) }
+    {
+        Err(NoMemory)
+    }
+}
