@@ -1,0 +1,12 @@
+//! The lanes of a server as code keeps them: which are up, whether a stop was asked for, and the jobs that are not settled.
+//!
+//! A caller sees `Actions` as the model's lanes over their pending jobs. Each call is a move of the model: jobs for the bans that began
+//! and ended, the ending of a try, a stop, and the lanes that a configuration takes down and brings up. Commands are written when
+//! their job is made. Nothing here knows a jail, a clock or a process: the caller says which bans are active, and what time it is.
+#![tactic(auto)]
+
+mod actions;
+mod held;
+
+pub use actions::Actions;
+pub use held::JailBans;
