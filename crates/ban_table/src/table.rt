@@ -126,6 +126,13 @@ impl BanTable {
         self.past.drop_until(limit);
     }
 
+    /// A copy of the active bans, by serial.
+    pub fn bans(&self) -> Result<Seq<Ban>, NoMemory>
+        ensures { IfOk result (λ bans. bans ≡ self.now.active) }
+    {
+        active_of(self.past.allocator(), &self.bans)
+    }
+
     /// A copy of the lists.
     pub fn lists(&self) -> Result<BanLists, NoMemory>
         ensures { IfOk result (λ lists. lists ≡ self.now) }

@@ -1,16 +1,22 @@
 -- What code keeps of a jail beside its definition, and the middle state that it stands for.
-use Rattle.std.specs.Prelude.{◌≡◌, ℕ, ◌^◌, ◌<◌, ◌≤◌, Bool, List, [], ◌∷◌, filter}
+use Rattle.std.specs.Prelude.{◌≡◌, ℕ, ◌^◌, ◌<◌, ◌≤◌, true, Bool, List, [], ◌∷◌, ◌++◌, Option, filter}
 use Rattle.ban_table.specs.declared.lists.BanLists.{BanLists}
 use Rattle.ban_table.specs.Tables.{ended}
+use Rattle.f2b_base.specs.declared.addr.Addr.{Addr}
 use Rattle.f2b_base.specs.declared.ban.Ban.{Ban}
 use Rattle.f2b_base.specs.declared.ban.Failure.{Failure}
 use Rattle.f2b_base.specs.declared.jail.JailDef.{JailDef}
+use Rattle.f2b_base.specs.declared.view.JailView.{JailView}
 use Rattle.f2b_base.specs.declared.view.WatchView.{WatchView}
 use Rattle.f2b_base.specs.Span.{IsRule}
 use Rattle.f2b_model.specs.declared.jail_now.JailNow.{JailNow}
 use Rattle.f2b_model.specs.Full.{is_late}
-use Rattle.f2b_model.specs.Lists.{AllOf}
-use Rattle.fail_window.specs.Opened.{Opened}
+use Rattle.f2b_model.specs.Lists.{AllOf, IsInOrder}
+use Rattle.f2b_model.specs.Moves.{new_ban, up_64}
+use Rattle.f2b_model.specs.Nows.{comes_before}
+use Rattle.f2b_model.specs.Sound.{IsOnceEach, IsRisingSerials}
+use Rattle.fail_window.specs.Opened.{KeepsLimits, Opened}
+use Rattle.jail_moves.specs.Added.{IsAdded, NoneFull}
 
 -- what is kept of a jail beside its definition
 pub record Contents : Type 0 where
@@ -58,3 +64,36 @@ pub record IsKept (at next : ℕ) (d : JailDef) (c : Contents) : Type 0 where
 abbrev pub all_ended : (Ban → ℕ) → List Ban → BanLists → BanLists
 all_ended moment [] t = t
 all_ended moment (b ∷ bs) t = all_ended moment bs (ended b.addr (moment b) t)
+
+-- a ban of an address begins, to which so many failures led
+abbrev pub with_ban : JailDef → ℕ → ℕ → ℕ → Addr → ℕ → Contents → Contents
+with_ban d at word serial addr failures c = record c {
+  total_banned = up_64 c.total_banned;
+  bans = record (c.bans) { active = c.bans.active ++ new_ban d c.bans.past at word serial addr failures ∷ [] };
+}
+
+-- a failure was counted at a moment, and these are the windows after it
+abbrev pub with_count : ℕ → Opened → Contents → Contents
+with_count at w c = record c { total_failed = up_64 c.total_failed; moment = at; windows = w }
+
+-- a failure was counted, and it was told whether its address is full
+pub record IsCounted (at : ℕ) (f : Failure) (old new : Contents) (full : Option ℕ) : Type 0 where
+  pub room : new ≡ with_count at new.windows old
+  pub limits : KeepsLimits old.windows new.windows
+  pub added : IsAdded at f old.windows new.windows full
+
+-- What is stored of a jail is within its bounds: failures in order and not to come, bans by serial, below the next one, one for an
+-- address.
+pub record IsStored (at next : ℕ) (v : JailView) : Type 0 where
+  pub in_order : IsInOrder comes_before v.failures
+  pub times : AllOf (λ (f : Failure). f.time ≤ at) v.failures
+  pub rising : IsRisingSerials v.bans
+  pub once : IsOnceEach v.bans
+  pub serials : AllOf (λ (b : Ban). b.serial < next) v.bans
+
+-- what is stored is that of a sound jail, as far as code asks: the last counted failure is not to come, all are late at it, and no
+-- address is full
+pub record IsStoredWell (at : ℕ) (d : JailDef) (v : JailView) : Type 0 where
+  pub moment : v.moment ≤ at
+  pub late : AllOf (λ (f : Failure). is_late v.moment d.findtime f ≡ true) v.failures
+  pub none_full : NoneFull d.findtime d.maxretry v.failures

@@ -1,18 +1,20 @@
 //! What a jail does with its table of bans.
-ghost use Rattle.std.specs.Prelude.{◌≡◌, ◌≤◌, ◌<◌, ◌∷◌, ◌++◌, not, false, filter, map, OnOk, IfOk};
+ghost use Rattle.std.specs.Prelude.{◌≡◌, ◌≤◌, ◌<◌, ◌∷◌, [], ◌++◌, not, false, filter, map, OnOk, IfOk};
 ghost use Rattle.f2b_base.specs.declared.ban.Ban.{Ban};
 ghost use Rattle.f2b_base.specs.Span.{IsRule};
 ghost use Rattle.f2b_model.specs.Full.{same_addr};
 ghost use Rattle.f2b_model.specs.Lists.{AllOf, in_order};
 ghost use Rattle.f2b_model.specs.Moves.{is_banned, is_stale, new_ban};
+ghost use Rattle.f2b_model.specs.Sound.{IsOnceEach, IsRisingSerials};
 ghost use Rattle.f2b_model.specs.Steps.{ends_before, is_due, is_meant, own_end};
 ghost use Rattle.f2b_model.specs.Until.{last_moment};
 ghost use Rattle.f2b_model.specs.declared.happening.Happening.TheVariants.{Ends};
 ghost use Rattle.jail_moves.specs.Rooms.{all_ended};
 
 use ban_table::BanTable;
-use f2b_base::{Addr, Ban, JailDef, NoMemory, Seq, Text};
+use f2b_base::{Addr, Ban, JailDef, NoMemory, Past, Seq, Text};
 use f2b_model::Happening;
+use std::alloc::Global;
 
 /// Whether two addresses are one.
 pub fn same_addr(a: Addr, b: Addr) -> bool
@@ -69,6 +71,15 @@ pub fn begin(
     requires serial { AllOf (λ (b : Ban). b.serial < serial) table.old.active }
     ensures ban { IfOk result (λ ban. ban ≡ new_ban definition.now table.old.past at word serial addr failures) }
     ensures bans { IfOk result (λ ban. table.new ≡ record table.old { active = table.old.active ++ ban ∷ [] }) }
+{
+    Err(NoMemory)
+}
+
+/// A table of these bans.
+pub fn table_of(alloc: Global, active: &Seq<Ban>, past: &Seq<Past>) -> Result<BanTable, NoMemory>
+    requires rising { IsRisingSerials active.now }
+    requires once { IsOnceEach active.now }
+    ensures { IfOk result (λ table. table ≡ record { active = active.now; past = past.now }) }
 {
     Err(NoMemory)
 }

@@ -7,6 +7,8 @@
 #![tactic(auto)]
 
 mod bans;
+mod room;
+mod watches;
 mod windows;
 
-pub use windows::Windows;
+pub use room::Room;

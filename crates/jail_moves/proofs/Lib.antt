@@ -1,0 +1,2 @@
+mod WatchLemmas
+mod RoomLemmas

@@ -1,0 +1,238 @@
+-- What is kept of a jail, and the middle state that it stands for, through each move.
+use Rattle.std.proofs.Common.{◌≡◌, ◌≢◌, ℕ, suc, ◌+◌, ◌*◌, ◌<◌, ◌≤◌, Bool, true, false, cond, not, ◌&&◌, ◌==◌, nat_lt, nat_le, List, [], ◌∷◌, ◌++◌, length, drop, map, Option, Some, None, is_some, refl, sym, ◌∙◌, ap, ap₂, subst, arith}
+use Rattle.std.specs.List.{filter, find, list_any}
+use Rattle.std.specs.Option.{option_copied}
+use denote.Ref.{Bor}
+use Rattle.std.proofs.Math.Seq.{drop-append_seam, drop-length}
+use Rattle.std.proofs.lemmas.List.{append_assoc}
+use Rattle.ban_table.specs.declared.lists.BanLists.{BanLists}
+use Rattle.ban_table.specs.Tables.{ended}
+use Rattle.f2b_base.specs.declared.addr.Addr.{Addr}
+use Rattle.f2b_base.specs.declared.ban.Ban.{Ban}
+use Rattle.f2b_base.specs.declared.ban.Failure.{Failure}
+use Rattle.f2b_base.specs.declared.jail.JailDef.{JailDef}
+use Rattle.f2b_base.specs.declared.view.JailView.{JailView}
+use Rattle.f2b_model.specs.declared.happening.Happening.{Happening}
+use Rattle.f2b_model.specs.declared.happening.Happening.TheVariants.{Counts, Begins}
+use Rattle.f2b_model.specs.declared.jail_now.JailNow.{JailNow}
+use Rattle.f2b_model.specs.Full.{is_full, is_late, is_of}
+use Rattle.f2b_model.specs.Lists.{AllOf, in_order, placed}
+use Rattle.f2b_model.specs.Moves.{Out, counts, is_banned, is_near, is_timely, new_ban, up_64}
+use Rattle.f2b_model.specs.Nows.{comes_before}
+use Rattle.f2b_model.specs.NowMoves.{banned_now, begun_now, counted_now, ended_now, found_now, judged_now, kept_now, limited_now}
+use Rattle.f2b_model.specs.Steps.{moves_now, end_all}
+use Rattle.f2b_model.specs.Told.{told_banned, told_found, told_new}
+use Rattle.f2b_model.specs.Views.{jail_of}
+use Rattle.f2b_model.specs.Watches.{watches_of}
+use Rattle.f2b_model.proofs.ListLemmas.{by_test, filter_swap}
+use Rattle.f2b_model.proofs.OrderlyLemmas.{all_of-filter, all_of-push}
+use Rattle.f2b_model.proofs.StepLemmas.{all_of-map}
+use Rattle.fail_window.specs.Opened.{KeepsLimits, Opened}
+use Rattle.jail_moves.specs.Added.{IsAdded, NoneFull, with_failure}
+use Rattle.jail_moves.specs.Rooms.{Contents, all_ended, jail_in, with_ban, with_count, IsBounded, IsCounted, IsKept, IsStored, IsStoredWell}
+
+-- ---- lists
+
+-- whether one is found is whether some passes
+pub is_some-find : {A : Type 0} (p : A → Bool) (xs : List A) → is_some (find p xs) ≡ list_any p xs
+is_some-find p [] = refl
+is_some-find p (x ∷ xs) = by_test (p x) _ (λ e. rw e refl) (λ e. rw e (is_some-find p xs))
+
+-- whether a value is there is whether its copy is
+pub is_some-copied : {A : Type 0} (o : Option (Bor A)) → is_some (option_copied o) ≡ is_some o
+is_some-copied None = refl
+is_some-copied (Some x) = refl
+
+-- what all are, all are by what follows of it
+pub all_weaker : {A : Type 0} (P Q : A → Type 0) → ((x : A) → P x → Q x) → (xs : List A) → AllOf P xs → AllOf Q xs
+all_weaker P Q f [] a = a
+all_weaker P Q f (x ∷ xs) a = (f x a.0, all_weaker P Q f xs a.1)
+
+-- where each passes, all stay
+pub filter_all : {A : Type 0} (p : A → Bool) (xs : List A) → AllOf (λ (x : A). p x ≡ true) xs → filter p xs ≡ xs
+filter_all p [] a = refl
+filter_all p (x ∷ xs) a = rw (a.0) (ap (λ r. x ∷ r) (filter_all p xs a.1))
+
+-- ---- ends
+
+-- the end of a ban in the table is one in the jail
+one_ended : (addr : Addr) (moment : ℕ) (d : JailDef) (c : Contents) → jail_in d (record c { bans = ended addr moment c.bans }) ≡ ended_now addr moment (jail_in d c)
+one_ended addr moment d c = by_test (is_banned addr c.bans.active) _ (λ e. rw e refl) (λ e. rw e refl)
+
+-- and so are the ends of these bans
+pub ended_in : (moment : Ban → ℕ) (bs : List Ban) (d : JailDef) (c : Contents) → jail_in d (record c { bans = all_ended moment bs c.bans }) ≡ end_all moves_now moment bs (jail_in d c)
+ended_in moment [] d c = refl
+ended_in moment (b ∷ bs) d c =
+    ended_in moment bs d (record c { bans = ended b.addr (moment b) c.bans }) ∙ ap (end_all moves_now moment bs) (one_ended b.addr (moment b) d c)
+
+one_ended_all : (P : Ban → Type 0) (addr : Addr) (moment : ℕ) (t : BanLists) → AllOf P t.active → AllOf P (ended addr moment t).active
+one_ended_all P addr moment t a =
+    by_test (is_banned addr t.active) _ (λ e. rw e (all_of-filter P _ t.active a)) (λ e. rw e a)
+
+-- the bans that are left were there
+ended_all : (P : Ban → Type 0) (moment : Ban → ℕ) (bs : List Ban) (t : BanLists) → AllOf P t.active → AllOf P (all_ended moment bs t).active
+ended_all P moment [] t a = a
+ended_all P moment (b ∷ bs) t a = ended_all P moment bs (ended b.addr (moment b) t) (one_ended_all P b.addr (moment b) t a)
+
+-- ---- what always holds
+
+-- a jail stays as it is when time passes and serials rise
+pub kept_later : (before at from next : ℕ) (d : JailDef) (c : Contents) → IsKept before from d c → before ≤ at → from ≤ next → IsKept at next d c
+kept_later before at from next d c kept le up = record {
+  bounded = kept.bounded;
+  findtime = kept.findtime;
+  maxretry = kept.maxretry;
+  moment = let m = kept.moment in omega arith;
+  times = all_weaker (λ (f : Failure). f.time ≤ before) (λ (f : Failure). f.time ≤ at) (λ f h. omega arith) c.windows.failures kept.times;
+  serials = all_weaker (λ (b : Ban). b.serial < from) (λ (b : Ban). b.serial < next) (λ b h. omega arith) c.bans.active kept.serials;
+}
+
+-- ends keep it
+pub ended_kept : (moment : Ban → ℕ) (bs : List Ban) (at next : ℕ) (d : JailDef) (c : Contents) → IsKept at next d c → IsKept at next d (record c { bans = all_ended moment bs c.bans })
+ended_kept moment bs at next d c kept = record {
+  bounded = kept.bounded;
+  findtime = kept.findtime;
+  maxretry = kept.maxretry;
+  moment = kept.moment;
+  times = kept.times;
+  serials = ended_all (λ (b : Ban). b.serial < next) moment bs c.bans kept.serials;
+}
+
+-- a ban keeps it, with the next serial
+pub with_ban_kept : (at word serial : ℕ) (addr : Addr) (failures : ℕ) (d : JailDef) (c : Contents) → IsKept at serial d c
+    → IsKept at (serial + 1) d (with_ban d at word serial addr failures c)
+with_ban_kept at word serial addr failures d c kept = record {
+  bounded = kept.bounded;
+  findtime = kept.findtime;
+  maxretry = kept.maxretry;
+  moment = kept.moment;
+  times = kept.times;
+  serials = all_of-push (λ (b : Ban). b.serial < serial + 1) c.bans.active (new_ban d c.bans.past at word serial addr failures)
+    (all_weaker (λ (b : Ban). b.serial < serial) (λ (b : Ban). b.serial < serial + 1) (λ b h. omega arith) c.bans.active kept.serials) (omega arith);
+}
+
+-- so does a failure that was counted
+pub counted_kept : (at next : ℕ) (f : Failure) (d : JailDef) (c n : Contents) (full : Option ℕ) → IsKept at next d c → IsCounted at f c n full → IsKept at next d n
+counted_kept at next f d c n full kept counted =
+    subst (IsKept at next d) (sym counted.room) (record {
+      bounded = kept.bounded;
+      findtime = counted.limits.findtime ∙ kept.findtime;
+      maxretry = counted.limits.maxretry ∙ kept.maxretry;
+      moment = omega arith;
+      times = counted.added.times;
+      serials = kept.serials;
+    })
+
+-- ---- failures
+
+-- a failure that does not count changes nothing
+pub uncounted : (at word serial : ℕ) (f : Failure) (d : JailDef) (c : Contents) → counts at d c.bans.active f ≡ false
+    → (found_now at word serial f (jail_in d c) ≡ record { jail = jail_in d c; next = serial }) × (told_found moves_now at word f serial (jail_in d c) ≡ [])
+uncounted at word serial f d c e = rw e (refl, refl)
+
+-- a failure was counted, and its address is not full
+not_full : (at next : ℕ) (f : Failure) (d : JailDef) (c n : Contents) → IsKept at next d c → IsCounted at f c n None
+    → (counted_now at f (jail_in d c) ≡ jail_in d n) × (is_full d.findtime d.maxretry f.addr (counted_now at f (jail_in d c)).failures ≡ false)
+not_full at next f d c n kept counted =
+    let S : ℕ → Type 0 = λ t. filter (is_late at t) n.windows.failures ≡ with_failure c.moment at t f c.windows.failures in
+    let T : ℕ → ℕ → Type 0 = λ t m. false ≡ is_full t m f.addr (with_failure c.moment at t f c.windows.failures) in
+    let stays : S d.findtime = subst S kept.findtime (counted.added.stays c.moment kept.moment refl) in
+    let tells : T d.findtime d.maxretry = subst (T d.findtime) kept.maxretry (subst (λ t. T t c.windows.maxretry) kept.findtime (counted.added.tells c.moment kept.moment)) in (
+      sym (ap (jail_in d) counted.room ∙ ap (λ (fs : List Failure). record (jail_in d c) { total_failed = up_64 c.total_failed; moment = at; failures = fs }) stays),
+      sym tells,
+    )
+
+-- a failure was counted, and its address is full
+is_filled : (at next word serial near : ℕ) (f : Failure) (d : JailDef) (c n : Contents) → IsKept at next d c → IsCounted at f c n (Some near)
+    → (begun_now at word serial f.addr (length (filter (is_near d.findtime f) (counted_now at f (jail_in d c)).failures)) (counted_now at f (jail_in d c))
+    ≡ jail_in d (with_ban d at word serial f.addr near n))
+    × (is_full d.findtime d.maxretry f.addr (counted_now at f (jail_in d c)).failures ≡ true)
+    × (near ≡ length (filter (is_near d.findtime f) (counted_now at f (jail_in d c)).failures))
+is_filled at next word serial near f d c n kept counted =
+    let S : ℕ → Type 0 = λ t. filter (is_late at t) n.windows.failures ≡ filter (λ (g : Failure). not (is_of f.addr g)) (with_failure c.moment at t f c.windows.failures) in
+    let T : ℕ → ℕ → Type 0 = λ t m. true ≡ is_full t m f.addr (with_failure c.moment at t f c.windows.failures) in
+    let N : ℕ → Type 0 = λ t. near ≡ length (filter (is_near t f) (with_failure c.moment at t f c.windows.failures)) in
+    let goes : S d.findtime = subst S kept.findtime (counted.added.goes c.moment kept.moment refl) in
+    let tells : T d.findtime d.maxretry = subst (T d.findtime) kept.maxretry (subst (λ t. T t c.windows.maxretry) kept.findtime (counted.added.tells c.moment kept.moment)) in
+    let count : N d.findtime = subst N kept.findtime (counted.added.near c.moment kept.moment) in
+    let filled : ℕ → List Failure → JailNow = λ m fs. record (jail_in d (with_ban d at word serial f.addr m (with_count at n.windows c))) { failures = fs } in (
+      sym (ap (λ (r : Contents). jail_in d (with_ban d at word serial f.addr near r)) counted.room
+      ∙ ap₂ filled count goes),
+      sym tells,
+      count,
+    )
+
+-- a failure that counts and does not fill its address
+pub found_open : (at word serial : ℕ) (f : Failure) (d : JailDef) (c n : Contents) → IsKept at serial d c → counts at d c.bans.active f ≡ true → IsCounted at f c n None
+    → (found_now at word serial f (jail_in d c) ≡ record { jail = jail_in d n; next = serial })
+    × (told_found moves_now at word f serial (jail_in d c) ≡ Counts d.name f.addr ∷ [])
+found_open at word serial f d c n kept is counted =
+    let least = not_full at serial f d c n kept counted in
+    let same : found_now at word serial f (jail_in d c) ≡ record { jail = jail_in d n; next = serial } =
+    rw is (rw (least.1) (ap (λ (j : JailNow). record { jail = j; next = serial }) least.0)) in (
+      same,
+      rw is (ap (λ (o : Out JailNow). Counts d.name f.addr ∷ told_new moves_now (jail_in d c) o.jail) (rw is at same)
+      ∙ ap (λ (r : Contents). Counts d.name f.addr ∷ told_new moves_now (jail_in d c) (jail_in d r)) counted.room
+      ∙ ap (λ (bs : List Ban). Counts d.name f.addr ∷ map (Begins d.name) bs) (drop-length c.bans.active)),
+    )
+
+-- what the ban that began tells
+told_ban : (at word serial : ℕ) (addr : Addr) (failures : ℕ) (d : JailDef) (c n : Contents) → n.bans ≡ c.bans
+    → told_new moves_now (jail_in d c) (jail_in d (with_ban d at word serial addr failures n)) ≡ Begins d.name (new_ban d n.bans.past at word serial addr failures) ∷ []
+told_ban at word serial addr failures d c n same =
+    let ban = new_ban d n.bans.past at word serial addr failures in
+    ap (λ (bs : List Ban). map (Begins d.name) (drop (length c.bans.active) (bs ++ ban ∷ []))) (ap (λ (t : BanLists). t.active) same)
+    ∙ ap (λ (bs : List Ban). map (Begins d.name) bs) (drop-append_seam c.bans.active (ban ∷ []))
+
+-- a failure that counts and fills its address
+pub found_full : (at word serial near : ℕ) (f : Failure) (d : JailDef) (c n : Contents) → IsKept at serial d c → counts at d c.bans.active f ≡ true → IsCounted at f c n (Some near)
+    → (found_now at word serial f (jail_in d c) ≡ record { jail = jail_in d (with_ban d at word serial f.addr near n); next = serial + 1 })
+    × (told_found moves_now at word f serial (jail_in d c) ≡ Counts d.name f.addr ∷ Begins d.name (new_ban d n.bans.past at word serial f.addr near) ∷ [])
+found_full at word serial near f d c n kept is counted =
+    let filled = is_filled at serial word serial near f d c n kept counted in
+    let bans : n.bans ≡ c.bans = ap (λ (r : Contents). r.bans) counted.room in
+    let up : suc serial ≡ serial + 1 = omega arith in
+    let same : found_now at word serial f (jail_in d c) ≡ record { jail = jail_in d (with_ban d at word serial f.addr near n); next = serial + 1 } =
+    rw is (rw (filled.1) (ap₂ (λ (j : JailNow) (k : ℕ). record { jail = j; next = k }) filled.0 up)) in (
+      same,
+      rw is (ap (λ (o : Out JailNow). Counts d.name f.addr ∷ told_new moves_now (jail_in d c) o.jail) (rw is at same)
+      ∙ ap (λ (r : List Happening). Counts d.name f.addr ∷ r) (told_ban at word serial f.addr near d c n bans)),
+    )
+
+-- ---- bans by command
+
+-- a banned address is not banned again
+pub banned_already : (at word serial : ℕ) (addr : Addr) (d : JailDef) (c : Contents) → is_banned addr c.bans.active ≡ true
+    → (banned_now at word serial addr (jail_in d c) ≡ record { jail = jail_in d c; next = serial }) × (told_banned moves_now at word addr serial (jail_in d c) ≡ [])
+banned_already at word serial addr d c e =
+    let none : map (Begins d.name) (drop (length c.bans.active) c.bans.active) ≡ [] = ap (λ (bs : List Ban). map (Begins d.name) bs) (drop-length c.bans.active) in
+    rw e (refl, none)
+
+-- and any other is, once its failures are forgotten
+pub banned_anew : (at word serial : ℕ) (addr : Addr) (d : JailDef) (c : Contents) (w : Opened) → is_banned addr c.bans.active ≡ false
+    → w ≡ record (c.windows) { failures = filter (λ (f : Failure). not (is_of addr f)) c.windows.failures }
+    → (banned_now at word serial addr (jail_in d c) ≡ record { jail = jail_in d (with_ban d at word serial addr 0 (record c { windows = w })); next = serial + 1 })
+    × (told_banned moves_now at word addr serial (jail_in d c) ≡ Begins d.name (new_ban d c.bans.past at word serial addr 0) ∷ [])
+banned_anew at word serial addr d c w e w_is =
+    let n = record c { windows = w } in
+    let up : suc serial ≡ serial + 1 = omega arith in
+    let swap : filter (λ (f : Failure). not (is_of addr f)) (filter (is_late c.moment d.findtime) c.windows.failures) ≡ filter (is_late c.moment d.findtime) w.failures =
+    filter_swap (is_late c.moment d.findtime) (λ (f : Failure). not (is_of addr f)) c.windows.failures ∙ ap (λ (o : Opened). filter (is_late c.moment d.findtime) o.failures) (sym w_is) in
+    let same : banned_now at word serial addr (jail_in d c) ≡ record { jail = jail_in d (with_ban d at word serial addr 0 n); next = serial + 1 } =
+    rw e (ap₂ (λ (fs : List Failure) (k : ℕ). record { jail = record (jail_in d (with_ban d at word serial addr 0 n)) { failures = fs }; next = k }) swap up) in (
+      same,
+      ap (λ (o : Out JailNow). told_new moves_now (jail_in d c) o.jail) same ∙ told_ban at word serial addr 0 d c n refl,
+    )
+
+-- forgotten failures keep what always holds
+pub forgotten_kept : (at next : ℕ) (addr : Addr) (d : JailDef) (c : Contents) (w : Opened) → IsKept at next d c
+    → w ≡ record (c.windows) { failures = filter (λ (f : Failure). not (is_of addr f)) c.windows.failures } → IsKept at next d (record c { windows = w })
+forgotten_kept at next addr d c w kept w_is =
+    subst (λ (o : Opened). IsKept at next d (record c { windows = o })) (sym w_is) (record {
+      bounded = kept.bounded;
+      findtime = kept.findtime;
+      maxretry = kept.maxretry;
+      moment = kept.moment;
+      times = all_of-filter (λ (f : Failure). f.time ≤ at) (λ (f : Failure). not (is_of addr f)) c.windows.failures kept.times;
+      serials = kept.serials;
+    })
