@@ -1,5 +1,5 @@
 -- What is kept of a jail, and the middle state that it stands for, through each move.
-use Rattle.std.proofs.Common.{◌≡◌, ◌≢◌, ℕ, suc, ◌+◌, ◌*◌, ◌<◌, ◌≤◌, Bool, true, false, cond, not, ◌&&◌, ◌==◌, nat_lt, nat_le, List, [], ◌∷◌, ◌++◌, length, drop, map, Option, Some, None, is_some, refl, sym, ◌∙◌, ap, ap₂, subst, arith}
+use Rattle.std.proofs.Common.{◌≡◌, ◌≢◌, ℕ, suc, ◌+◌, ◌*◌, ◌<◌, ◌≤◌, min, Bool, true, false, cond, not, ◌&&◌, ◌==◌, nat_lt, nat_le, List, [], ◌∷◌, ◌++◌, length, drop, map, Option, Some, None, is_some, refl, sym, ◌∙◌, ap, ap₂, subst, arith}
 use Rattle.std.specs.List.{filter, find, list_any}
 use Rattle.std.specs.Option.{option_copied}
 use denote.Ref.{Bor}
@@ -108,7 +108,7 @@ with_ban_kept at word serial addr failures d c kept = record {
   moment = kept.moment;
   times = kept.times;
   serials = all_of-push (λ (b : Ban). b.serial < serial + 1) c.bans.active (new_ban d c.bans.past at word serial addr failures)
-    (all_weaker (λ (b : Ban). b.serial < serial) (λ (b : Ban). b.serial < serial + 1) (λ b h. omega arith) c.bans.active kept.serials) (omega arith);
+      (all_weaker (λ (b : Ban). b.serial < serial) (λ (b : Ban). b.serial < serial + 1) (λ b h. omega arith) c.bans.active kept.serials) (omega arith);
 }
 
 -- so does a failure that was counted
@@ -157,7 +157,7 @@ is_filled at next word serial near f d c n kept counted =
     let count : N d.findtime = subst N kept.findtime (counted.added.near c.moment kept.moment) in
     let filled : ℕ → List Failure → JailNow = λ m fs. record (jail_in d (with_ban d at word serial f.addr m (with_count at n.windows c))) { failures = fs } in (
       sym (ap (λ (r : Contents). jail_in d (with_ban d at word serial f.addr near r)) counted.room
-      ∙ ap₂ filled count goes),
+          ∙ ap₂ filled count goes),
       sym tells,
       count,
     )
@@ -172,8 +172,8 @@ found_open at word serial f d c n kept is counted =
     rw is (rw (least.1) (ap (λ (j : JailNow). record { jail = j; next = serial }) least.0)) in (
       same,
       rw is (ap (λ (o : Out JailNow). Counts d.name f.addr ∷ told_new moves_now (jail_in d c) o.jail) (rw is at same)
-      ∙ ap (λ (r : Contents). Counts d.name f.addr ∷ told_new moves_now (jail_in d c) (jail_in d r)) counted.room
-      ∙ ap (λ (bs : List Ban). Counts d.name f.addr ∷ map (Begins d.name) bs) (drop-length c.bans.active)),
+          ∙ ap (λ (r : Contents). Counts d.name f.addr ∷ told_new moves_now (jail_in d c) (jail_in d r)) counted.room
+          ∙ ap (λ (bs : List Ban). Counts d.name f.addr ∷ map (Begins d.name) bs) (drop-length c.bans.active)),
     )
 
 -- what the ban that began tells
@@ -196,7 +196,7 @@ found_full at word serial near f d c n kept is counted =
     rw is (rw (filled.1) (ap₂ (λ (j : JailNow) (k : ℕ). record { jail = j; next = k }) filled.0 up)) in (
       same,
       rw is (ap (λ (o : Out JailNow). Counts d.name f.addr ∷ told_new moves_now (jail_in d c) o.jail) (rw is at same)
-      ∙ ap (λ (r : List Happening). Counts d.name f.addr ∷ r) (told_ban at word serial f.addr near d c n bans)),
+          ∙ ap (λ (r : List Happening). Counts d.name f.addr ∷ r) (told_ban at word serial f.addr near d c n bans)),
     )
 
 -- ---- bans by command
@@ -236,3 +236,41 @@ forgotten_kept at next addr d c w kept w_is =
       times = all_of-filter (λ (f : Failure). f.time ≤ at) (λ (f : Failure). not (is_of addr f)) c.windows.failures kept.times;
       serials = kept.serials;
     })
+
+-- ---- a table after ends
+
+-- the jail after the ends of these bans
+pub after_ends : (moment : Ban → ℕ) (bs : List Ban) (d : JailDef) (c : Contents) (t : BanLists) → t ≡ all_ended moment bs c.bans
+    → jail_in d (record c { bans = t }) ≡ end_all moves_now moment bs (jail_in d c)
+after_ends moment bs d c t e = ap (λ (r : BanLists). jail_in d (record c { bans = r })) e ∙ ended_in moment bs d c
+
+-- what always holds after them, when time has passed too
+pub after_ends_kept : (moment : Ban → ℕ) (bs : List Ban) (before at next : ℕ) (d : JailDef) (c : Contents) (t : BanLists) → t ≡ all_ended moment bs c.bans
+    → IsKept before next d c → before ≤ at → IsKept at next d (record c { bans = t })
+after_ends_kept moment bs before at next d c t e kept le =
+    subst (λ (r : BanLists). IsKept at next d (record c { bans = r })) (sym e)
+    (ended_kept moment bs at next d c (kept_later before at next next d c kept le (omega arith)))
+
+-- ---- what was stored
+
+-- a jail that was stored well is what was stored
+pub stored_in : (at moment : ℕ) (d : JailDef) (v : JailView) (w : Opened) → IsStoredWell at d v → moment ≡ min v.moment at → w.failures ≡ v.failures
+    → jail_in d (record { idle = v.idle; total_failed = v.total_failed; total_banned = v.total_banned; moment = moment; watches = v.watches; windows = w; bans = record { active = v.bans; past = v.past } })
+    ≡ jail_of d v
+stored_in at moment d v w well moment_is w_is =
+    let m : moment ≡ v.moment = let le = well.moment in omega arith in
+    let fs : filter (is_late moment d.findtime) w.failures ≡ v.failures =
+    ap₂ (λ k (r : List Failure). filter (is_late k d.findtime) r) m w_is ∙ filter_all (is_late v.moment d.findtime) v.failures well.late in
+    ap₂ (λ k (r : List Failure). record (jail_of d v) { moment = k; failures = r }) m fs
+
+-- and what always holds of a jail holds of one that was stored
+pub stored_kept : (at next moment : ℕ) (d : JailDef) (c : Contents) (v : JailView) → IsBounded d → IsStored at next v → moment ≡ min v.moment at → c.moment ≡ moment
+    → c.bans.active ≡ v.bans → c.windows.findtime ≡ d.findtime → c.windows.maxretry ≡ d.maxretry → AllOf (λ (f : Failure). f.time ≤ at) c.windows.failures → IsKept at next d c
+stored_kept at next moment d c v bounded stored moment_is c_moment bans findtime maxretry times = record {
+  bounded = bounded;
+  findtime = findtime;
+  maxretry = maxretry;
+  moment = omega arith;
+  times = times;
+  serials = subst (λ (bs : List Ban). AllOf (λ (b : Ban). b.serial < next) bs) (sym bans) stored.serials;
+}

@@ -277,7 +277,8 @@ impl Room {
         ensures told { OnOk result (told.new ≡ told.old ++ told_ends moves_now at (jail_in definition.now self.old)) }
         ensures kept { (before next : ℕ) → IsKept before next definition.now self.old → before ≤ at → OnOk result (IsKept at next definition.now self.new) }
     {
-        end_due(&mut self.bans, told, &definition.name, at)
+        end_due(&mut self.bans, told, &definition.name, at)?;
+        Ok(())
     }
 
     /// Ends the bans of these addresses, or all, by serial, at a moment, and tells of them.
@@ -293,7 +294,8 @@ impl Room {
         ensures told { OnOk result (told.new ≡ told.old ++ map (Ends definition.now.name) (filter (is_meant addrs.now) self.old.bans.active)) }
         ensures kept { (next : ℕ) → IsKept at next definition.now self.old → OnOk result (IsKept at next definition.now self.new) }
     {
-        unban(&mut self.bans, told, &definition.name, addrs, at)
+        unban(&mut self.bans, told, &definition.name, addrs, at)?;
+        Ok(())
     }
 
     /// Drops what is over for `purge` seconds or more at a moment. Takes no memory.
