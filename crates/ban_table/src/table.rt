@@ -1,11 +1,12 @@
 //! `BanTable` and its calls.
-ghost use Rattle.std.specs.Prelude.{◌≡◌, ◌≢◌, ◌<◌, ◌^◌, [], false, length, filter, find, is_some, option_copied, OnOk, OnErr, IfOk, IfSome};
+ghost use Rattle.std.specs.Prelude.{◌≡◌, ◌≢◌, ◌<◌, ◌^◌, [], false, length, filter, find, is_some, option_copied, Some, OnOk, OnErr, IfOk, IfSome};
 ghost use Rattle.std.specs.BTreeMap.{values};
 ghost use Rattle.std.specs.List.{list_any};
 ghost use Rattle.f2b_base.specs.declared.ban.Ban.{Ban};
 ghost use Rattle.f2b_model.specs.Lists.{AllOf};
 ghost use Rattle.f2b_model.specs.Moves.{ban_of, is_banned, past_of, up_to_32};
-ghost use Rattle.f2b_model.specs.Steps.{is_due};
+ghost use Rattle.f2b_model.specs.Sound.{IsOnceEach, IsRisingSerials};
+ghost use Rattle.f2b_model.specs.Steps.{is_due, is_meant};
 ghost use Rattle.ban_table.specs.Tables.{begun, ended, purged, IsNextDue};
 
 use crate::index::Index;
@@ -50,6 +51,19 @@ fn active_of(alloc: Global, bans: &BTreeMap<u64, Ban>) -> Result<Seq<Ban>, NoMem
     Ok(active)
 }
 
+/// The active bans of these addresses, under their serials.
+fn found_of(alloc: Global, table: &BanTable, addrs: &[Addr]) -> Result<BTreeMap<u64, Ban>, NoMemory>
+    ensures { IfOk result (λ found. values found ≡ filter (is_meant (Some addrs.now)) table.now.active) }
+{
+    let mut found = BTreeMap::new(alloc);
+    for addr in addrs {
+        if let Some(ban) = table.active(*addr) {
+            found.insert(ban.serial, *ban)?;
+        }
+    }
+    Ok(found)
+}
+
 impl BanTable {
     /// No bans. Takes no memory.
     pub fn new(alloc: Global) -> BanTable
@@ -60,6 +74,30 @@ impl BanTable {
             index: Index::new(alloc),
             past: PastBans::new(alloc),
         }
+    }
+
+    /// No active bans, and these past entries.
+    fn with_past(alloc: Global, past: &[Past]) -> Result<BanTable, NoMemory>
+        ensures { IfOk result (λ table. table ≡ record { active = []; past = past.now }) }
+    {
+        Ok(BanTable {
+            bans: BTreeMap::new(alloc),
+            index: Index::new(alloc),
+            past: PastBans::of(alloc, past)?,
+        })
+    }
+
+    /// The table of these lists.
+    pub fn of(alloc: Global, lists: &BanLists) -> Result<BanTable, NoMemory>
+        requires rising { IsRisingSerials lists.now.active }
+        requires once { IsOnceEach lists.now.active }
+        ensures { IfOk result (λ table. table ≡ lists.now) }
+    {
+        let mut table = BanTable::with_past(alloc, lists.past.as_slice())?;
+        for ban in lists.active.as_slice() {
+            table.start(*ban)?;
+        }
+        Ok(table)
     }
 
     /// Starts a ban, and makes room for its past entry. Ask `active` first: the address may not be banned.
@@ -94,7 +132,9 @@ impl BanTable {
 
     /// The address's active ban, or `None` where it is not banned.
     pub fn active(&self, addr: Addr) -> Option<&Ban>
-        ensures { option_copied result ≡ find (ban_of addr) self.now.active }
+        ensures ban { option_copied result ≡ find (ban_of addr) self.now.active }
+        ensures rising { IsRisingSerials self.now.active }
+        ensures once { IsOnceEach self.now.active }
     {
         let serial = self.index.serial_of(addr)?;
         self.bans.get(&serial)
@@ -104,12 +144,30 @@ impl BanTable {
     pub fn due(&self, now: u64) -> Option<&Ban>
         ensures some { is_some result ≡ list_any (is_due now) self.now.active }
         ensures first { IfSome result (λ ban. IsNextDue now self.now.active ban.now) }
+        ensures rising { IsRisingSerials self.now.active }
+        ensures once { IsOnceEach self.now.active }
     {
         let (end, serial) = self.index.least_end()?;
         if now < end {
             return None;
         }
         self.bans.get(&serial)
+    }
+
+    /// A copy of the active bans, by serial.
+    pub fn bans(&self) -> Result<Seq<Ban>, NoMemory>
+        ensures { IfOk result (λ bans. bans ≡ self.now.active) }
+    {
+        active_of(self.past.allocator(), &self.bans)
+    }
+
+    /// A copy of the active bans of these addresses, by serial, each once. It takes time by the addresses and not by the bans.
+    pub fn bans_of(&self, addrs: &[Addr]) -> Result<Seq<Ban>, NoMemory>
+        ensures { IfOk result (λ bans. bans ≡ filter (is_meant (Some addrs.now)) self.now.active) }
+    {
+        let alloc = self.past.allocator();
+        let found = found_of(alloc, self, addrs)?;
+        active_of(alloc, &found)
     }
 
     /// How many past entries the address has. Stays at the greatest u32.
