@@ -7,6 +7,8 @@
 #![tactic(auto)]
 
 mod bans;
+mod ends;
+mod unbans;
 mod windows;
 
 pub use windows::Windows;

@@ -1,0 +1,2 @@
+pub mod BanLemmas
+pub mod EndLemmas
