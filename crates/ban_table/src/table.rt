@@ -51,19 +51,6 @@ fn active_of(alloc: Global, bans: &BTreeMap<u64, Ban>) -> Result<Seq<Ban>, NoMem
     Ok(active)
 }
 
-/// The active bans of these addresses, under their serials.
-fn found_of(alloc: Global, table: &BanTable, addrs: &[Addr]) -> Result<BTreeMap<u64, Ban>, NoMemory>
-    ensures { IfOk result (λ found. values found ≡ filter (is_meant (Some addrs.now)) table.now.active) }
-{
-    let mut found = BTreeMap::new(alloc);
-    for addr in addrs {
-        if let Some(ban) = table.active(*addr) {
-            found.insert(ban.serial, *ban)?;
-        }
-    }
-    Ok(found)
-}
-
 impl BanTable {
     /// No bans. Takes no memory.
     pub fn new(alloc: Global) -> BanTable
@@ -132,9 +119,7 @@ impl BanTable {
 
     /// The address's active ban, or `None` where it is not banned.
     pub fn active(&self, addr: Addr) -> Option<&Ban>
-        ensures ban { option_copied result ≡ find (ban_of addr) self.now.active }
-        ensures rising { IsRisingSerials self.now.active }
-        ensures once { IsOnceEach self.now.active }
+        ensures { option_copied result ≡ find (ban_of addr) self.now.active }
     {
         let serial = self.index.serial_of(addr)?;
         self.bans.get(&serial)
@@ -165,9 +150,21 @@ impl BanTable {
     pub fn bans_of(&self, addrs: &[Addr]) -> Result<Seq<Ban>, NoMemory>
         ensures { IfOk result (λ bans. bans ≡ filter (is_meant (Some addrs.now)) self.now.active) }
     {
-        let alloc = self.past.allocator();
-        let found = found_of(alloc, self, addrs)?;
-        active_of(alloc, &found)
+        let found = self.found_of(addrs)?;
+        active_of(self.past.allocator(), &found)
+    }
+
+    /// The active bans of these addresses, under their serials.
+    fn found_of(&self, addrs: &[Addr]) -> Result<BTreeMap<u64, Ban>, NoMemory>
+        ensures { IfOk result (λ found. values found ≡ filter (is_meant (Some addrs.now)) self.now.active) }
+    {
+        let mut found = BTreeMap::new(self.past.allocator());
+        for addr in addrs {
+            if let Some(ban) = self.active(*addr) {
+                found.insert(ban.serial, *ban)?;
+            }
+        }
+        Ok(found)
     }
 
     /// How many past entries the address has. Stays at the greatest u32.

@@ -1,5 +1,5 @@
 -- The bans that are due end one after the other, the next one first.
-use Rattle.std.proofs.Common.{◌≡◌, ℕ, suc, ◌+◌, ◌<◌, ◌≤◌, Bool, true, false, not, nat_lt, nat_le, List, [], ◌∷◌, ◌++◌, map, length, ◌⊎◌, inl, inr, refl, sym, ◌∙◌, ap, arith, subst}
+use Rattle.std.proofs.Common.{◌≡◌, ℕ, ◌<◌, ◌≤◌, Bool, true, false, not, nat_lt, List, [], ◌∷◌, ◌++◌, map, length, ◌⊎◌, inl, inr, refl, sym, ◌∙◌, ap, arith, subst}
 use Rattle.std.specs.List.{filter, list_any}
 use Rattle.std.proofs.lemmas.Bool.Decides.{nat_tests}
 use Rattle.std.proofs.lemmas.List.{append_assoc, append-nil}
@@ -7,15 +7,13 @@ use Rattle.ban_table.specs.declared.lists.BanLists.{BanLists}
 use Rattle.ban_table.specs.Tables.{ended, IsNextDue}
 use Rattle.ban_table.proofs.BanLemmas.{all_are, all_others, each_is, is_some_of, rising_filter, once_filter}
 use Rattle.f2b_base.specs.declared.ban.Ban.{Ban}
-use Rattle.f2b_base.specs.declared.ban.Until.{Until}
-use Rattle.f2b_base.specs.declared.ban.Until.TheVariants.{Never, At}
 use Rattle.f2b_model.specs.declared.happening.Happening.{Happening}
 use Rattle.f2b_model.specs.declared.happening.Happening.TheVariants.{Ends}
 use Rattle.f2b_model.specs.Full.{same_addr}
 use Rattle.f2b_model.specs.Lists.{AllOf, IsIn, NoneBefore, in_order, placed, placed_all}
 use Rattle.f2b_model.specs.Moves.{ban_of, is_banned}
 use Rattle.f2b_model.specs.Sound.{IsOnceEach, IsRisingSerials}
-use Rattle.f2b_model.specs.Steps.{end_of, ends_before, is_due, is_due_by, own_end}
+use Rattle.f2b_model.specs.Steps.{ends_before, is_due, own_end}
 use Rattle.f2b_model.proofs.EndLemmas.{ends_order, same_addr_same}
 use Rattle.f2b_model.proofs.ListLemmas.{by_test, filter_swap, length_in_order}
 use Rattle.f2b_model.proofs.OrderlyLemmas.{same_addr_sym}

@@ -1,4 +1,4 @@
-use Rattle.jail_moves.proofs.BanLemmas.{purged_stale, none_stale}
+use Rattle.jail_moves.proofs.BanLemmas.{none_stale}
 use Rattle.jail_moves.proofs.bans.drop_past.Goals as goal
 
 pub returns-else-purge-at : goal.returns-else-purge-at
