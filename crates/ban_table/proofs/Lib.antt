@@ -3,3 +3,5 @@ pub mod IndexLemmas
 pub mod TableLemmas
 pub mod TestLemmas
 pub mod PastLemmas
+pub mod FillLemmas
+pub mod FoundLemmas

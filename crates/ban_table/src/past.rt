@@ -42,6 +42,19 @@ impl PastBans {
         }
     }
 
+    /// These entries.
+    pub fn of(alloc: Global, entries: &[Past]) -> Result<PastBans, NoMemory>
+        ensures items { IfOk result (λ past. past.items ≡ entries.now) }
+        ensures room { IfOk result (λ past. length past.items ≤ past.room) }
+    {
+        let mut past = PastBans::new(alloc);
+        past.make_room(entries.len())?;
+        for entry in entries {
+            past.push(*entry);
+        }
+        Ok(past)
+    }
+
     /// How many entries are the address's. Stays at the greatest u32.
     pub fn count_of(&self, addr: Addr) -> u32
         ensures { result ≡ up_to_32 (length (filter (past_of addr) self.now.items)) }

@@ -1,11 +1,12 @@
 //! `BanTable` and its calls.
-ghost use Rattle.std.specs.Prelude.{◌≡◌, ◌≢◌, ◌<◌, ◌^◌, [], false, length, filter, find, is_some, option_copied, OnOk, OnErr, IfOk, IfSome};
+ghost use Rattle.std.specs.Prelude.{◌≡◌, ◌≢◌, ◌<◌, ◌^◌, [], false, length, filter, find, is_some, option_copied, Some, OnOk, OnErr, IfOk, IfSome};
 ghost use Rattle.std.specs.BTreeMap.{values};
 ghost use Rattle.std.specs.List.{list_any};
 ghost use Rattle.f2b_base.specs.declared.ban.Ban.{Ban};
 ghost use Rattle.f2b_model.specs.Lists.{AllOf};
 ghost use Rattle.f2b_model.specs.Moves.{ban_of, is_banned, past_of, up_to_32};
-ghost use Rattle.f2b_model.specs.Steps.{is_due};
+ghost use Rattle.f2b_model.specs.Sound.{IsOnceEach, IsRisingSerials};
+ghost use Rattle.f2b_model.specs.Steps.{is_due, is_meant};
 ghost use Rattle.ban_table.specs.Tables.{begun, ended, purged, IsNextDue};
 
 use crate::index::Index;
@@ -62,6 +63,30 @@ impl BanTable {
         }
     }
 
+    /// No active bans, and these past entries.
+    fn with_past(alloc: Global, past: &[Past]) -> Result<BanTable, NoMemory>
+        ensures { IfOk result (λ table. table ≡ record { active = []; past = past.now }) }
+    {
+        Ok(BanTable {
+            bans: BTreeMap::new(alloc),
+            index: Index::new(alloc),
+            past: PastBans::of(alloc, past)?,
+        })
+    }
+
+    /// The table of these lists.
+    pub fn of(alloc: Global, lists: &BanLists) -> Result<BanTable, NoMemory>
+        requires rising { IsRisingSerials lists.now.active }
+        requires once { IsOnceEach lists.now.active }
+        ensures { IfOk result (λ table. table ≡ lists.now) }
+    {
+        let mut table = BanTable::with_past(alloc, lists.past.as_slice())?;
+        for ban in lists.active.as_slice() {
+            table.start(*ban)?;
+        }
+        Ok(table)
+    }
+
     /// Starts a ban, and makes room for its past entry. Ask `active` first: the address may not be banned.
     pub fn start(&mut self, ban: Ban) -> Result<(), NoMemory>
         requires free { is_banned ban.addr self.old.active ≡ false }
@@ -104,12 +129,42 @@ impl BanTable {
     pub fn due(&self, now: u64) -> Option<&Ban>
         ensures some { is_some result ≡ list_any (is_due now) self.now.active }
         ensures first { IfSome result (λ ban. IsNextDue now self.now.active ban.now) }
+        ensures rising { IsRisingSerials self.now.active }
+        ensures once { IsOnceEach self.now.active }
     {
         let (end, serial) = self.index.least_end()?;
         if now < end {
             return None;
         }
         self.bans.get(&serial)
+    }
+
+    /// A copy of the active bans, by serial.
+    pub fn bans(&self) -> Result<Seq<Ban>, NoMemory>
+        ensures { IfOk result (λ bans. bans ≡ self.now.active) }
+    {
+        active_of(self.past.allocator(), &self.bans)
+    }
+
+    /// A copy of the active bans of these addresses, by serial, each once. It takes time by the addresses and not by the bans.
+    pub fn bans_of(&self, addrs: &[Addr]) -> Result<Seq<Ban>, NoMemory>
+        ensures { IfOk result (λ bans. bans ≡ filter (is_meant (Some addrs.now)) self.now.active) }
+    {
+        let found = self.found_of(addrs)?;
+        active_of(self.past.allocator(), &found)
+    }
+
+    /// The active bans of these addresses, under their serials.
+    fn found_of(&self, addrs: &[Addr]) -> Result<BTreeMap<u64, Ban>, NoMemory>
+        ensures { IfOk result (λ found. values found ≡ filter (is_meant (Some addrs.now)) self.now.active) }
+    {
+        let mut found = BTreeMap::new(self.past.allocator());
+        for addr in addrs {
+            if let Some(ban) = self.active(*addr) {
+                found.insert(ban.serial, *ban)?;
+            }
+        }
+        Ok(found)
     }
 
     /// How many past entries the address has. Stays at the greatest u32.
@@ -124,13 +179,6 @@ impl BanTable {
         ensures { self.new ≡ purged limit self.old }
     {
         self.past.drop_until(limit);
-    }
-
-    /// A copy of the active bans, by serial.
-    pub fn bans(&self) -> Result<Seq<Ban>, NoMemory>
-        ensures { IfOk result (λ bans. bans ≡ self.now.active) }
-    {
-        active_of(self.past.allocator(), &self.bans)
     }
 
     /// A copy of the lists.

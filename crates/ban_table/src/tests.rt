@@ -1,8 +1,8 @@
 //! Worked rows, through the calls of `BanTable`.
 ghost use Rattle.std.specs.Prelude.{◌<◌, ◌^◌};
 
-use crate::BanTable;
-use f2b_base::{Addr, Ban, NoMemory, Until};
+use crate::{BanLists, BanTable};
+use f2b_base::{Addr, Ban, NoMemory, Past, Seq, Until};
 use std::alloc::Global;
 use std::test::Fail;
 
@@ -95,6 +95,53 @@ fn past_entries_count_until_they_are_purged(rt: HostRuntime) -> Result<(), Fail>
             "at {now}"
         );
     }
+    Ok(())
+}
+
+#[test]
+fn a_table_of_lists_stands_as_they_do(rt: HostRuntime) -> Result<(), Fail> {
+    let first = Ban {
+        serial: 3,
+        addr: Addr::V4(1),
+        begin: 0,
+        until: Until::At(20),
+        count: 0,
+        failures: 5,
+    };
+    let second = Ban {
+        serial: 7,
+        addr: Addr::V4(2),
+        begin: 6,
+        until: Until::At(10),
+        count: 1,
+        failures: 0,
+    };
+    let mut active = Seq::new(rt.alloc());
+    active.push(first)?;
+    active.push(second)?;
+    let mut past = Seq::new(rt.alloc());
+    past.push(Past {
+        addr: Addr::V4(2),
+        end: 4,
+    })?;
+    let lists = BanLists { active, past };
+    let table = BanTable::of(rt.alloc(), &lists)?;
+    assert_eq!(rt; table.lists()?, lists);
+    assert_eq!(rt; table.bans()?, lists.active);
+    assert_eq!(rt; table.past(Addr::V4(2)), 1);
+    let asked = [
+        Addr::V4(2),
+        Addr::V6(1),
+        Addr::V4(1),
+        Addr::V4(2),
+        Addr::V4(9),
+    ];
+    assert_eq!(rt; table.bans_of(&asked)?, lists.active);
+    assert_eq!(rt;
+        table.bans_of(&[Addr::V4(2)])?.as_slice(),
+        [second].as_slice()
+    );
+    assert!(rt; table.bans_of(&[])?.is_empty());
     Ok(())
 }
 

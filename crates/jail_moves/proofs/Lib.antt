@@ -1,2 +1,4 @@
-mod WatchLemmas
-mod RoomLemmas
+pub mod BanLemmas
+pub mod EndLemmas
+pub mod RoomLemmas
+pub mod WatchLemmas

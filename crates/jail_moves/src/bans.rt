@@ -1,20 +1,23 @@
 //! What a jail does with its table of bans.
-ghost use Rattle.std.specs.Prelude.{◌≡◌, ◌≤◌, ◌<◌, ◌∷◌, [], ◌++◌, not, false, filter, map, OnOk, IfOk};
+ghost use Rattle.std.specs.Prelude.{◌≡◌, ◌<◌, [], ◌∷◌, ◌++◌, not, false, filter, IfOk};
 ghost use Rattle.f2b_base.specs.declared.ban.Ban.{Ban};
 ghost use Rattle.f2b_base.specs.Span.{IsRule};
 ghost use Rattle.f2b_model.specs.Full.{same_addr};
-ghost use Rattle.f2b_model.specs.Lists.{AllOf, in_order};
+ghost use Rattle.f2b_model.specs.Lists.{AllOf};
 ghost use Rattle.f2b_model.specs.Moves.{is_banned, is_stale, new_ban};
 ghost use Rattle.f2b_model.specs.Sound.{IsOnceEach, IsRisingSerials};
-ghost use Rattle.f2b_model.specs.Steps.{ends_before, is_due, is_meant, own_end};
-ghost use Rattle.f2b_model.specs.Until.{last_moment};
-ghost use Rattle.f2b_model.specs.declared.happening.Happening.TheVariants.{Ends};
-ghost use Rattle.jail_moves.specs.Rooms.{all_ended};
+ghost use Rattle.f2b_model.specs.Until.{until_of};
 
-use ban_table::BanTable;
-use f2b_base::{Addr, Ban, JailDef, NoMemory, Past, Seq, Text};
-use f2b_model::Happening;
+pub use crate::ends::end_due;
+pub use crate::unbans::unban;
+use ban_table::{BanLists, BanTable};
+use f2b_base::{
+    Addr, Ban, BanRule, JailDef, NoMemory, Past, Plain, Seq, Span, Until, ban_span,
+};
 use std::alloc::Global;
+
+/// The last second that a moment can be.
+const LAST_MOMENT: u64 = (1 << 40) - 1;
 
 /// Whether two addresses are one.
 pub fn same_addr(a: Addr, b: Addr) -> bool
@@ -27,33 +30,15 @@ pub fn same_addr(a: Addr, b: Addr) -> bool
     }
 }
 
-/// Ends the bans that are due, by end and serial, each at its end, and tells of them.
-pub fn end_due(
-    table: &mut BanTable,
-    told: &mut Seq<Happening>,
-    name: &Text,
-    at: u64,
-) -> Result<(), NoMemory>
-    requires { at ≤ last_moment }
-    ensures bans { OnOk result (table.new ≡ all_ended own_end (in_order ends_before (filter (is_due at) table.old.active)) table.old) }
-    ensures told { OnOk result (told.new ≡ told.old ++ map (Ends name.now) (in_order ends_before (filter (is_due at) table.old.active))) }
+/// The end of a ban that begins now.
+fn until_of(rule: &BanRule, at: u64, count: u32, word: u64, serial: u64) -> Until
+    requires { IsRule rule.now }
+    ensures { result ≡ until_of rule.now at count word serial }
 {
-    Err(NoMemory)
-}
-
-/// Ends the bans of these addresses, or all, by serial, at a moment, and tells of them.
-pub fn unban(
-    table: &mut BanTable,
-    told: &mut Seq<Happening>,
-    name: &Text,
-    addrs: &Option<Seq<Addr>>,
-    at: u64,
-) -> Result<(), NoMemory>
-    requires { at ≤ last_moment }
-    ensures bans { OnOk result (table.new ≡ all_ended (λ (b : Ban). at) (filter (is_meant addrs.now) table.old.active) table.old) }
-    ensures told { OnOk result (told.new ≡ told.old ++ map (Ends name.now) (filter (is_meant addrs.now) table.old.active)) }
-{
-    Err(NoMemory)
+    match ban_span(rule, count, word, serial) {
+        Span::Never => Until::Never,
+        Span::Secs(secs) => Until::At(at.saturating_add(secs).min(LAST_MOMENT)),
+    }
 }
 
 /// Begins a ban of an address to which so many failures led.
@@ -72,7 +57,17 @@ pub fn begin(
     ensures ban { IfOk result (λ ban. ban ≡ new_ban definition.now table.old.past at word serial addr failures) }
     ensures bans { IfOk result (λ ban. table.new ≡ record table.old { active = table.old.active ++ ban ∷ [] }) }
 {
-    Err(NoMemory)
+    let count = table.past(addr);
+    let ban = Ban {
+        serial,
+        addr,
+        begin: at,
+        until: until_of(&definition.rule, at, count, word, serial),
+        count,
+        failures: failures.min(u64::from(u32::MAX)) as u32,
+    };
+    table.start(ban)?;
+    Ok(ban)
 }
 
 /// A table of these bans.
@@ -81,7 +76,9 @@ pub fn table_of(alloc: Global, active: &Seq<Ban>, past: &Seq<Past>) -> Result<Ba
     requires once { IsOnceEach active.now }
     ensures { IfOk result (λ table. table ≡ record { active = active.now; past = past.now }) }
 {
-    Err(NoMemory)
+    let active = active.copy()?;
+    let past = past.copy()?;
+    BanTable::of(alloc, &BanLists { active, past })
 }
 
 /// Drops the past entries that ended `purge` seconds before a moment, or earlier. Takes no memory.

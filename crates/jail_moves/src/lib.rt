@@ -7,7 +7,9 @@
 #![tactic(auto)]
 
 mod bans;
+mod ends;
 mod room;
+mod unbans;
 mod watches;
 mod windows;
 
