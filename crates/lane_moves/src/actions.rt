@@ -6,6 +6,7 @@ ghost use Rattle.f2b_model.specs.Until.{last_moment};
 ghost use Rattle.lane_moves.specs.Held.{are_just, held_of, AreById};
 
 use crate::held::JailBans;
+use crate::up::{has_others, lacks_some};
 use action_queue::Lanes;
 use f2b_base::{Defs, Job, NoMemory, Outcome, Plain, Seq, UpLane};
 use f2b_model::Happening;
@@ -136,6 +137,6 @@ impl Actions {
     pub fn are_just(&self, defs: &Defs) -> bool
         ensures { result ≡ are_just (lanes_of defs.now) self.now.up }
     {
-        false
+        !has_others(self.up.as_slice(), defs) && !lacks_some(self.up.as_slice(), defs)
     }
 }

@@ -6,7 +6,9 @@
 #![tactic(auto)]
 
 mod actions;
+mod families;
 mod held;
+mod up;
 
 pub use actions::Actions;
 pub use held::JailBans;
