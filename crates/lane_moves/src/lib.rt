@@ -6,8 +6,12 @@
 #![tactic(auto)]
 
 mod actions;
+mod book;
 mod families;
+mod fills;
 mod held;
+mod orders;
+mod texts;
 mod up;
 
 pub use actions::Actions;
