@@ -1,11 +1,12 @@
 //! Which lanes are up, and which of a configuration are.
-ghost use Rattle.std.specs.Prelude.{◌≡◌, not};
+ghost use Rattle.std.specs.Prelude.{◌≡◌, [], ◌∷◌, ◌++◌, not, filter, IfOk, OnOk};
 ghost use Rattle.std.specs.List.{list_any};
 ghost use Rattle.f2b_model.specs.Lanes.{is_among, lanes_of, lanes_of_jail};
-ghost use Rattle.f2b_model.specs.Orders.{is_up, lane_id};
+ghost use Rattle.f2b_model.specs.Orders.{is_lane, is_up, lane_id};
 
 use crate::families::{is_lane, same_up};
-use f2b_base::{ActionDef, Defs, JailDef, Text, UpLane};
+use f2b_base::{ActionDef, Defs, JailDef, NoMemory, Plain, Seq, Text, UpLane};
+use std::alloc::Global;
 
 /// Whether the lane of a jail and an action is up, whatever its texts.
 fn is_up(up: &[UpLane], jail: &Text, action: &ActionDef) -> bool
@@ -59,4 +60,63 @@ pub(crate) fn has_others(up: &[UpLane], defs: &Defs) -> bool
     ensures { result ≡ list_any (λ lane. not (is_among (lanes_of defs.now) lane)) up.now }
 {
     up.iter().any(|lane| !is_among(defs, lane))
+}
+
+/// Copies of the lanes that are not among those of a configuration, in their order.
+pub(crate) fn others(alloc: Global, up: &[UpLane], defs: &Defs) -> Result<Seq<UpLane>, NoMemory>
+    ensures { IfOk result (λ lanes. lanes ≡ filter (λ lane. not (is_among (lanes_of defs.now) lane)) up.now) }
+{
+    let mut lanes = Seq::new(alloc);
+    for lane in up {
+        if !is_among(defs, lane) {
+            lanes.push(lane.copy()?)?;
+        }
+    }
+    Ok(lanes)
+}
+
+/// Adds the lane of a jail and an action where it is not up.
+fn add_missing(
+    lanes: &mut Seq<UpLane>,
+    up: &[UpLane],
+    jail: &Text,
+    action: &ActionDef,
+) -> Result<(), NoMemory>
+    ensures { OnOk result (lanes.new ≡ lanes.old ++ filter (λ lane. not (is_up up.now (lane_id lane))) (record { jail = jail.now; action = action.now } ∷ [])) }
+{
+    if !is_up(up, jail, action) {
+        lanes.push(UpLane {
+            jail: jail.copy()?,
+            action: action.copy()?,
+        })?;
+    }
+    Ok(())
+}
+
+/// Adds the lanes of a jail that are not up, in their order.
+fn add_missing_of(lanes: &mut Seq<UpLane>, up: &[UpLane], jail: &JailDef) -> Result<(), NoMemory>
+    ensures { OnOk result (lanes.new ≡ lanes.old ++ filter (λ lane. not (is_up up.now (lane_id lane))) (lanes_of_jail jail.now)) }
+{
+    for action in jail.actions.as_slice() {
+        add_missing(lanes, up, &jail.name, action)?;
+    }
+    Ok(())
+}
+
+/// Copies of the lanes of a configuration that are not up, in their order.
+pub(crate) fn missing(alloc: Global, up: &[UpLane], defs: &Defs) -> Result<Seq<UpLane>, NoMemory>
+    ensures { IfOk result (λ lanes. lanes ≡ filter (λ lane. not (is_up up.now (lane_id lane))) (lanes_of defs.now)) }
+{
+    let mut lanes = Seq::new(alloc);
+    for jail in defs.jails.as_slice() {
+        add_missing_of(&mut lanes, up, jail)?;
+    }
+    Ok(lanes)
+}
+
+/// Takes a lane out, by its jail and the name and the family of its action.
+pub(crate) fn take_out(up: &mut Seq<UpLane>, lane: &UpLane)
+    ensures { up.new ≡ filter (λ other. not (is_lane (lane_id lane.now) other)) up.old }
+{
+    up.retain(|other| !is_lane(other, &lane.jail, &lane.action));
 }
