@@ -38,6 +38,9 @@ reserved_names =
     codes "ip" ∷ codes "family" ∷ codes "failures" ∷ codes "time" ∷ codes "bantime" ∷ codes "bancount" ∷ codes "matches" ∷ codes "br"
     ∷ codes "HOST" ∷ codes "ADDR" ∷ codes "IP4" ∷ codes "IP6" ∷ codes "DNS" ∷ codes "SUBNET" ∷ codes "CIDR" ∷ codes "SKIPLINES" ∷ []
 
+abbrev pub is_listed : List ℕ → Bool
+is_listed name = list_any (bytes_eq name) reserved_names
+
 -- one of them, or a name that begins with `F-`
 abbrev pub is_reserved : List ℕ → Bool
-is_reserved name = list_any (bytes_eq name) reserved_names || starts_with nat_eq name (codes "F-")
+is_reserved name = is_listed name || starts_with nat_eq name (codes "F-")

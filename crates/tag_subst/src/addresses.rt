@@ -7,7 +7,7 @@ use std::alloc::Global;
 use std::net::{Ipv4Addr, Ipv6Addr};
 
 /// The text of an address.
-#[tactic(auto, unfolding(f2b_base::specs::Addresses::printed, f2b_base::specs::Addresses::octets, f2b_base::specs::Addresses::groups, std::specs::Net::Addr::IsIpv6OfBits))]
+#[tactic(auto, unfolding(f2b_base::specs::Addresses::printed, f2b_base::specs::Addresses::octets, f2b_base::specs::Addresses::groups, std::specs::Net::Addr::IsIpv4OfBits, std::specs::Net::Addr::IsIpv6OfBits))]
 pub(crate) fn printed(alloc: Global, addr: Addr) -> Result<String, NoMemory>
     ensures { IfOk result (λ text. string_bytes text ≡ printed addr) }
 {

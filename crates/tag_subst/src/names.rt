@@ -1,6 +1,6 @@
 //! Which part of a text is a static tag.
 ghost use Rattle.std.specs.Prelude.{◌≡◌, ◌≤◌, ◌-◌, ◌+◌, length, IsTrue};
-ghost use Rattle.tag_subst.specs.Names.{is_name_byte, begins_name, name_start, is_open_at, is_reserved};
+ghost use Rattle.tag_subst.specs.Names.{is_name_byte, begins_name, name_start, is_open_at, is_listed, is_reserved};
 
 use crate::groups::opens_group;
 
@@ -44,14 +44,33 @@ pub(crate) fn is_open_at(start: usize, text: &[u8]) -> bool
     text[start - 1] == b'<' && begins_name(&text[start..]) && !opens_group(&text[..start - 1])
 }
 
+/// Whether the name is one of those that stand for no item.
+fn is_listed(name: &str) -> bool
+    ensures { result ≡ is_listed name.now }
+{
+    matches!(
+        name,
+        "ip" | "family"
+            | "failures"
+            | "time"
+            | "bantime"
+            | "bancount"
+            | "matches"
+            | "br"
+            | "HOST"
+            | "ADDR"
+            | "IP4"
+            | "IP6"
+            | "DNS"
+            | "SUBNET"
+            | "CIDR"
+            | "SKIPLINES"
+    )
+}
+
 /// Whether the name stands for no item.
 pub(crate) fn is_reserved(name: &str) -> bool
     ensures { result ≡ is_reserved name.now }
 {
-    let is_listed = matches!(
-        name,
-        "ip" | "family" | "failures" | "time" | "bantime" | "bancount" | "matches" | "br" | "HOST" | "ADDR" | "IP4" | "IP6" | "DNS"
-            | "SUBNET" | "CIDR" | "SKIPLINES"
-    );
-    is_listed || name.starts_with("F-")
+    is_listed(name) || name.starts_with("F-")
 }

@@ -62,7 +62,13 @@ fn cut(text: &str) -> (&str, Option<&str>)
 }
 
 /// Adds a part behind a `<`, with its tag filled in.
-fn push_part(alloc: Global, out: &mut Text, before: &str, part: &str, fill: &Fill) -> Result<(), NoMemory>
+fn push_part(
+    alloc: Global,
+    out: &mut Text,
+    before: &str,
+    part: &str,
+    fill: &Fill,
+) -> Result<(), NoMemory>
     ensures { OnOk result (out.new ≡ out.old ++ filled (part_value fill.now before.now part.now) part.now) }
 {
     if !opens_group(before.as_bytes()) {

@@ -82,7 +82,14 @@ fn read(
             None => kept.add(">", depth)?,
             Some(value) => {
                 kept.cut(value.place);
-                read(alloc, sections, scope, value.depth, value.text.as_str(), kept)?;
+                read(
+                    alloc,
+                    sections,
+                    scope,
+                    value.depth,
+                    value.text.as_str(),
+                    kept,
+                )?;
             }
         }
         rest = behind;

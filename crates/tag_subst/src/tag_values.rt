@@ -36,8 +36,8 @@ fn with_first(alloc: Global, section: &str, scope: &[Text]) -> Result<Seq<Text>,
 {
     let mut all = Seq::new(alloc);
     all.push(Text::from_str(alloc, section)?)?;
-    for section in scope {
-        all.push(section.copy()?)?;
+    for other in scope {
+        all.push(other.copy()?)?;
     }
     Ok(all)
 }
@@ -75,7 +75,12 @@ pub(crate) fn tag_value(
         return value(alloc, sections, scope, tag);
     };
     if word == "known" {
-        return value(alloc, sections, &without_options(alloc, scope.as_slice())?, name);
+        return value(
+            alloc,
+            sections,
+            &without_options(alloc, scope.as_slice())?,
+            name,
+        );
     }
     value_of_section(alloc, sections, scope.as_slice(), word, name)
 }
