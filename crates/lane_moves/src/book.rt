@@ -7,12 +7,13 @@ ghost use Rattle.f2b_model.specs.Until.{last_moment};
 ghost use Rattle.lane_moves.specs.Held.{AreById};
 ghost use Rattle.lane_moves.specs.Pending.{filled_order, ordered};
 
-use crate::texts::{render, template};
+use crate::texts::template;
 use action_queue::Lanes;
 use f2b_base::{Job, JobKind, LaneId, NoMemory, Outcome, Plain, UpLane};
 use f2b_model::Fill;
 use std::alloc::Global;
 use std::marker::Model;
+use tag_subst::render;
 
 /// The jobs that are not settled, and the id of the job to come.
 #[derive(Drop)]

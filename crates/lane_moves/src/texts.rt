@@ -1,11 +1,8 @@
-//! The commands of jobs.
-ghost use Rattle.std.specs.Prelude.{◌≡◌, IfOk};
+//! The commands of an action.
+ghost use Rattle.std.specs.Prelude.{◌≡◌};
 ghost use Rattle.f2b_model.specs.Orders.{template};
-ghost use Rattle.f2b_model.specs.Render.{rendered};
 
-use f2b_base::{ActionDef, JobKind, NoMemory, Text};
-use f2b_model::Fill;
-use std::alloc::Global;
+use f2b_base::{ActionDef, JobKind};
 
 /// The template of a kind of job.
 pub(crate) fn template(kind: JobKind, action: &ActionDef) -> &str
@@ -17,11 +14,4 @@ pub(crate) fn template(kind: JobKind, action: &ActionDef) -> &str
         JobKind::Ban => action.ban.as_str(),
         JobKind::Unban => action.unban.as_str(),
     }
-}
-
-/// The template with its tags filled in.
-pub(crate) fn render(_alloc: Global, _template: &str, _fill: &Fill) -> Result<Text, NoMemory>
-    ensures { IfOk result (λ text. text ≡ rendered _template.now _fill.now) }
-{
-    Err(NoMemory)
 }
