@@ -6,7 +6,13 @@
 #![tactic(auto)]
 
 mod actions;
+mod book;
+mod families;
+mod fills;
 mod held;
+mod orders;
+mod texts;
+mod up;
 
 pub use actions::Actions;
 pub use held::JailBans;

@@ -1,0 +1,32 @@
+-- Jobs that are not settled with the id of the job to come, and orders that become jobs.
+use Rattle.std.specs.Prelude.{ℕ, ◌+◌, if◌then◌else◌, Some, List, [], ◌∷◌, ◌++◌, length}
+use Rattle.f2b_base.specs.declared.job.Job.{Job}
+use Rattle.f2b_base.specs.declared.job.JobKind.{JobKind}
+use Rattle.f2b_base.specs.declared.job.UpLane.{UpLane}
+use Rattle.f2b_model.specs.declared.fill.Fill.{Fill}
+use Rattle.f2b_model.specs.Orders.{Held, lane_id, takes, template, order}
+use Rattle.f2b_model.specs.Render.{rendered}
+use Rattle.f2b_model.specs.Turns.{Order, numbered}
+
+-- the jobs that are not settled, and the id of the job to come
+pub record Pending : Type 0 where
+  pub jobs : List Job
+  pub next : ℕ
+
+-- orders become jobs behind the others, due at a moment
+abbrev pub ordered : ℕ → List Order → Pending → Pending
+ordered at os p = record { jobs = p.jobs ++ numbered p.next at os; next = p.next + length os }
+
+-- a job of that kind for the lane, with these values in its command
+abbrev pub filled_order : JobKind → UpLane → Fill → Order
+filled_order kind lane f = record {
+  lane = lane_id lane;
+  kind = kind;
+  addr = f.ip;
+  text = rendered (template kind lane.action) f;
+  timeout = lane.action.timeout;
+}
+
+-- a job of that kind for the lane where it takes the ban
+abbrev pub order_where : JobKind → Held → UpLane → List Order
+order_where kind h lane = if takes lane h then order kind (Some h) lane ∷ [] else []

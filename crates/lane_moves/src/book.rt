@@ -1,0 +1,139 @@
+//! The jobs that are not settled, with the id of the job to come. A job is written when it is ordered, and stands behind the others.
+ghost use Rattle.std.specs.Prelude.{◌≡◌, ◌≤◌, true, [], ◌∷◌, OnOk, IfOk};
+ghost use Rattle.action_queue.specs.Tries.{ending_of};
+ghost use Rattle.f2b_model.specs.Jobs.{is_head_id, settle_in};
+ghost use Rattle.f2b_model.specs.Orders.{lane_id};
+ghost use Rattle.f2b_model.specs.Until.{last_moment};
+ghost use Rattle.lane_moves.specs.Held.{AreById};
+ghost use Rattle.lane_moves.specs.Pending.{filled_order, ordered};
+
+use crate::texts::template;
+use action_queue::Lanes;
+use f2b_base::{Job, JobKind, LaneId, NoMemory, Outcome, Plain, UpLane};
+use f2b_model::Fill;
+use std::alloc::Global;
+use std::marker::Model;
+use tag_subst::render;
+
+/// The jobs that are not settled, and the id of the job to come.
+#[derive(Drop)]
+pub(crate) struct JobBook {
+    alloc: Global,
+    jobs: Lanes,
+    next: u64,
+}
+
+impl Model for JobBook {
+    ghost use Rattle.f2b_model.specs.Jobs.{AllIdsBelow};
+    ghost use Rattle.lane_moves.specs.Pending.{Pending};
+
+    ghost Value = { Pending };
+
+    ghost view = { λ b. record { jobs = b.jobs; next = b.next } };
+
+    ghost invariant = { λ b. AllIdsBelow b.next b.jobs };
+}
+
+/// The name of a lane that is up.
+fn lane_id(lane: &UpLane) -> Result<LaneId, NoMemory>
+    ensures { IfOk result (λ id. id ≡ lane_id lane.now) }
+{
+    Ok(LaneId {
+        jail: lane.jail.copy()?,
+        action: lane.action.name.copy()?,
+        family: lane.action.family,
+    })
+}
+
+impl JobBook {
+    /// No jobs. Takes no memory.
+    pub(crate) fn new(alloc: Global) -> JobBook
+        ensures { result ≡ record { jobs = []; next = 0 } }
+    {
+        JobBook {
+            alloc,
+            jobs: Lanes::new(alloc),
+            next: 0,
+        }
+    }
+
+    /// Copies of jobs, which stand by id.
+    pub(crate) fn of(alloc: Global, jobs: &[Job], next: u64) -> Result<JobBook, NoMemory>
+        requires { AreById 0 jobs.now next }
+        ensures { IfOk result (λ book. book ≡ record { jobs = jobs.now; next = next }) }
+    {
+        let mut lanes = Lanes::new(alloc);
+        for job in jobs {
+            let copy = job.copy()?;
+            lanes.push(alloc, copy)?;
+        }
+        Ok(JobBook {
+            alloc,
+            jobs: lanes,
+            next,
+        })
+    }
+
+    /// Where jobs are allocated.
+    pub(crate) fn alloc(&self) -> Global {
+        self.alloc
+    }
+
+    /// The jobs that are not settled.
+    pub(crate) fn jobs(&self) -> &Lanes
+        ensures { result.now ≡ self.now.jobs }
+    {
+        &self.jobs
+    }
+
+    /// The id of the job to come.
+    pub(crate) fn next(&self) -> u64
+        ensures { result ≡ self.now.next }
+    {
+        self.next
+    }
+
+    /// Whether the job of that id is there and is the first of its lane.
+    pub(crate) fn is_head(&self, job: u64) -> bool
+        ensures { result ≡ is_head_id job self.now.jobs }
+    {
+        self.jobs.is_head(job)
+    }
+
+    /// Takes the ending of a try of a lane's first job, in seconds since 1970. Takes no memory.
+    pub(crate) fn settle(&mut self, job: u64, outcome: Outcome, at: u64)
+        requires head { is_head_id job self.old.jobs ≡ true }
+        requires at { at ≤ last_moment }
+        ensures { self.new ≡ record self.old { jobs = settle_in (ending_of job outcome at) self.old.jobs } }
+    {
+        let _settled = self.jobs.settle(job, outcome, at);
+    }
+
+    /// Adds a job of that kind for the lane, with these values in its command, due at a moment in seconds since 1970.
+    ///
+    /// The last id is given to no job, since there would be none for the job to come: that many jobs have no memory.
+    pub(crate) fn order(
+        &mut self,
+        kind: JobKind,
+        lane: &UpLane,
+        fill: &Fill,
+        at: u64,
+    ) -> Result<(), NoMemory>
+        ensures { OnOk result (self.new ≡ ordered at (filled_order kind lane.now fill.now ∷ []) self.old) }
+    {
+        let next = self.next.checked_add(1).ok_or(NoMemory)?;
+        let job = Job {
+            id: self.next,
+            lane: lane_id(lane)?,
+            kind,
+            addr: fill.ip,
+            text: render(self.alloc, template(kind, &lane.action), fill)?,
+            timeout: lane.action.timeout,
+            tries: 0,
+            due: at,
+        };
+        self.jobs.push(self.alloc, job)?;
+        self.next = next;
+        Ok(())
+    }
+}

@@ -1,0 +1,57 @@
+//! When two families, actions or lanes are one, and whether a lane takes an address.
+ghost use Rattle.std.specs.Prelude.{◌≡◌};
+ghost use Rattle.f2b_model.specs.Families.{in_family, same_action, same_family, same_up};
+ghost use Rattle.f2b_model.specs.Orders.{is_lane, lane_id};
+
+use f2b_base::{ActionDef, Addr, Family, Text, UpLane};
+
+/// Whether two families are one.
+fn same_family(a: Family, b: Family) -> bool
+    ensures { result ≡ same_family a b }
+{
+    match (a, b) {
+        (Family::Both, Family::Both) => true,
+        (Family::Inet4, Family::Inet4) => true,
+        (Family::Inet6, Family::Inet6) => true,
+        _ => false,
+    }
+}
+
+/// Whether an address is of a family: each is of Both.
+pub(crate) fn in_family(family: Family, addr: Addr) -> bool
+    ensures { result ≡ in_family family addr }
+{
+    match (family, addr) {
+        (Family::Both, _) => true,
+        (Family::Inet4, Addr::V4(_)) | (Family::Inet6, Addr::V6(_)) => true,
+        (Family::Inet4, Addr::V6(_)) | (Family::Inet6, Addr::V4(_)) => false,
+    }
+}
+
+/// Whether two actions are one, in name, family, texts and timeout.
+fn same_action(a: &ActionDef, b: &ActionDef) -> bool
+    ensures { result ≡ same_action a.now b.now }
+{
+    a.name == b.name
+        && (same_family(a.family, b.family)
+            && (a.start == b.start
+                && (a.stop == b.stop
+                    && (a.ban == b.ban
+                        && (a.unban == b.unban
+                            && (a.check == b.check && a.timeout == b.timeout))))))
+}
+
+/// Whether a lane that is up is that of a jail and an action, with the same texts.
+pub(crate) fn same_up(lane: &UpLane, jail: &Text, action: &ActionDef) -> bool
+    ensures { result ≡ same_up lane.now (record { jail = jail.now; action = action.now }) }
+{
+    lane.jail == *jail && same_action(&lane.action, action)
+}
+
+/// Whether a lane that is up has the jail, the name and the family of an action, whatever its texts.
+pub(crate) fn is_lane(lane: &UpLane, jail: &Text, action: &ActionDef) -> bool
+    ensures { result ≡ is_lane (lane_id (record { jail = jail.now; action = action.now })) lane.now }
+{
+    lane.jail == *jail
+        && (lane.action.name == action.name && same_family(lane.action.family, action.family))
+}

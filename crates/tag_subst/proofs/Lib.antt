@@ -1,0 +1,5 @@
+pub mod EscapeLemmas
+pub mod FillLemmas
+pub mod PartLemmas
+pub mod ReadLemmas
+pub mod ValueLemmas

@@ -1,0 +1,7 @@
+pub mod Errors
+pub mod Escapes
+pub mod Marked
+pub mod Names
+pub mod Parts
+pub mod Tags
+pub mod Values

@@ -1,0 +1,328 @@
+//! Texts with tags, with what they come to by the rules.
+
+use crate::{TagError, escape, render, substitute};
+use f2b_base::{Addr, Family, NoMemory, Seq, Text};
+use f2b_model::Fill;
+use ini_interp::{InterpError, Sections};
+use std::alloc::Global;
+use std::test::Fail;
+
+/// The answer as one text.
+fn shown(alloc: Global, answer: Result<Text, TagError>) -> Result<String, NoMemory> {
+    match answer {
+        Ok(text) => {
+            let text = text.as_str();
+            Ok(format!(in alloc; "= {text}")?)
+        }
+        Err(TagError::TooDeep(name)) => {
+            let name = name.as_str();
+            Ok(format!(in alloc; "too deep {name}")?)
+        }
+        Err(TagError::Interp(InterpError::Missing(name))) => {
+            let name = name.as_str();
+            Ok(format!(in alloc; "missing {name}")?)
+        }
+        Err(TagError::Interp(InterpError::TooDeep(name))) => {
+            let name = name.as_str();
+            Ok(format!(in alloc; "value too deep {name}")?)
+        }
+        Err(TagError::Interp(InterpError::BadPercent(at))) => {
+            Ok(format!(in alloc; "percent {at}")?)
+        }
+        Err(TagError::Interp(InterpError::NoMemory)) => Ok(String::from_str(alloc, "misled")?),
+        Err(TagError::NoMemory) => Ok(String::from_str(alloc, "no memory")?),
+    }
+}
+
+/// The scope of an action.
+fn scope(alloc: Global) -> Result<Seq<Text>, NoMemory> {
+    let mut scope = Seq::new(alloc);
+    scope.push(Text::from_str(alloc, "]options")?)?;
+    scope.push(Text::from_str(alloc, "Init")?)?;
+    scope.push(Text::from_str(alloc, "Definition")?)?;
+    scope.push(Text::from_str(alloc, "DEFAULT")?)?;
+    Ok(scope)
+}
+
+/// Items of that scope, and of sections outside it.
+fn items(alloc: Global) -> Result<Sections, NoMemory> {
+    let mut items = Sections::new(alloc);
+    for (section, name, value) in [
+        ("]options", "port", "2222"),
+        ("]options", "o", "opt"),
+        ("Init", "port", "ssh"),
+        ("Init?family=inet6", "port", "six"),
+        ("Definition", "a", "1"),
+        ("Definition", "b", "<a>"),
+        ("Definition", "c", "a"),
+        ("Definition", "two", "<c><c>"),
+        ("Definition", "empty", ""),
+        ("Definition", "less", "<"),
+        ("Definition", "group", "(?"),
+        ("Definition", "ip", "item"),
+        ("Definition", "f-x", "fx"),
+        ("Definition", "q", "%(a)s"),
+        ("Definition", "bad", "x%"),
+        ("Definition", "gone", "%(nowhere)s"),
+        ("Definition", "loop", "<loop>"),
+        ("DEFAULT", "d", "def"),
+        ("other", "y", "5"),
+        ("other", "z", "%(y)s"),
+        ("other", "w", "%(a)s"),
+    ] {
+        items.put(section, name, value)?;
+    }
+    Ok(items)
+}
+
+#[test]
+fn replaces_static_tags(rt: HostRuntime) -> Result<(), Fail> {
+    let items = items(rt.alloc())?;
+    let scope = scope(rt.alloc())?;
+    for (text, want) in [
+        ("", "= "),
+        ("no tag", "= no tag"),
+        ("x <a>", "= x 1"),
+        ("<a><a>", "= 11"),
+        ("<A>", "= 1"),
+        ("<b>", "= 1"),
+        ("<two>", "= aa"),
+        ("<empty>", "= "),
+        ("<q>", "= 1"),
+        // Tags in tags.
+        ("<<c>>", "= 1"),
+        ("<<c>", "= <a"),
+        ("<c>>", "= a>"),
+        ("<less>a>", "= 1"),
+        ("<less>c>", "= a"),
+        ("<less><c>>", "= 1"),
+        ("<a<empty>>", "= 1"),
+        // Names without a value.
+        ("<no>", "= <no>"),
+        ("<no<c>>", "= <noa>"),
+        ("<<no>>", "= <<no>>"),
+        ("<<no><a>>", "= <<no>1>"),
+        ("<less>no>", "= <no>"),
+    ] {
+        let got = shown(rt.alloc(), substitute(rt.alloc(), text, &items, &scope))?;
+        assert_eq!(rt; got.as_str(), want);
+    }
+    Ok(())
+}
+
+#[test]
+fn leaves_what_is_no_static_tag(rt: HostRuntime) -> Result<(), Fail> {
+    let items = items(rt.alloc())?;
+    let scope = scope(rt.alloc())?;
+    for (text, want) in [
+        ("<a", "= <a"),
+        ("a>", "= a>"),
+        ("<>", "= <>"),
+        ("< a>", "= < a>"),
+        ("<a b>", "= <a b>"),
+        ("<1>", "= <1>"),
+        ("<-a>", "= <-a>"),
+        ("<\u{e9}>", "= <\u{e9}>"),
+        ("\u{e9}<a>\u{65e5}", "= \u{e9}1\u{65e5}"),
+        // Groups of patterns.
+        ("(?<a>x)", "= (?<a>x)"),
+        ("(?P<a>x)", "= (?P<a>x)"),
+        ("(?:<a>)", "= (?:1)"),
+        ("[(]?<a>", "= [(]?1"),
+        ("(?<x<c>>", "= (?<xa>"),
+        ("<group><a>", "= (?<a>"),
+        // Reserved names.
+        ("<ip> <br> <matches>", "= <ip> <br> <matches>"),
+        ("<HOST> <ADDR>", "= <HOST> <ADDR>"),
+        ("<F-CONTENT></F-CONTENT>", "= <F-CONTENT></F-CONTENT>"),
+        ("<F-X>", "= <F-X>"),
+        ("<f-x>", "= fx"),
+        ("<known/ip>", "= item"),
+    ] {
+        let got = shown(rt.alloc(), substitute(rt.alloc(), text, &items, &scope))?;
+        assert_eq!(rt; got.as_str(), want);
+    }
+    Ok(())
+}
+
+#[test]
+fn looks_in_sections(rt: HostRuntime) -> Result<(), Fail> {
+    let items = items(rt.alloc())?;
+    let scope = scope(rt.alloc())?;
+    for (text, want) in [
+        ("<port>", "= 2222"),
+        ("<known/port>", "= ssh"),
+        ("<Init/port>", "= ssh"),
+        ("<init/port>", "= <init/port>"),
+        ("<Init?family=inet6/port>", "= six"),
+        ("<o>", "= opt"),
+        ("<known/o>", "= <known/o>"),
+        ("<other/y>", "= 5"),
+        ("<other/Y>", "= 5"),
+        ("<other/z>", "= 5"),
+        ("<other/w>", "= 1"),
+        ("<other/a>", "= <other/a>"),
+        ("<other/y/z>", "= <other/y/z>"),
+        ("<none/a>", "= <none/a>"),
+        ("<DEFAULT/d>", "= def"),
+        ("<default/d>", "= <default/d>"),
+        // The first fault from the left.
+        ("<bad>", "percent 1"),
+        ("<gone>", "missing nowhere"),
+        ("<loop>", "too deep loop"),
+        ("<loop><bad>", "too deep loop"),
+        ("<bad><loop>", "percent 1"),
+        ("<no><gone>", "missing nowhere"),
+        ("%<a>", "= %1"),
+    ] {
+        let got = shown(rt.alloc(), substitute(rt.alloc(), text, &items, &scope))?;
+        assert_eq!(rt; got.as_str(), want);
+    }
+    Ok(())
+}
+
+#[test]
+fn replaces_ten_deep(rt: HostRuntime) -> Result<(), Fail> {
+    let mut items = Sections::new(rt.alloc());
+    for (name, value) in [
+        ("d0", "<d1>"),
+        ("d1", "<d2>"),
+        ("d2", "<d3>"),
+        ("d3", "<d4>"),
+        ("d4", "<d5>"),
+        ("d5", "<d6>"),
+        ("d6", "<d7>"),
+        ("d7", "<d8>"),
+        ("d8", "<d9>"),
+        ("d9", "<d10>"),
+        ("d10", "end"),
+        ("e", "d1"),
+        ("g9", "<ip><Definition/Gone>"),
+        ("empty", ""),
+    ] {
+        items.put("Definition", name, value)?;
+    }
+    let scope = scope(rt.alloc())?;
+    for (text, want) in [
+        ("<d1>", "= end"),
+        ("<d1><d1>", "= endend"),
+        ("<d0>", "too deep d10"),
+        // A tag that another one formed is deeper than that one.
+        ("<d2>", "= end"),
+        ("<<e>>", "too deep d10"),
+        ("<d1<empty>>", "= end"),
+        ("<d1<d2>>", "= <d1end>"),
+        ("<g9>", "= <ip><Definition/Gone>"),
+    ] {
+        let got = shown(rt.alloc(), substitute(rt.alloc(), text, &items, &scope))?;
+        assert_eq!(rt; got.as_str(), want);
+    }
+    // The depth is tested before the look-up, and a reserved name has none.
+    items.put("Definition", "d10", "<g9>")?;
+    let absent = shown(rt.alloc(), substitute(rt.alloc(), "<d1>", &items, &scope))?;
+    assert_eq!(rt; absent.as_str(), "too deep g9");
+    items.put("Definition", "d10", "<ip><Definition/Gone>")?;
+    let behind = shown(rt.alloc(), substitute(rt.alloc(), "<d1>", &items, &scope))?;
+    assert_eq!(rt; behind.as_str(), "too deep Gone");
+    Ok(())
+}
+
+/// What a ban's tags stand for.
+fn fill(
+    alloc: Global,
+    ip: Option<Addr>,
+    family: Family,
+    bantime: i64,
+    matches: &str,
+) -> Result<Fill, NoMemory> {
+    Ok(Fill {
+        ip,
+        family,
+        failures: 3,
+        time: 1709287230,
+        bantime,
+        bancount: 2,
+        matches: Text::from_str(alloc, matches)?,
+    })
+}
+
+#[test]
+fn fills_dynamic_tags_in(rt: HostRuntime) -> Result<(), Fail> {
+    let safe = escape(rt.alloc(), "a;b $c")?;
+    let fill = fill(
+        rt.alloc(),
+        Some(Addr::V4(0xc000_0207)),
+        Family::Inet4,
+        600,
+        safe.as_str(),
+    )?;
+    for (template, want) in [
+        ("x <ip><br><matches>", "x 192.0.2.7\na_b _c"),
+        ("<ip>", "192.0.2.7"),
+        ("<family>", "inet4"),
+        ("<failures> <time>", "3 1709287230"),
+        ("<bantime> <bancount>", "600 2"),
+        ("<IP>", "<IP>"),
+        ("<no> <a<ip>>", "<no> <a192.0.2.7>"),
+        ("<ip", "<ip"),
+        ("ip>", "ip>"),
+        ("<ip >", "<ip >"),
+        ("<<ip>>", "<192.0.2.7>"),
+        ("(?<ip>x)", "(?<ip>x)"),
+        ("(?P<ip>x)", "(?P<ip>x)"),
+        ("\"<ip>\" '<ip>'", "\"192.0.2.7\" '192.0.2.7'"),
+        ("$(<ip>) `<ip>`", "$(192.0.2.7) `192.0.2.7`"),
+        ("a\n<ip>\0", "a\n192.0.2.7\0"),
+        ("\u{e9}<ip>\u{65e5}", "\u{e9}192.0.2.7\u{65e5}"),
+        ("", ""),
+    ] {
+        let got = render(rt.alloc(), template, &fill)?;
+        assert_eq!(rt; got.as_str(), want);
+    }
+    Ok(())
+}
+
+#[test]
+fn fills_in_other_bans(rt: HostRuntime) -> Result<(), Fail> {
+    let address = Some(Addr::V6(0x2001_0db8_0000_0000_0000_0000_0000_0001));
+    let tagged = fill(rt.alloc(), address, Family::Inet6, -1, "<ip>$(x)")?;
+    for (template, want) in [
+        ("<ip>", "2001:db8::1"),
+        ("<family> <bantime>", "inet6 -1"),
+        // A value that looks like a tag.
+        ("<matches>", "<ip>$(x)"),
+        ("<<matches>>", "<<ip>$(x)>"),
+    ] {
+        let got = render(rt.alloc(), template, &tagged)?;
+        assert_eq!(rt; got.as_str(), want);
+    }
+    // A Start or a Stop has no address.
+    let started = fill(rt.alloc(), None, Family::Both, 0, "")?;
+    let got = render(
+        rt.alloc(),
+        "[<ip>] <family> <bantime> [<matches>]",
+        &started,
+    )?;
+    assert_eq!(rt; got.as_str(), "[] inet4 0 []");
+    Ok(())
+}
+
+#[test]
+fn escapes(rt: HostRuntime) -> Result<(), Fail> {
+    for (text, want) in [
+        ("", ""),
+        ("a;b $c", "a_b _c"),
+        ("AZaz09 ._:,=@/+-", "AZaz09 ._:,=@/+-"),
+        ("'\"`$()", "______"),
+        ("<ip>", "_ip_"),
+        ("a\\b|c&d", "a_b_c_d"),
+        ("#!%^*[]{}~?", "___________"),
+        ("\n\r\t\0\u{7f}", "_____"),
+        ("\u{e9}a\u{65e5}\u{672c}\u{1f600}", "_a___"),
+        ("user=root rhost=2001:db8::1", "user=root rhost=2001:db8::1"),
+    ] {
+        let got = escape(rt.alloc(), text)?;
+        assert_eq!(rt; got.as_str(), want);
+    }
+    Ok(())
+}
