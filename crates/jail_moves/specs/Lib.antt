@@ -1,2 +1,3 @@
 pub mod Rooms
 pub mod Added
+pub mod Addresses

@@ -1,0 +1,3 @@
+pub mod WindowLists
+pub mod WindowEntries
+pub mod WindowCounts
