@@ -126,6 +126,19 @@ late_with now findtime f old new recent order after own others =
         → filter (is_late now findtime) (filter (is_of addr) new) ≡ filter (is_of addr) (placed comes_before f (filter (is_late now findtime) old))
     apart addr e = ap (λ r. filter (is_late now findtime) r) (others addr e) ∙ sym (other_with now findtime f old addr e)
 
+-- without an address's failures it has none
+pub own_gone : (addr : Addr) (fs : List Failure) → filter (is_of addr) (filter (λ (g : Failure). not (is_of addr g)) fs) ≡ []
+own_gone addr [] = refl
+own_gone addr (f ∷ fs) = by_test (is_of addr f) _ (λ e. rw e (own_gone addr fs)) (λ e. rw (e, e) (own_gone addr fs))
+
+-- and another address has its own
+pub other_kept : (addr other : Addr) (fs : List Failure) → same_addr addr other ≡ false
+    → filter (is_of other) (filter (λ (g : Failure). not (is_of addr g)) fs) ≡ filter (is_of other) fs
+other_kept addr other fs e = filter_both (λ (g : Failure). not (is_of addr g)) (is_of other) differs fs
+  where
+    differs : (g : Failure) → is_of other g ≡ true → not (is_of addr g) ≡ true
+    differs g h = let apart : is_of addr g ≡ false = one_addr (λ a. same_addr a addr) g.addr other h ∙ same_addr_sym other addr ∙ e in rw apart refl
+
 -- where an address has no failures and others stay, the rest is what is not the address's
 pub rest_is : (addr : Addr) (old new : List Failure) → IsInOrder comes_before old → IsInOrder comes_before new → filter (is_of addr) new ≡ [] → KeepsOthers addr old new
     → new ≡ filter (λ (g : Failure). not (is_of addr g)) old
@@ -133,21 +146,13 @@ rest_is addr old new order after own others =
     known_by_parts new (filter (λ (g : Failure). not (is_of addr g)) old) after (filter_in_order comes_before failures_order (λ (g : Failure). not (is_of addr g)) old order)
     (λ other. by_test (same_addr addr other) _ (same other) (apart other))
   where
-    gone : (fs : List Failure) → filter (is_of addr) (filter (λ (g : Failure). not (is_of addr g)) fs) ≡ []
-    gone [] = refl
-    gone (f ∷ fs) = by_test (is_of addr f) _ (λ e. rw e (gone fs)) (λ e. rw (e, e) (gone fs))
-
     same : (other : Addr) → same_addr addr other ≡ true → filter (is_of other) new ≡ filter (is_of other) (filter (λ (g : Failure). not (is_of addr g)) old)
     same other e =
         subst (λ (a : Addr). filter (is_of a) new ≡ filter (is_of a) (filter (λ (g : Failure). not (is_of addr g)) old)) (same_addr_true addr other e)
-        (own ∙ sym (gone old))
-
-    differs : (other : Addr) → same_addr addr other ≡ false → (g : Failure) → is_of other g ≡ true → not (is_of addr g) ≡ true
-    differs other e g h =
-        let apart : is_of addr g ≡ false = one_addr (λ a. same_addr a addr) g.addr other h ∙ same_addr_sym other addr ∙ e in rw apart refl
+        (own ∙ sym (own_gone addr old))
 
     apart : (other : Addr) → same_addr addr other ≡ false → filter (is_of other) new ≡ filter (is_of other) (filter (λ (g : Failure). not (is_of addr g)) old)
-    apart other e = others other e ∙ sym (filter_both (λ (g : Failure). not (is_of addr g)) (is_of other) (differs other e) old)
+    apart other e = others other e ∙ sym (other_kept addr other old e)
 
 -- an address is full by what matters exactly where it is by its own failures with one more
 pub full_with : (findtime maxretry now : ℕ) (f : Failure) (fs : List Failure) (full : Bool) → 1 ≤ maxretry → now < f.time + findtime → IsInOrder comes_before fs

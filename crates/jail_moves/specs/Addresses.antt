@@ -74,6 +74,12 @@ pub record Loses (findtime maxretry : ℕ) (addr : Addr) (old new : List Entry) 
   pub windows : AreWindows findtime maxretry new
   pub failures : failures_in new ≡ filter (λ (f : Failure). not (is_of addr f)) (failures_in old)
 
+-- windows that hold nothing late are taken out
+pub record Sweeps (findtime maxretry now : ℕ) (old new : List Entry) : Type 0 where
+  pub held : IsHeld findtime maxretry new
+  pub late : filter (is_late now findtime) (failures_in new) ≡ filter (is_late now findtime) (failures_in old)
+  pub times : (moment : ℕ) → AllOf (λ (f : Failure). f.time ≤ moment) (failures_in old) → AllOf (λ (f : Failure). f.time ≤ moment) (failures_in new)
+
 -- One more failure is counted. Where its address is then full its window is taken out, and it is told how many of its failures are near.
 pub record Counts (findtime maxretry now : ℕ) (f : Failure) (old new : List Entry) (full : Option ℕ) : Type 0 where
   pub held : IsHeld findtime maxretry new

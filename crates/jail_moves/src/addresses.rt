@@ -7,7 +7,7 @@ ghost use Rattle.f2b_model.specs.Full.{is_late, is_of};
 ghost use Rattle.f2b_model.specs.Lists.{AllOf};
 ghost use Rattle.f2b_model.specs.Moves.{is_near_to};
 ghost use Rattle.ban_table.specs.Places.{key_of, pair_cmp};
-ghost use Rattle.jail_moves.specs.Addresses.{failures_in, is_live, window_at, AreWindows, Counts, Enters, Grows, IsHeld, Loses};
+ghost use Rattle.jail_moves.specs.Addresses.{failures_in, is_live, window_at, AreWindows, Counts, Enters, Grows, IsHeld, Loses, Sweeps};
 
 use crate::bans::same_addr;
 use f2b_base::{Addr, Failure, NoMemory, Plain, Seq};
@@ -133,4 +133,91 @@ fn enter(
         Some(window) => window.add(failure, now),
         None => begin(windows, alloc, findtime, maxretry, failure, now),
     }
+}
+
+/// Takes an address's window out.
+pub fn remove(windows: &mut ByAddr, addr: Addr) -> Option<AddrWindow>
+    ensures value { result ≡ window_at (key_of addr) windows.old.entries }
+    ensures loses { (findtime maxretry : ℕ) → AreWindows findtime maxretry windows.old.entries → Loses findtime maxretry addr windows.old.entries windows.new.entries }
+{
+    windows.remove(&key_of(addr))
+}
+
+/// Takes an address's window out, and tells how many of its failures are near a time.
+fn take_out(windows: &mut ByAddr, addr: Addr, time: u64, findtime: u64) -> u64
+    ensures near { (maxretry : ℕ) → AreWindows findtime maxretry windows.old.entries
+        → result ≡ length (filter (is_near_to addr time findtime) (filter (is_of addr) (failures_in windows.old.entries))) }
+    ensures loses { (maxretry : ℕ) → AreWindows findtime maxretry windows.old.entries → Loses findtime maxretry addr windows.old.entries windows.new.entries }
+{
+    match remove(windows, addr) {
+        Some(gone) => near_count(gone.window.into_failures().as_slice(), addr, time, findtime) as u64,
+        None => 0,
+    }
+}
+
+/// Counts a failure at a moment. Where its address is then full, its window is taken out, and the number of its failures that are
+/// near the new one is told.
+pub fn count(
+    windows: &mut ByAddr,
+    alloc: Global,
+    findtime: u64,
+    maxretry: u32,
+    failure: Failure,
+    now: u64,
+) -> Result<Option<u64>, NoMemory>
+    requires held { IsHeld findtime maxretry windows.old.entries }
+    requires not_later { failure.time ≤ now }
+    requires recent { now < failure.time + findtime }
+    requires forward { AllOf (λ (f : Failure). f.time ≤ now) (filter (is_of failure.addr) (failures_in windows.old.entries)) }
+    ensures ok { IfOk result (Counts findtime maxretry now failure windows.old.entries windows.new.entries) }
+    ensures err { OnErr result (windows.new.entries ≡ windows.old.entries) }
+{
+    let addr = failure.addr;
+    let time = failure.time;
+    let full = enter(windows, alloc, findtime, maxretry, failure, now)?;
+    if full {
+        return Ok(Some(take_out(windows, addr, time, findtime)));
+    }
+    Ok(None)
+}
+
+/// Takes out each window of which nothing is late at a moment.
+pub fn sweep(windows: &mut ByAddr, now: u64, findtime: u64)
+    ensures { (maxretry : ℕ) → IsHeld findtime maxretry windows.old.entries → Sweeps findtime maxretry now windows.old.entries windows.new.entries }
+{
+    windows.retain(|_, window| is_late(now, findtime, window.latest));
+}
+
+/// Copies the failures of a window that are late at a moment behind others.
+fn copy_late(
+    failures: &mut Seq<Failure>,
+    window: &Window,
+    moment: u64,
+    findtime: u64,
+) -> Result<(), NoMemory>
+    ensures { OnOk result (failures.new ≡ failures.old ++ filter (is_late moment findtime) window.now.failures) }
+{
+    let own = window.failures()?;
+    for failure in own.as_slice() {
+        if is_late(moment, findtime, failure.time) {
+            failures.push(failure.copy()?)?;
+        }
+    }
+    Ok(())
+}
+
+/// A copy of the failures that are late at a moment, by address, time, and arrival.
+pub fn late_failures(
+    windows: &ByAddr,
+    alloc: Global,
+    moment: u64,
+    findtime: u64,
+) -> Result<Seq<Failure>, NoMemory>
+    ensures { IfOk result (λ failures. failures ≡ filter (is_late moment findtime) (failures_in windows.now.entries)) }
+{
+    let mut failures = Seq::new(alloc);
+    for address in windows.values() {
+        copy_late(&mut failures, &address.window, moment, findtime)?;
+    }
+    Ok(failures)
 }
