@@ -1,3 +1,4 @@
 pub mod WindowLists
 pub mod WindowEntries
 pub mod WindowCounts
+pub mod WindowLosses

@@ -52,6 +52,14 @@ pub all_append : {A : Type 0} (P : A → Type 0) (xs ys : List A) → AllOf P xs
 all_append P [] ys a b = b
 all_append P (x ∷ xs) ys a b = (a.0, all_append P xs ys a.1 b)
 
+pub all_front : {A : Type 0} (P : A → Type 0) (xs ys : List A) → AllOf P (xs ++ ys) → AllOf P xs
+all_front P [] ys a = tt
+all_front P (x ∷ xs) ys a = (a.0, all_front P xs ys a.1)
+
+pub all_back : {A : Type 0} (P : A → Type 0) (xs ys : List A) → AllOf P (xs ++ ys) → AllOf P ys
+all_back P [] ys a = a
+all_back P (x ∷ xs) ys a = all_back P xs ys a.1
+
 pub none_before_append : {A : Type 0} (less : A → A → Bool) (x : A) (ys zs : List A) → NoneBefore less x ys → NoneBefore less x zs → NoneBefore less x (ys ++ zs)
 none_before_append less x [] zs a b = b
 none_before_append less x (y ∷ ys) zs a b = (a.0, none_before_append less x ys zs a.1 b)

@@ -1,5 +1,5 @@
 //! The windows of a jail by address: what goes in, what comes out, and what is too old.
-ghost use Rattle.std.specs.Prelude.{◌≡◌, ℕ, ◌+◌, ◌*◌, ◌<◌, ◌≤◌, ◌++◌, None, true, nat_lt, length, filter, OnOk, OnErr, IfOk};
+ghost use Rattle.std.specs.Prelude.{◌≡◌, ℕ, ◌+◌, ◌*◌, ◌<◌, ◌≤◌, [], ◌∷◌, ◌++◌, None, true, nat_lt, length, filter, OnOk, OnErr, IfOk};
 ghost use Rattle.std.specs.Map.{keys_of};
 ghost use Rattle.std.specs.List.Sorted.{IsStrictlySortedBy};
 ghost use Rattle.f2b_base.specs.declared.ban.Failure.{Failure};
@@ -188,6 +188,21 @@ pub fn sweep(windows: &mut ByAddr, now: u64, findtime: u64)
     windows.retain(|_, window| is_late(now, findtime, window.latest));
 }
 
+/// Copies a failure behind others where it is late at a moment.
+fn push_late(
+    failures: &mut Seq<Failure>,
+    failure: &Failure,
+    moment: u64,
+    findtime: u64,
+) -> Result<(), NoMemory>
+    ensures { OnOk result (failures.new ≡ failures.old ++ filter (is_late moment findtime) (failure.now ∷ [])) }
+{
+    if is_late(moment, findtime, failure.time) {
+        failures.push(failure.copy()?)?;
+    }
+    Ok(())
+}
+
 /// Copies the failures of a window that are late at a moment behind others.
 fn copy_late(
     failures: &mut Seq<Failure>,
@@ -199,9 +214,7 @@ fn copy_late(
 {
     let own = window.failures()?;
     for failure in own.as_slice() {
-        if is_late(moment, findtime, failure.time) {
-            failures.push(failure.copy()?)?;
-        }
+        push_late(failures, failure, moment, findtime)?;
     }
     Ok(())
 }
