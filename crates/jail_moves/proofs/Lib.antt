@@ -2,3 +2,5 @@ pub mod WindowLists
 pub mod WindowEntries
 pub mod WindowCounts
 pub mod WindowLosses
+pub mod WindowTurns
+pub mod WindowReads

@@ -42,7 +42,7 @@ stands_itself findtime fs long order =
     every (g ∷ gs) = (true_lt 0 (g.time + 2 * findtime) (omega arith), every gs)
 
 -- the list in order with one more failure at its end
-placed_last : (f : Failure) (fs : List Failure) → IsInOrder comes_before fs → in_order comes_before (fs ++ f ∷ []) ≡ placed comes_before f fs
+pub placed_last : (f : Failure) (fs : List Failure) → IsInOrder comes_before fs → in_order comes_before (fs ++ f ∷ []) ≡ placed comes_before f fs
 placed_last f fs order =
     placed_all_push comes_before failures_order [] fs f ∙ ap (λ r. placed comes_before f r) (in_order_same comes_before failures_order fs order)
 

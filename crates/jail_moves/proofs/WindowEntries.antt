@@ -1,9 +1,9 @@
 -- The entries of a jail's windows: their failures stand in order, those of an address under its key, and what a change of one entry does.
-use Rattle.std.proofs.Common.{◌≡◌, ℕ, Bool, true, false, not, cond, nat_lt, ◌==◌, Option, Some, None, List, [], ◌∷◌, ◌++◌, refl, sym, ◌∙◌, ap, ap₂, subst, arith, append-nil}
+use Rattle.std.proofs.Common.{◌≡◌, ℕ, Bool, true, false, not, cond, nat_lt, ◌==◌, Option, Some, None, List, [], ◌∷◌, ◌++◌, refl, sym, ◌∙◌, ap, ap₂, subst, arith, append-nil, append_assoc}
 use Rattle.std.specs.BTreeMap.{insert_entry}
 use Rattle.std.specs.List.{filter, AllByRecursion}
 use Rattle.std.specs.List.Sorted.{IsStrictlySortedBy}
-use Rattle.std.specs.Map.{keys_of, remove_entry, set_value}
+use Rattle.std.specs.Map.{keys_of, remove_entry, set_value, values_of}
 use Rattle.std.specs.Ordering.{nat_cmp, is_eq, match_ordering}
 use Rattle.std.specs.declared.cmp.Ordering.{Ordering}
 use Rattle.std.specs.declared.cmp.Ordering.TheVariants.{Less, Equal, Greater}
@@ -42,7 +42,7 @@ key_less (V6 a) (V4 b) h = absurd (let k : Greater ≡ Less = h in cc)
 key_less (V6 a) (V6 b) h = number_less a b h
 
 -- no address comes before itself
-addr_same : (a : Addr) → addr_before a a ≡ false
+pub addr_same : (a : Addr) → addr_before a a ≡ false
 addr_same (V4 a) = grind (arith, nat_tests)
 addr_same (V6 a) = grind (arith, nat_tests)
 
@@ -215,3 +215,24 @@ own_under findtime maxretry addr w e own some at =
       in_order = own.in_order;
       latest = own.latest;
     })
+
+-- ---- the windows alone, from the first on
+
+-- the failures of windows, one after the other
+abbrev pub all_of : List AddrWindow → List Failure
+all_of [] = []
+all_of (w ∷ ws) = w.window.failures ++ all_of ws
+
+pub all_of-values : (es : List Entry) → all_of (values_of es) ≡ failures_in es
+all_of-values [] = refl
+all_of-values (e ∷ es) = ap (λ r. e.1.window.failures ++ r) (all_of-values es)
+
+-- what is kept of the failures of the next window goes behind what is kept of those before
+pub copied_on : (p : Failure → Bool) (done new whole : List Failure) (w : AddrWindow) (left rest : List AddrWindow) → left ≡ w ∷ rest → new ≡ done ++ filter p w.window.failures
+    → done ++ filter p (all_of left) ≡ whole → new ++ filter p (all_of rest) ≡ whole
+copied_on p done new whole w left rest next copied so_far =
+    ap (λ r. r ++ filter p (all_of rest)) copied ∙ append_assoc done (filter p w.window.failures) (filter p (all_of rest))
+    ∙ ap (λ r. done ++ r) (sym (ap (λ r. filter p (all_of r)) next ∙ filter-append p w.window.failures (all_of rest))) ∙ so_far
+
+pub copied_all : (p : Failure → Bool) (done whole : List Failure) (left : List AddrWindow) → left ≡ [] → done ++ filter p (all_of left) ≡ whole → done ≡ whole
+copied_all p done whole left nothing so_far = sym (append-nil done) ∙ sym (ap (λ r. done ++ filter p (all_of r)) nothing) ∙ so_far

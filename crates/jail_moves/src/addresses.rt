@@ -182,10 +182,22 @@ pub fn count(
 }
 
 /// Takes out each window of which nothing is late at a moment.
-pub fn sweep(windows: &mut ByAddr, now: u64, findtime: u64)
+fn sweep(windows: &mut ByAddr, now: u64, findtime: u64)
     ensures { (maxretry : ℕ) → IsHeld findtime maxretry windows.old.entries → Sweeps findtime maxretry now windows.old.entries windows.new.entries }
 {
     windows.retain(|_, window| is_late(now, findtime, window.latest));
+}
+
+/// Sweeps once as many failures came in as there were windows after the last sweep, so that each failure pays for one window.
+pub fn sweep_in_turn(windows: &mut ByAddr, until_sweep: &mut u64, now: u64, findtime: u64)
+    ensures { (maxretry : ℕ) → IsHeld findtime maxretry windows.old.entries → Sweeps findtime maxretry now windows.old.entries windows.new.entries }
+{
+    if *until_sweep == 0 {
+        sweep(windows, now, findtime);
+        *until_sweep = windows.len() as u64;
+    } else {
+        *until_sweep -= 1;
+    }
 }
 
 /// Copies a failure behind others where it is late at a moment.
