@@ -40,7 +40,7 @@ pub record IsRead (findtime maxretry at count : ℕ) (fs : List Failure) (es : L
 in_order_take : {A : Type 0} (less : A → A → Bool) (n : ℕ) (xs : List A) → IsInOrder less xs → IsInOrder less (take n xs)
 in_order_take less zero xs o = tt
 in_order_take less (suc n) [] o = tt
-in_order_take less (suc n) (x ∷ xs) o = (fewer n xs o.0, in_order_take less n xs o.1)
+in_order_take {A = A} less (suc n) (x ∷ xs) o = (fewer n xs o.0, in_order_take less n xs o.1)
   where
     fewer : (m : ℕ) (ys : List A) → NoneBefore less x ys → NoneBefore less x (take m ys)
     fewer zero ys h = tt
