@@ -2,3 +2,9 @@ pub mod BanLemmas
 pub mod EndLemmas
 pub mod RoomLemmas
 pub mod WatchLemmas
+pub mod WindowLists
+pub mod WindowEntries
+pub mod WindowCounts
+pub mod WindowLosses
+pub mod WindowTurns
+pub mod WindowReads

@@ -1,3 +1,4 @@
 pub mod Added
 pub mod Rooms
 pub mod Watching
+pub mod Addresses

@@ -6,6 +6,7 @@
 //! clock: the caller says what was found, and what time it is.
 #![tactic(auto)]
 
+mod addresses;
 mod bans;
 mod ends;
 mod room;

@@ -1,14 +1,14 @@
 //! The failures of a jail that can still fill an address: a window for each address.
-ghost use Rattle.std.specs.Prelude.{◌≡◌, ◌≤◌, ◌<◌, ◌+◌, [], not, filter, OnOk, IfOk};
+ghost use Rattle.std.specs.Prelude.{◌≡◌, ℕ, ◌≤◌, ◌<◌, ◌+◌, [], not, filter, OnOk, IfOk};
 ghost use Rattle.f2b_base.specs.declared.ban.Failure.{Failure};
 ghost use Rattle.f2b_model.specs.Full.{is_late, is_of};
 ghost use Rattle.f2b_model.specs.Lists.{AllOf, IsInOrder};
 ghost use Rattle.f2b_model.specs.Nows.{comes_before};
-ghost use Rattle.fail_window.specs.Opened.{KeepsLimits};
+ghost use Rattle.fail_window.specs.Opened.{IsLate, KeepsLimits};
 ghost use Rattle.jail_moves.specs.Added.{IsAdded, NoneFull};
 
-use f2b_base::{Addr, Failure, NoMemory, Seq};
-use fail_window::Window;
+use crate::addresses::{ByAddr, count, late_failures, remove, sweep_in_turn};
+use f2b_base::{Addr, Failure, NoMemory, Plain, Seq};
 use std::alloc::Global;
 use std::collections::BTreeMap;
 use std::marker::Model;
@@ -18,16 +18,21 @@ use std::marker::Model;
 pub struct Windows {
     findtime: u64,
     maxretry: u32,
-    kept: Seq<Failure>,
+    by_addr: ByAddr,
+    /// How many failures come in before the next sweep.
+    until_sweep: u64,
     alloc: Global,
 }
 
 impl Model for Windows {
     ghost use Rattle.fail_window.specs.Opened.{Opened};
+    ghost use Rattle.jail_moves.specs.Addresses.{failures_in, IsHeld};
 
     ghost Value = { Opened };
 
-    ghost view = { λ w. record { findtime = w.findtime; maxretry = w.maxretry; failures = w.kept } };
+    ghost view = { λ w. record { findtime = w.findtime; maxretry = w.maxretry; failures = failures_in w.by_addr.entries } };
+
+    ghost invariant = { λ w. IsHeld w.findtime w.maxretry w.by_addr.entries };
 }
 
 impl Windows {
@@ -40,7 +45,8 @@ impl Windows {
         Windows {
             findtime,
             maxretry,
-            kept: Seq::new(alloc),
+            by_addr: BTreeMap::new(alloc),
+            until_sweep: 0,
             alloc,
         }
     }
@@ -59,9 +65,20 @@ impl Windows {
         requires times { AllOf (λ (f : Failure). f.time ≤ at) failures.now }
         ensures limits { IfOk result (λ w. KeepsLimits (record { findtime = findtime; maxretry = maxretry; failures = [] }) w) }
         ensures times { IfOk result (λ w. AllOf (λ (f : Failure). f.time ≤ at) w.failures) }
-        ensures failures { NoneFull findtime maxretry failures.now → IfOk result (λ w. w.failures ≡ failures.now) }
+        ensures failures { NoneFull findtime maxretry failures.now → (moment : ℕ) → AllOf (IsLate moment findtime) failures.now → IfOk result (λ w. w.failures ≡ failures.now) }
     {
-        Err(NoMemory)
+        let mut by_addr = BTreeMap::new(alloc);
+        for failure in failures {
+            let copy = failure.copy()?;
+            let _ = count(&mut by_addr, alloc, findtime, maxretry, copy, failure.time)?;
+        }
+        Ok(Windows {
+            findtime,
+            maxretry,
+            by_addr,
+            until_sweep: 0,
+            alloc,
+        })
     }
 
     /// Takes one more failure at a moment. Where its address is then full, its failures go, and the number of them that are near the
@@ -73,21 +90,21 @@ impl Windows {
         ensures limits { OnOk result (KeepsLimits self.old self.new) }
         ensures added { IfOk result (λ full. IsAdded now failure self.old self.new full) }
     {
-        Err(NoMemory)
+        sweep_in_turn(&mut self.by_addr, &mut self.until_sweep, now, self.findtime);
+        count(&mut self.by_addr, self.alloc, self.findtime, self.maxretry, failure, now)
     }
 
     /// Forgets the failures of an address. Takes no memory.
     pub fn forget(&mut self, addr: Addr)
         ensures { self.new ≡ record self.old { failures = filter (λ (f : Failure). not (is_of addr f)) self.old.failures } }
     {
-        self.kept
-            .retain(|failure| !crate::bans::same_addr(failure.addr, addr));
+        let _ = remove(&mut self.by_addr, addr);
     }
 
     /// A copy of the failures that are late at a moment.
     pub fn failures(&self, moment: u64) -> Result<Seq<Failure>, NoMemory>
         ensures { IfOk result (λ failures. failures ≡ filter (is_late moment self.now.findtime) self.now.failures) }
     {
-        Err(NoMemory)
+        late_failures(&self.by_addr, self.alloc, moment, self.findtime)
     }
 }

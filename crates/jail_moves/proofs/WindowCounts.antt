@@ -1,0 +1,232 @@
+-- One more failure goes into its address's window; a window is taken out; old windows go.
+use Rattle.std.proofs.Common.{◌≡◌, ◌↔◌, ℕ, ◌+◌, ◌*◌, ◌<◌, ◌≤◌, max, Bool, true, false, not, nat_lt, Option, Some, None, Result, Ok, Err, List, [], ◌∷◌, ◌++◌, length, refl, sym, ◌∙◌, ap, subst, arith}
+use Rattle.std.specs.List.{filter}
+use Rattle.std.specs.List.Sorted.{IsStrictlySortedBy}
+use Rattle.std.specs.BTreeMap.{is_at, insert_entry, BTreeMap, WritesThrough}
+use Rattle.std.specs.Map.{keys_of, lookup, set_value}
+use Rattle.std.specs.Option.{IsSome as IsThere}
+use Rattle.std.specs.Ordering.{is_eq}
+use Rattle.std.specs.Result.{IfOk, OnErr}
+use Rattle.ban_table.specs.Places.{pair_cmp, key_of}
+use Rattle.f2b_base.specs.declared.addr.Addr.{Addr}
+use Rattle.f2b_base.specs.declared.ban.Failure.{Failure}
+use Rattle.f2b_model.specs.Full.{same_addr, is_of, IsFull, is_full, is_late}
+use Rattle.f2b_model.specs.Lists.{AllOf, IsInOrder, in_order, placed}
+use Rattle.f2b_model.specs.Nows.{comes_before}
+use Rattle.f2b_model.specs.Stands.{StandsFor}
+use Rattle.f2b_model.proofs.EndLemmas.{same_addr_same, all_placed_all}
+use Rattle.f2b_model.proofs.FullLemmas.{full_of_part, true_lt}
+use Rattle.f2b_model.proofs.ListLemmas.{by_test, filter_in_order, in_order_filter, in_order_same, placed_all_push, placed_in_order}
+use Rattle.f2b_model.proofs.MarkLemmas.{failures_order}
+use Rattle.f2b_model.proofs.OrderlyLemmas.{all_of-filter, all_of-kept}
+use Rattle.f2b_model.proofs.StandLemmas.{stands_full}
+use Rattle.f2b_model.proofs.StepLemmas.{all_of-more}
+use Rattle.fail_window.specs.Opened.{Opened}
+use Rattle.jail_moves.specs.declared.addresses.AddrWindow.{AddrWindow}
+use Rattle.jail_moves.specs.Addresses.{Entry, failures_in, own_after, window_at, AreWindows, Enters, Grows, IsHeld, IsOwn, KeepsOthers}
+use Rattle.jail_moves.proofs.WindowLists.{filter_all, full_to_own}
+use Rattle.jail_moves.proofs.WindowEntries.{ChangesAt, IsSome, all_insert, all_set, changed_others, changed_own, failures_of, in_order_of, own_of, own_under}
+
+-- what holds of a failure and of the others holds of all with it in its place
+pub all_placed : (P : Failure → Type 0) (f : Failure) (fs : List Failure) → P f → AllOf P fs → AllOf P (placed comes_before f fs)
+all_placed P f fs here a = all_placed_all P comes_before fs (f ∷ []) a (here, tt)
+
+-- a list in order stands for itself at a moment at which all of it is late, as it is at the first
+stands_itself : (findtime : ℕ) (fs : List Failure) → 1 ≤ findtime → IsInOrder comes_before fs → StandsFor 0 findtime fs fs
+stands_itself findtime fs long order =
+    let all = filter_all (is_late 0 findtime) fs (every fs) in
+    record { is = sym (ap (λ r. in_order comes_before r) all ∙ in_order_same comes_before failures_order fs order) }
+  where
+    every : (gs : List Failure) → AllOf (λ (g : Failure). is_late 0 findtime g ≡ true) gs
+    every [] = tt
+    every (g ∷ gs) = (true_lt 0 (g.time + 2 * findtime) (omega arith), every gs)
+
+-- the list in order with one more failure at its end
+pub placed_last : (f : Failure) (fs : List Failure) → IsInOrder comes_before fs → in_order comes_before (fs ++ f ∷ []) ≡ placed comes_before f fs
+placed_last f fs order =
+    placed_all_push comes_before failures_order [] fs f ∙ ap (λ r. placed comes_before f r) (in_order_same comes_before failures_order fs order)
+
+-- what `add` did to a window with these failures
+module _ (findtime maxretry now : ℕ) (f : Failure) (fs : List Failure) (old new : AddrWindow) (full : Bool) (long : 1 ≤ findtime) (recent : now < f.time + findtime)
+    (order : IsInOrder comes_before fs) (own : AllOf (λ (g : Failure). is_of f.addr g ≡ true) fs) (span : old.window.findtime ≡ findtime) (most : old.window.maxretry ≡ maxretry)
+    (there : old.window.failures ≡ fs) (latest : AllOf (λ (g : Failure). g.time ≤ old.latest) fs) (grows : Grows now f old new full) where
+  itself : StandsFor 0 old.window.findtime old.window.failures fs
+  itself =
+      subst (λ (n : ℕ). StandsFor 0 n old.window.failures fs) (sym span)
+      (subst (λ (gs : List Failure). StandsFor 0 findtime gs fs) (sym there) (stands_itself findtime fs long order))
+
+  stands : StandsFor now findtime new.window.failures (fs ++ f ∷ [])
+  stands = subst (λ (n : ℕ). StandsFor now n new.window.failures (fs ++ f ∷ [])) span (grows.stands 0 fs itself (omega arith))
+
+  -- its failures are those with one more, without what is no longer late
+  pub grown_is : new.window.failures ≡ filter (is_late now findtime) (placed comes_before f fs)
+  grown_is =
+      stands.is ∙ sym (in_order_filter comes_before failures_order (is_late now findtime) (fs ++ f ∷ []))
+      ∙ ap (λ r. filter (is_late now findtime) r) (placed_last f fs order)
+
+  -- it is still the address's window
+  pub grown_own : IsOwn findtime maxretry f.addr (key_of f.addr, new)
+  grown_own =
+      let here : is_of f.addr f ≡ true = same_addr_same f.addr in
+      let upto : old.latest ≤ max old.latest f.time = omega arith in
+      let time : f.time ≤ max old.latest f.time = omega arith in
+      let back = sym grown_is in
+      record {
+        key = refl;
+        span = grows.limits.findtime ∙ span;
+        most = grows.limits.maxretry ∙ most;
+        own = subst (λ (gs : List Failure). AllOf (λ (g : Failure). is_of f.addr g ≡ true) gs) back
+            (all_of-filter (λ (g : Failure). is_of f.addr g ≡ true) (is_late now findtime) (placed comes_before f fs) (all_placed (λ (g : Failure). is_of f.addr g ≡ true) f fs here own));
+        in_order = subst (λ (gs : List Failure). IsInOrder comes_before gs) back
+            (filter_in_order comes_before failures_order (is_late now findtime) (placed comes_before f fs) (placed_in_order comes_before failures_order f fs order));
+        latest = subst (λ (n : ℕ). AllOf (λ (g : Failure). g.time ≤ n) new.window.failures) (sym grows.latest)
+            (subst (λ (gs : List Failure). AllOf (λ (g : Failure). g.time ≤ max old.latest f.time) gs) back
+            (all_of-filter (λ (g : Failure). g.time ≤ max old.latest f.time) (is_late now findtime) (placed comes_before f fs)
+            (all_placed (λ (g : Failure). g.time ≤ max old.latest f.time) f fs time
+            (all_of-more (λ (g : Failure). g.time ≤ old.latest) (λ (g : Failure). g.time ≤ max old.latest f.time) (λ g h. omega arith) fs latest))));
+      }
+
+  -- the answer is whether the address is full by them
+  pub grown_tells : (IsFull findtime maxretry f.addr fs → ⊥) → (full ≡ true) ↔ IsFull findtime maxretry f.addr new.window.failures
+  grown_tells unfilled =
+      let not_full : IsFull old.window.findtime old.window.maxretry f.addr fs → ⊥ = λ full. unfilled
+      (subst (λ (n : ℕ). IsFull n maxretry f.addr fs) span (subst (λ (n : ℕ). IsFull old.window.findtime n f.addr fs) most full)) in
+      let tells = grows.tells 0 fs itself (omega arith) not_full in
+      let with_one = stands_full now findtime maxretry new.window.failures fs f unfilled recent stands in (
+        λ t. with_one.0 (subst (λ (n : ℕ). IsFull n maxretry f.addr (fs ++ f ∷ [])) span
+        (subst (λ (n : ℕ). IsFull old.window.findtime n f.addr (fs ++ f ∷ [])) most (tells.0 t))),
+        λ full. tells.1 (subst (λ (n : ℕ). IsFull n old.window.maxretry f.addr (fs ++ f ∷ [])) (sym span)
+        (subst (λ (n : ℕ). IsFull findtime n f.addr (fs ++ f ∷ [])) (sym most) (with_one.1 full))),
+      )
+
+-- the address's failures in all windows
+abbrev pub own_in : Addr → List Entry → List Failure
+own_in addr es = filter (is_of addr) (failures_in es)
+
+pub own_in_order : (findtime maxretry : ℕ) (addr : Addr) (es : List Entry) → AreWindows findtime maxretry es → IsInOrder comes_before (own_in addr es)
+own_in_order findtime maxretry addr es w = filter_in_order comes_before failures_order (is_of addr) (failures_in es) (in_order_of findtime maxretry es w)
+
+pub own_in_own : (addr : Addr) (es : List Entry) → AllOf (λ (g : Failure). is_of addr g ≡ true) (own_in addr es)
+own_in_own addr es = all_of-kept (λ (g : Failure). is_of addr g ≡ true) (is_of addr) (failures_in es) (λ g h. h)
+
+-- where the address's window grew and nothing else changed, one more failure went in
+pub entered : (findtime maxretry now : ℕ) (f : Failure) (es new_es : List Entry) (old new : AddrWindow) (full : Bool) → IsHeld findtime maxretry es → now < f.time + findtime
+    → old.window.findtime ≡ findtime → old.window.maxretry ≡ maxretry → old.window.failures ≡ own_in f.addr es → AllOf (λ (g : Failure). g.time ≤ old.latest) (own_in f.addr es)
+    → Grows now f old new full → AreWindows findtime maxretry new_es → ChangesAt f.addr (Some new) es new_es
+    → Enters findtime maxretry now f es new_es full
+entered findtime maxretry now f es new_es old new full held recent span most there latest grows windows changes =
+    let order = own_in_order findtime maxretry f.addr es held.windows in
+    let own = own_in_own f.addr es in
+    let is = grown_is findtime maxretry now f (own_in f.addr es) old new full held.span recent order own span most there latest grows in
+    let after = changed_own findtime maxretry f.addr (Some new) es new_es windows changes in
+    let unfilled : IsFull findtime maxretry f.addr (own_in f.addr es) → ⊥ = λ full. held.none_full f.addr (full_of_part (is_of f.addr) findtime maxretry f.addr (failures_in es) full) in
+    let tells = grown_tells findtime maxretry now f (own_in f.addr es) old new full held.span recent order own span most there latest grows unfilled in
+    record {
+      windows = windows;
+      own = after ∙ is;
+      others = changed_others findtime maxretry f.addr (Some new) es new_es held.windows windows changes;
+      tells = (
+        λ t. full_of_part (is_of f.addr) findtime maxretry f.addr (failures_in new_es)
+        (subst (λ (gs : List Failure). IsFull findtime maxretry f.addr gs) (sym after) (tells.0 t)),
+        λ full. tells.1 (subst (λ (gs : List Failure). IsFull findtime maxretry f.addr gs) after (full_to_own findtime maxretry f.addr (failures_in new_es) full)),
+      );
+    }
+
+-- ---- the window that is there, or a first one
+
+-- what is known of an address's window
+pub record Found (findtime maxretry : ℕ) (addr : Addr) (es : List Entry) (w : AddrWindow) : Type 0 where
+  pub span : w.window.findtime ≡ findtime
+  pub most : w.window.maxretry ≡ maxretry
+  pub there : w.window.failures ≡ own_in addr es
+  pub latest : AllOf (λ (g : Failure). g.time ≤ w.latest) (own_in addr es)
+
+some_same : (v w : AddrWindow) → Some v ≡ Some w → v ≡ w
+some_same v w e = cc
+
+-- an entry's window has the limits, and no failure later than its latest
+limits_at : (findtime maxretry : ℕ) (k : ℕ × ℕ) (es : List Entry) (w : AddrWindow) → AllOf (IsSome findtime maxretry) es → window_at k es ≡ Some w
+    → (w.window.findtime ≡ findtime) × (w.window.maxretry ≡ maxretry) × AllOf (λ (g : Failure). g.time ≤ w.latest) w.window.failures
+limits_at findtime maxretry k [] w each at = absurd (let nothing : Option AddrWindow = None in let h : nothing ≡ Some w = at in cc)
+limits_at findtime maxretry k (e ∷ es) w each at =
+    by_test (is_eq (pair_cmp k e.0)) _
+    (λ t. let same : e.1 ≡ w = some_same e.1 w (rw t at at) in
+    let o = each.0.1 in
+    subst (λ (v : AddrWindow). (v.window.findtime ≡ findtime) × (v.window.maxretry ≡ maxretry) × AllOf (λ (g : Failure). g.time ≤ v.latest) v.window.failures) same (o.span, o.most, o.latest))
+    (λ t. limits_at findtime maxretry k es w each.1 (rw t at at))
+
+pub found : (findtime maxretry : ℕ) (addr : Addr) (es : List Entry) (w : AddrWindow) → AreWindows findtime maxretry es → window_at (key_of addr) es ≡ Some w
+    → Found findtime maxretry addr es w
+found findtime maxretry addr es w windows at =
+    let limits = limits_at findtime maxretry (key_of addr) es w windows.each at in
+    let own : own_in addr es ≡ w.window.failures = own_of findtime maxretry addr es windows ∙ ap failures_of at in
+    record {
+      span = limits.0;
+      most = limits.1;
+      there = sym own;
+      latest = subst (λ (gs : List Failure). AllOf (λ (g : Failure). g.time ≤ w.latest) gs) (sym own) limits.2;
+    }
+
+-- the window that is there took it
+pub entered_there : (findtime maxretry now : ℕ) (f : Failure) (es new_es : List Entry) (w new : AddrWindow) (full : Bool) → IsHeld findtime maxretry es → now < f.time + findtime
+    → window_at (key_of f.addr) es ≡ Some w → Grows now f w new full → new_es ≡ set_value (is_at (pair_cmp (key_of f.addr))) es new → keys_of new_es ≡ keys_of es
+    → ChangesAt f.addr (Some new) es new_es → Enters findtime maxretry now f es new_es full
+entered_there findtime maxretry now f es new_es w new full held recent at grows is keys changes =
+    let known = found findtime maxretry f.addr es w held.windows at in
+    let own = grown_own findtime maxretry now f (own_in f.addr es) w new full held.span recent (own_in_order findtime maxretry f.addr es held.windows)
+    (own_in_own f.addr es) known.span known.most known.there known.latest grows in
+    let each = all_set (IsSome findtime maxretry) (is_at (pair_cmp (key_of f.addr))) new es held.windows.each (λ e some t. own_under findtime maxretry f.addr new e own some t) in
+    entered findtime maxretry now f es new_es w new full held recent known.span known.most known.there known.latest grows
+    (record {
+      each = subst (λ (r : List Entry). AllOf (IsSome findtime maxretry) r) (sym is) each;
+      rising = subst (λ (ks : List (ℕ × ℕ)). IsStrictlySortedBy pair_cmp ks) (sym keys) held.windows.rising;
+    }) changes
+
+-- a first window took it
+pub entered_first : (findtime maxretry now : ℕ) (f : Failure) (es new_es : List Entry) (empty : Opened) (new : AddrWindow) (full : Bool) → IsHeld findtime maxretry es
+    → now < f.time + findtime → window_at (key_of f.addr) es ≡ None → empty ≡ record { findtime = findtime; maxretry = maxretry; failures = [] }
+    → Grows now f (record { window = empty; latest = f.time }) new full → new_es ≡ insert_entry pair_cmp es (key_of f.addr) new
+    → IsStrictlySortedBy pair_cmp (keys_of new_es) → ChangesAt f.addr (Some new) es new_es → Enters findtime maxretry now f es new_es full
+entered_first findtime maxretry now f es new_es empty new full held recent at nothing grows is rising changes =
+    let none : own_in f.addr es ≡ [] = own_of findtime maxretry f.addr es held.windows ∙ ap failures_of at in
+    let first : AddrWindow = record { window = empty; latest = f.time } in
+    let span : empty.findtime ≡ findtime = ap (λ (w : Opened). w.findtime) nothing in
+    let most : empty.maxretry ≡ maxretry = ap (λ (w : Opened). w.maxretry) nothing in
+    let there : empty.failures ≡ own_in f.addr es = ap (λ (w : Opened). w.failures) nothing ∙ sym none in
+    let latest : AllOf (λ (g : Failure). g.time ≤ f.time) (own_in f.addr es) = subst (λ (gs : List Failure). AllOf (λ (g : Failure). g.time ≤ f.time) gs) (sym none) tt in
+    let own = grown_own findtime maxretry now f (own_in f.addr es) first new full held.span recent (own_in_order findtime maxretry f.addr es held.windows)
+    (own_in_own f.addr es) span most there latest grows in
+    let each = all_insert (IsSome findtime maxretry) (key_of f.addr) new es held.windows.each (f.addr, own) (λ e some t. own_under findtime maxretry f.addr new e own some t) in
+    entered findtime maxretry now f es new_es first new full held recent span most there latest grows
+    (record { each = subst (λ (r : List Entry). AllOf (IsSome findtime maxretry) r) (sym is) each; rising = rising }) changes
+
+-- what was written back was what was there
+pub set_same : (test : ℕ × ℕ → Bool) (es : List Entry) (w : AddrWindow) → lookup test es ≡ Some w → set_value test es w ≡ es
+set_same test [] w at = refl
+set_same test (e ∷ es) w at =
+    by_test (test e.0) _
+    (λ t. let same : e.1 ≡ w = some_same e.1 w (rw t at at) in rw t (ap (λ (v : AddrWindow). (e.0, v) ∷ es) (sym same)))
+    (λ t. rw t (ap (λ r. e ∷ r) (set_same test es w (rw t at at))))
+
+-- the same as `get_mut` tells it
+pub entered_through : (findtime maxretry now : ℕ) (f : Failure) (k : ℕ × ℕ) (m n : BTreeMap (ℕ × ℕ) AddrWindow) (w new : AddrWindow) (full : Bool) → IsHeld findtime maxretry m.entries
+    → now < f.time + findtime → k ≡ key_of f.addr → window_at (key_of f.addr) m.entries ≡ Some w → WritesThrough pair_cmp (pair_cmp k) m new n → Grows now f w new full
+    → Enters findtime maxretry now f m.entries n.entries full
+entered_through findtime maxretry now f k m n w new full held recent is at through grows =
+    let written : WritesThrough pair_cmp (pair_cmp (key_of f.addr)) m new n = subst (λ (q : ℕ × ℕ). WritesThrough pair_cmp (pair_cmp q) m new n) is through in
+    let some : IsThere (window_at (key_of f.addr) m.entries) = subst (λ (o : Option AddrWindow). IsThere o) (sym at) refl in
+    entered_there findtime maxretry now f m.entries n.entries w new full held recent at grows written.0 written.1 (written.3 some).0
+
+-- what was written back was what was there
+pub same_through : (k : ℕ × ℕ) (m n : BTreeMap (ℕ × ℕ) AddrWindow) (w new : AddrWindow) → window_at k m.entries ≡ Some w → WritesThrough pair_cmp (pair_cmp k) m new n → new ≡ w
+    → n.entries ≡ m.entries
+same_through k m n w new at through same =
+    through.0 ∙ ap (λ (v : AddrWindow). set_value (is_at (pair_cmp k)) m.entries v) same ∙ set_same (is_at (pair_cmp k)) m.entries w at
+
+pub ok_then : {T E : Type 0} (P Q : T → Type 0) (r : Result T E) → ((x : T) → P x → Q x) → IfOk r P → IfOk r Q
+ok_then P Q (Ok x) h p = h x p
+ok_then P Q (Err e) h p = tt
+
+pub err_then : {T E : Type 0} (P Q : Type 0) (r : Result T E) → (P → Q) → OnErr r P → OnErr r Q
+err_then P Q (Ok x) h p = tt
+err_then P Q (Err e) h p = h p

@@ -1,0 +1,14 @@
+-- A failure goes in, and the window out where the address is full.
+use Rattle.jail_moves.proofs.WindowLosses.{counted_on, counted_out}
+use Rattle.jail_moves.proofs.addresses.count.Goals as goal
+
+pub returns-then-full-clause-ok : goal.returns-then-full-clause-ok
+returns-then-full-clause-ok c =
+    counted_out c.args.findtime c.args.maxretry c.args.now c.args.failure c.args.windows.now.entries c.enter.new.windows.entries c.take_out.new.windows.entries c.in_ok-full.full
+    c.take_out.result c.requires.held c.if-full.true c.in_ok-full.ensures.ok (c.take_out.ensures.loses c.args.maxretry c.in_ok-full.ensures.ok.windows)
+    (c.take_out.ensures.near c.args.maxretry c.in_ok-full.ensures.ok.windows)
+
+pub returns-clause-ok : goal.returns-clause-ok
+returns-clause-ok c =
+    counted_on c.args.findtime c.args.maxretry c.args.now c.args.failure c.args.windows.now.entries c.enter.new.windows.entries c.in_ok-full.full c.requires.held c.if-full.false
+    c.in_ok-full.ensures.ok
