@@ -1,2 +1,5 @@
+pub mod Configured
+pub mod Each
 pub mod Kept
 pub mod Reading
+pub mod Stored

@@ -24,10 +24,11 @@ use Rattle.f2b_model.specs.Steps.{moves_now, end_all}
 use Rattle.f2b_model.specs.Told.{told_banned, told_found, told_new}
 use Rattle.f2b_model.specs.Views.{jail_of}
 use Rattle.f2b_model.specs.Watches.{watches_of}
+use Rattle.f2b_model.proofs.FullLemmas.{lt_true}
 use Rattle.f2b_model.proofs.ListLemmas.{by_test, filter_swap}
 use Rattle.f2b_model.proofs.OrderlyLemmas.{all_of-filter, all_of-push}
 use Rattle.f2b_model.proofs.StepLemmas.{all_of-map}
-use Rattle.fail_window.specs.Opened.{KeepsLimits, Opened}
+use Rattle.fail_window.specs.Opened.{IsLate, KeepsLimits, Opened}
 use Rattle.jail_moves.specs.Added.{IsAdded, NoneFull, with_failure}
 use Rattle.jail_moves.specs.Rooms.{Contents, all_ended, jail_in, with_ban, with_count, IsBounded, IsCounted, IsKept, IsStored, IsStoredWell}
 
@@ -252,6 +253,12 @@ after_ends_kept moment bs before at next d c t e kept le =
     (ended_kept moment bs at next d c (kept_later before at next next d c kept le (omega arith)))
 
 -- ---- what was stored
+
+-- failures that are not later than a moment, and late at it
+pub late_stored : (moment findtime : ℕ) (fs : List Failure) → AllOf (λ (f : Failure). f.time ≤ moment) fs → AllOf (λ (f : Failure). is_late moment findtime f ≡ true) fs
+    → AllOf (IsLate moment findtime) fs
+late_stored moment findtime [] a b = a
+late_stored moment findtime (f ∷ fs) a b = ((a.0, lt_true moment (f.time + 2 * findtime) (b.0)), late_stored moment findtime fs a.1 b.1)
 
 -- a jail that was stored well is what was stored
 pub stored_in : (at moment : ℕ) (d : JailDef) (v : JailView) (w : Opened) → IsStoredWell at d v → moment ≡ min v.moment at → w.failures ≡ v.failures

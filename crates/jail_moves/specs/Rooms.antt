@@ -91,9 +91,10 @@ pub record IsStored (at next : ℕ) (v : JailView) : Type 0 where
   pub once : IsOnceEach v.bans
   pub serials : AllOf (λ (b : Ban). b.serial < next) v.bans
 
--- what is stored is that of a sound jail, as far as code asks: the last counted failure is not to come, all are late at it, and no
--- address is full
+-- what is stored is that of a sound jail, as far as code asks: the moment of the last counted failure is not to come, no failure is
+-- later, all are late at it, and no address is full
 pub record IsStoredWell (at : ℕ) (d : JailDef) (v : JailView) : Type 0 where
   pub moment : v.moment ≤ at
+  pub by_moment : AllOf (λ (f : Failure). f.time ≤ v.moment) v.failures
   pub late : AllOf (λ (f : Failure). is_late v.moment d.findtime f ≡ true) v.failures
   pub none_full : NoneFull d.findtime d.maxretry v.failures

@@ -3,10 +3,10 @@ use Rattle.ban_table.specs.declared.lists.BanLists.{BanLists}
 use Rattle.f2b_base.specs.declared.ban.Failure.{Failure}
 use Rattle.f2b_base.specs.declared.view.WatchView.{WatchView}
 use Rattle.f2b_model.specs.Lists.{AllOf}
-use Rattle.fail_window.specs.Opened.{Opened}
+use Rattle.fail_window.specs.Opened.{IsLate, Opened}
 use Rattle.jail_moves.specs.Added.{NoneFull}
 use Rattle.jail_moves.specs.Rooms.{Contents, jail_in, IsKept}
-use Rattle.jail_moves.proofs.RoomLemmas.{stored_in, stored_kept}
+use Rattle.jail_moves.proofs.RoomLemmas.{late_stored, stored_in, stored_kept}
 use Rattle.jail_moves.proofs.room.Room.of.Goals as goal
 
 -- what the room holds, by what was read of it
@@ -28,7 +28,11 @@ pub returns-clause-jail : goal.returns-clause-jail
 unfolding contents stored_table
 returns-clause-jail c well =
     let w = c.in_ok-windows.windows in
-    let read : w.failures ≡ c.as_slice.result.now = c.in_ok-windows.ensures.failures (subst (NoneFull c.args.definition.now.findtime c.args.definition.now.maxretry) (sym c.as_slice.ensures) well.none_full) in
+    let fs = c.as_slice.result.now in
+    let none_full = subst (NoneFull c.args.definition.now.findtime c.args.definition.now.maxretry) (sym c.as_slice.ensures) well.none_full in
+    let late = subst (AllOf (IsLate c.args.view.now.moment c.args.definition.now.findtime)) (sym c.as_slice.ensures)
+    (late_stored c.args.view.now.moment c.args.definition.now.findtime c.args.view.now.failures well.by_moment well.late) in
+    let read : w.failures ≡ fs = c.in_ok-windows.ensures.failures none_full c.args.view.now.moment late in
     ap₂ (λ (ws : List WatchView) (t : BanLists). jail_in c.args.definition.now (record (contents c (Rattle.jail_moves.specs.contracts.windows.Windows.the_view c.windows.inside) t) { watches = ws })) c.in_ok-copy.ensures c.in_ok-table_of.ensures
     ∙ ap (λ (o : Opened). jail_in c.args.definition.now (contents c o (stored_table c))) c.windows.view_is
     ∙ stored_in c.args.at c.min.result c.args.definition.now c.args.view.now w well c.min.ensures (read ∙ c.as_slice.ensures)
