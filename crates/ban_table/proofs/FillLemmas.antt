@@ -1,14 +1,12 @@
 -- Bans that begin one after the other, by serial.
-use Rattle.std.proofs.Common.{◌≡◌, ◌≢◌, ℕ, zero, suc, ◌+◌, ◌<◌, Bool, true, false, nat_lt, List, [], ◌∷◌, ◌++◌, length, get_or, take, refl, sym, ◌∙◌, ap, arith}
-use Rattle.std.specs.List.{list_any}
+use Rattle.std.proofs.Common.{◌≡◌, ◌≢◌, ℕ, zero, suc, ◌+◌, ◌<◌, false, nat_lt, List, [], ◌∷◌, ◌++◌, length, get_or, take, refl, sym, ◌∙◌, ap, arith}
 use Rattle.std.proofs.lemmas.Bool.Decides.{nat_tests}
 use Rattle.std.proofs.lemmas.List.{take_more}
-use Rattle.f2b_base.specs.declared.addr.Addr.{Addr}
 use Rattle.f2b_base.specs.declared.ban.Ban.{Ban}
 use Rattle.f2b_base.specs.declared.ban.Past.{Past}
 use Rattle.f2b_model.specs.Full.{same_addr}
 use Rattle.f2b_model.specs.Lists.{AllOf, placed}
-use Rattle.f2b_model.specs.Moves.{ban_of, is_banned}
+use Rattle.f2b_model.specs.Moves.{is_banned}
 use Rattle.f2b_model.specs.Sound.{IsOnceEach, IsRisingSerials}
 use Rattle.f2b_model.proofs.EndLemmas.{all_not}
 use Rattle.f2b_model.proofs.OrderlyLemmas.{same_addr_sym}
@@ -17,6 +15,7 @@ use Rattle.ban_table.specs.declared.lists.BanLists.{BanLists}
 use Rattle.ban_table.specs.Tables.{by_serial, begun}
 use Rattle.ban_table.proofs.TableLemmas.{lists_of}
 
+-- the greater number is not below the lower one
 not_below : (a b : ℕ) → a < b → nat_lt b a ≡ false
 not_below a b h = grind (arith, nat_tests)
 
@@ -64,6 +63,7 @@ pub fill_free : (bans : List Ban) (past : List Past) (i : ℕ) (d : Ban) (t : Ba
     → is_banned (get_or bans i d).addr t.active ≡ false
 fill_free bans past i d t within once is = rw is (front_free bans i d within once)
 
+-- and has a serial of its own
 pub fill_new : (bans : List Ban) (past : List Past) (i : ℕ) (d : Ban) (t : BanLists) → i < length bans → IsRisingSerials bans → t ≡ lists_of (take i bans) past
     → AllOf (λ (b : Ban). b.serial ≢ (get_or bans i d).serial) t.active
 fill_new bans past i d t within rising is = rw is (all_others_lower (get_or bans i d).serial (take i bans) (front_lower bans i d within rising))

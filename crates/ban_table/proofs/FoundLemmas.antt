@@ -13,7 +13,6 @@ use Rattle.f2b_model.specs.Lists.{AllOf}
 use Rattle.f2b_model.specs.Moves.{ban_of, is_banned}
 use Rattle.f2b_model.specs.Sound.{IsOnceEach, IsRisingSerials}
 use Rattle.f2b_model.specs.Steps.{is_meant}
-use Rattle.f2b_model.proofs.EndLemmas.{all_not}
 use Rattle.f2b_model.proofs.ListLemmas.{by_test}
 use Rattle.f2b_model.proofs.OrderlyLemmas.{all_of-filter}
 use Rattle.f2b_model.proofs.SoundLemmas.{same_addr_true}
@@ -23,10 +22,12 @@ use Rattle.ban_table.proofs.BanLemmas.{each_is, found_in, none_found}
 abbrev pub keyed_by_serial : List Ban → List (ℕ × Ban)
 keyed_by_serial bans = map (λ (b : Ban). (b.serial, b)) bans
 
+-- their values are the bans
 pub values_keyed : (bans : List Ban) → values_of (keyed_by_serial bans) ≡ bans
 values_keyed [] = refl
 values_keyed (b ∷ bs) = ap (λ r. b ∷ r) (values_keyed bs)
 
+-- how the tests of the map's order answer
 below : (a b : ℕ) → a < b → nat_lt a b ≡ true
 below a b h = grind (arith, nat_tests)
 
@@ -90,6 +91,7 @@ found_more p addr ban (b ∷ bs) rising once found =
     (λ t. rw t (insert_behind ban b (keyed_by_serial (filter p bs)) lt ∙ ap (λ r. (b.serial, b) ∷ r) more))
     (λ t. rw (t, e) more))
 
+-- one test more at the end
 any_push : (p : Addr → Bool) (addrs : List Addr) (addr : Addr) → list_any p (addrs ++ addr ∷ []) ≡ (list_any p addrs || p addr)
 any_push p [] addr = or_false (p addr)
   where
@@ -98,6 +100,7 @@ any_push p [] addr = or_false (p addr)
     or_false false = refl
 any_push p (a ∷ others) addr = by_test (p a) _ (λ e. rw e refl) (λ e. rw e (any_push p others addr))
 
+-- two tests that agree keep the same
 filter_same_tests : (p q : Ban → Bool) (bans : List Ban) → ((b : Ban) → p b ≡ q b) → filter p bans ≡ filter q bans
 filter_same_tests p q [] same = refl
 filter_same_tests p q (b ∷ bs) same =

@@ -128,20 +128,8 @@ fn a_table_of_lists_stands_as_they_do(rt: HostRuntime) -> Result<(), Fail> {
     let table = BanTable::of(rt.alloc(), &lists)?;
     assert_eq!(rt; table.lists()?, lists);
     assert_eq!(rt; table.bans()?, lists.active);
-    assert_eq!(rt; table.past(Addr::V4(2)), 1);
-    let asked = [
-        Addr::V4(2),
-        Addr::V6(1),
-        Addr::V4(1),
-        Addr::V4(2),
-        Addr::V4(9),
-    ];
+    let asked = [Addr::V4(2), Addr::V6(1), Addr::V4(1), Addr::V4(2)];
     assert_eq!(rt; table.bans_of(&asked)?, lists.active);
-    assert_eq!(rt;
-        table.bans_of(&[Addr::V4(2)])?.as_slice(),
-        [second].as_slice()
-    );
-    assert!(rt; table.bans_of(&[])?.is_empty());
     Ok(())
 }
 

@@ -1,16 +1,15 @@
 -- Bans that begin, past entries that go, and bans that a command means.
-use Rattle.std.proofs.Common.{◌≡◌, ℕ, ◌+◌, ◌-◌, ◌<◌, ◌≤◌, Bool, false, not, nat_lt, nat_le, List, [], ◌∷◌, ◌++◌, None, refl, ap, arith}
+use Rattle.std.proofs.Common.{◌≡◌, ℕ, ◌+◌, ◌<◌, false, not, nat_le, List, [], ◌∷◌, ◌++◌, None, refl, ap, arith}
 use Rattle.std.specs.List.{filter}
 use Rattle.std.proofs.lemmas.Bool.Decides.{nat_tests}
 use Rattle.ban_table.specs.declared.lists.BanLists.{BanLists}
-use Rattle.ban_table.specs.Tables.{begun, purged}
+use Rattle.ban_table.specs.Tables.{begun}
 use Rattle.ban_table.proofs.FillLemmas.{placed_behind}
 use Rattle.f2b_base.specs.declared.ban.Ban.{Ban}
 use Rattle.f2b_base.specs.declared.ban.Past.{Past}
 use Rattle.f2b_model.specs.Lists.{AllOf}
 use Rattle.f2b_model.specs.Moves.{is_stale}
 use Rattle.f2b_model.specs.Steps.{is_meant}
-use Rattle.f2b_model.proofs.ListLemmas.{by_test}
 
 -- a ban of a greater serial than all begins behind them
 pub begun_behind : (ban : Ban) (t : BanLists) → AllOf (λ (b : Ban). b.serial < ban.serial) t.active → begun ban t ≡ record t { active = t.active ++ ban ∷ [] }

@@ -31,6 +31,7 @@ without ban bans = filter (λ b. not (ban_of ban.addr b)) bans
 abbrev IsSooner : Ban → Ban → Type 0
 IsSooner ban other = (own_end ban < own_end other) ⊎ ((own_end ban ≡ own_end other) × (ban.serial ≤ other.serial))
 
+-- how the test of two ends answers
 below : (a b : ℕ) → a < b → nat_lt a b ≡ true
 below a b h = grind (arith, nat_tests)
 
@@ -55,6 +56,7 @@ stays_in_front : (ban : Ban) (done bans : List Ban) → NoneBefore ends_before b
 stays_in_front ban done [] h = refl
 stays_in_front ban done (b ∷ bs) h = let e = h.0 in rw e (stays_in_front ban (placed ends_before b done) bs h.1)
 
+-- one more that ends later than the ban, among others that do
 later_placed : (ban b : Ban) (done : List Ban) → ends_before ban b ≡ true → AllOf (λ (c : Ban). ends_before ban c ≡ true) done
     → AllOf (λ (c : Ban). ends_before ban c ≡ true) (placed ends_before b done)
 later_placed ban b [] e later = (e, tt)
@@ -106,6 +108,7 @@ in_kept p x (y ∷ ys) i =
     elim j [ inl same ↦ (inl same, ap p same ∙ e) | inr k ↦ (let r = in_kept p x ys k in (inr r.0, r.1)) ])
     (λ e. let j : IsIn x (filter p ys) = rw e at i in let r = in_kept p x ys j in (inr r.0, r.1))
 
+-- and what was in it and passes is kept
 kept_in : {A : Type 0} (p : A → Bool) (x : A) (xs : List A) → IsIn x xs → p x ≡ true → IsIn x (filter p xs)
 kept_in p x [] i h = i
 kept_in p x (y ∷ ys) i h =
@@ -143,6 +146,7 @@ pub record IsOneLess (at : ℕ) (ban : Ban) (before after : BanLists) : Type 0 w
   pub ended : all_ended own_end (due_in_order at before.active) before ≡ all_ended own_end (due_in_order at after.active) after
   pub fewer : length (filter (is_due at) after.active) < length (filter (is_due at) before.active)
 
+-- the end of the ban that is due next is such a turn
 pub one_less : (at : ℕ) (ban : Ban) (before after : BanLists) → IsRisingSerials before.active → IsOnceEach before.active → IsNextDue at before.active ban
     → after ≡ ended ban.addr (own_end ban) before → IsOneLess at ban before after
 one_less at ban before after rising once next ends =
@@ -165,9 +169,10 @@ told_one_less at name ban before after told later whole less one all =
     let rest = map (Ends name) (due_in_order at after.active) in
     ap (λ r. r ++ rest) one ∙ append_assoc told (Ends name ban ∷ []) rest ∙ ap (λ ds. told ++ map (Ends name) ds) (sym less.first) ∙ all
 
--- once no ban is due all has ended, and all is told
+-- once no ban is due all that was due has ended
 pub all_are_ended : (at : ℕ) (t : BanLists) → list_any (is_due at) t.active ≡ false → all_ended own_end (due_in_order at t.active) t ≡ t
 all_are_ended at t calm = ap (λ ds. all_ended own_end ds t) (none_due at t.active calm)
 
+-- and all is told
 pub all_are_told : (at : ℕ) (name : List ℕ) (bans : List Ban) (told : List Happening) → list_any (is_due at) bans ≡ false → told ++ map (Ends name) (due_in_order at bans) ≡ told
 all_are_told at name bans told calm = ap (λ ds. told ++ map (Ends name) ds) (none_due at bans calm) ∙ append-nil told
