@@ -1,1 +1,4 @@
 pub mod EachLemmas
+pub mod LogLemmas
+pub mod PlaceLemmas
+pub mod ReadLemmas
