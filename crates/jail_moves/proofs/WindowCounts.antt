@@ -1,5 +1,5 @@
 -- One more failure goes into its address's window; a window is taken out; old windows go.
-use Rattle.std.proofs.Common.{◌≡◌, ◌↔◌, ℕ, ◌+◌, ◌*◌, ◌<◌, ◌≤◌, max, Bool, true, false, not, nat_lt, Option, Some, None, Result, Ok, Err, List, [], ◌∷◌, ◌++◌, length, refl, sym, ◌∙◌, ap, subst, arith}
+use Rattle.std.proofs.Common.{◌≡◌, ◌↔◌, ℕ, ◌+◌, ◌*◌, ◌<◌, ◌≤◌, max, Bool, true, Option, Some, None, Result, Ok, Err, List, [], ◌∷◌, ◌++◌, refl, sym, ◌∙◌, ap, subst, arith}
 use Rattle.std.specs.List.{filter}
 use Rattle.std.specs.List.Sorted.{IsStrictlySortedBy}
 use Rattle.std.specs.BTreeMap.{is_at, insert_entry, BTreeMap, WritesThrough}
@@ -10,7 +10,7 @@ use Rattle.std.specs.Result.{IfOk, OnErr}
 use Rattle.ban_table.specs.Places.{pair_cmp, key_of}
 use Rattle.f2b_base.specs.declared.addr.Addr.{Addr}
 use Rattle.f2b_base.specs.declared.ban.Failure.{Failure}
-use Rattle.f2b_model.specs.Full.{same_addr, is_of, IsFull, is_full, is_late}
+use Rattle.f2b_model.specs.Full.{is_of, IsFull, is_late}
 use Rattle.f2b_model.specs.Lists.{AllOf, IsInOrder, in_order, placed}
 use Rattle.f2b_model.specs.Nows.{comes_before}
 use Rattle.f2b_model.specs.Stands.{StandsFor}
@@ -23,7 +23,7 @@ use Rattle.f2b_model.proofs.StandLemmas.{stands_full}
 use Rattle.f2b_model.proofs.StepLemmas.{all_of-more}
 use Rattle.fail_window.specs.Opened.{Opened}
 use Rattle.jail_moves.specs.declared.addresses.AddrWindow.{AddrWindow}
-use Rattle.jail_moves.specs.Addresses.{Entry, failures_in, own_after, window_at, AreWindows, Enters, Grows, IsHeld, IsOwn, KeepsOthers}
+use Rattle.jail_moves.specs.Addresses.{Entry, failures_in, window_at, AreWindows, Enters, Grows, IsHeld, IsOwn}
 use Rattle.jail_moves.proofs.WindowLists.{filter_all, full_to_own}
 use Rattle.jail_moves.proofs.WindowEntries.{ChangesAt, IsSome, all_insert, all_set, changed_others, changed_own, failures_of, in_order_of, own_of, own_under}
 
@@ -94,9 +94,9 @@ module _ (findtime maxretry now : ℕ) (f : Failure) (fs : List Failure) (old ne
       let tells = grows.tells 0 fs itself (omega arith) not_full in
       let with_one = stands_full now findtime maxretry new.window.failures fs f unfilled recent stands in (
         λ t. with_one.0 (subst (λ (n : ℕ). IsFull n maxretry f.addr (fs ++ f ∷ [])) span
-        (subst (λ (n : ℕ). IsFull old.window.findtime n f.addr (fs ++ f ∷ [])) most (tells.0 t))),
+            (subst (λ (n : ℕ). IsFull old.window.findtime n f.addr (fs ++ f ∷ [])) most (tells.0 t))),
         λ full. tells.1 (subst (λ (n : ℕ). IsFull n old.window.maxretry f.addr (fs ++ f ∷ [])) (sym span)
-        (subst (λ (n : ℕ). IsFull findtime n f.addr (fs ++ f ∷ [])) (sym most) (with_one.1 full))),
+            (subst (λ (n : ℕ). IsFull findtime n f.addr (fs ++ f ∷ [])) (sym most) (with_one.1 full))),
       )
 
 -- the address's failures in all windows
@@ -127,7 +127,7 @@ entered findtime maxretry now f es new_es old new full held recent span most the
       others = changed_others findtime maxretry f.addr (Some new) es new_es held.windows windows changes;
       tells = (
         λ t. full_of_part (is_of f.addr) findtime maxretry f.addr (failures_in new_es)
-        (subst (λ (gs : List Failure). IsFull findtime maxretry f.addr gs) (sym after) (tells.0 t)),
+            (subst (λ (gs : List Failure). IsFull findtime maxretry f.addr gs) (sym after) (tells.0 t)),
         λ full. tells.1 (subst (λ (gs : List Failure). IsFull findtime maxretry f.addr gs) after (full_to_own findtime maxretry f.addr (failures_in new_es) full)),
       );
     }

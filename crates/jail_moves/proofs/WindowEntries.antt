@@ -1,5 +1,5 @@
 -- The entries of a jail's windows: their failures stand in order, those of an address under its key, and what a change of one entry does.
-use Rattle.std.proofs.Common.{◌≡◌, ℕ, Bool, true, false, not, cond, nat_lt, ◌==◌, Option, Some, None, List, [], ◌∷◌, ◌++◌, refl, sym, ◌∙◌, ap, ap₂, subst, arith, append-nil, append_assoc}
+use Rattle.std.proofs.Common.{◌≡◌, ℕ, Bool, true, false, cond, nat_lt, ◌==◌, Option, Some, None, List, [], ◌∷◌, ◌++◌, refl, sym, ◌∙◌, ap, ap₂, subst, arith, append-nil, append_assoc}
 use Rattle.std.specs.BTreeMap.{insert_entry}
 use Rattle.std.specs.List.{filter, AllByRecursion}
 use Rattle.std.specs.List.Sorted.{IsStrictlySortedBy}
@@ -13,7 +13,7 @@ use Rattle.ban_table.proofs.IndexLemmas.{key_same}
 use Rattle.f2b_base.specs.declared.addr.Addr.{Addr}
 use Rattle.f2b_base.specs.declared.addr.Addr.TheVariants.{V4, V6}
 use Rattle.f2b_base.specs.declared.ban.Failure.{Failure}
-use Rattle.f2b_model.specs.Full.{same_addr, is_of, is_late}
+use Rattle.f2b_model.specs.Full.{same_addr, is_of}
 use Rattle.f2b_model.specs.Lists.{AllOf, IsInOrder, NoneBefore}
 use Rattle.f2b_model.specs.Nows.{addr_before, comes_before}
 use Rattle.f2b_model.proofs.EndLemmas.{same_addr_same}
@@ -206,15 +206,17 @@ changed_others findtime maxretry addr w old new before windows changes = λ othe
 pub own_under : (findtime maxretry : ℕ) (addr : Addr) (w : AddrWindow) (e : Entry) → IsOwn findtime maxretry addr (key_of addr, w) → IsSome findtime maxretry e
     → is_eq (pair_cmp (key_of addr) e.0) ≡ true → IsSome findtime maxretry (e.0, w)
 own_under findtime maxretry addr w e own some at =
-    let same : same_addr addr some.0 ≡ true = sym (key_at addr some.0 e.0 some.1.key) ∙ at in
-    (addr, record {
-      key = some.1.key ∙ sym (ap key_of (same_addr_true addr some.0 same));
-      span = own.span;
-      most = own.most;
-      own = own.own;
-      in_order = own.in_order;
-      latest = own.latest;
-    })
+    let same : same_addr addr some.0 ≡ true = sym (key_at addr some.0 e.0 some.1.key) ∙ at in (
+      addr,
+      record {
+        key = some.1.key ∙ sym (ap key_of (same_addr_true addr some.0 same));
+        span = own.span;
+        most = own.most;
+        own = own.own;
+        in_order = own.in_order;
+        latest = own.latest;
+      },
+    )
 
 -- ---- the windows alone, from the first on
 

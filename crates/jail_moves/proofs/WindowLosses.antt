@@ -1,5 +1,5 @@
 -- A window is taken out, where its address is full or by itself; and windows that hold nothing late go.
-use Rattle.std.proofs.Common.{◌≡◌, ◌↔◌, ℕ, ◌+◌, ◌*◌, ◌<◌, ◌≤◌, Bool, true, false, not, nat_lt, Option, Some, None, List, [], ◌∷◌, ◌++◌, length, refl, sym, ◌∙◌, ap, ap₂, subst, arith, length-append}
+use Rattle.std.proofs.Common.{◌≡◌, ℕ, ◌+◌, ◌*◌, ◌≤◌, Bool, true, false, nat_lt, Option, Some, None, List, [], ◌∷◌, ◌++◌, length, refl, sym, ◌∙◌, ap, subst, arith, length-append}
 use Rattle.std.specs.BTreeMap.{is_at}
 use Rattle.std.specs.List.{filter}
 use Rattle.std.specs.List.Sorted.{IsStrictlySortedBy}
@@ -15,7 +15,6 @@ use Rattle.f2b_model.proofs.FullLemmas.{full_of_part, full_of_test, not_true_bot
 use Rattle.f2b_model.proofs.ListLemmas.{by_test, filter-append}
 use Rattle.f2b_model.proofs.OrderlyLemmas.{all_of-filter}
 use Rattle.f2b_model.proofs.SoundLemmas.{same_addr_true}
-use Rattle.f2b_model.proofs.StepLemmas.{all_of-more}
 use Rattle.jail_moves.specs.declared.addresses.AddrWindow.{AddrWindow}
 use Rattle.jail_moves.specs.Addresses.{Entry, failures_in, is_live, own_after, window_at, AreWindows, Counts, Enters, IsHeld, Loses, Sweeps}
 use Rattle.jail_moves.proofs.WindowLists.{filter_none, full_by_own, full_to_own, other_kept, own_gone, rest_is}

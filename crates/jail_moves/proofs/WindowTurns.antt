@@ -1,5 +1,5 @@
 -- A whole turn: the windows after a sweep and one more failure, or without an address's.
-use Rattle.std.proofs.Common.{◌≡◌, ℕ, ◌+◌, ◌*◌, ◌<◌, ◌≤◌, Bool, true, false, not, Option, Some, None, Result, Ok, Err, List, [], ◌∷◌, ◌++◌, length, refl, sym, ◌∙◌, ap, subst, arith}
+use Rattle.std.proofs.Common.{◌≡◌, ℕ, ◌+◌, ◌<◌, ◌≤◌, true, false, not, Option, Some, None, Result, Ok, Err, List, length, sym, ◌∙◌, ap, subst}
 use Rattle.std.specs.List.{filter}
 use Rattle.std.specs.Prelude.{is_some}
 use Rattle.std.specs.Option.{IfSome}
@@ -17,7 +17,7 @@ use Rattle.f2b_model.proofs.MarkLemmas.{failures_order}
 use Rattle.f2b_model.proofs.OrderlyLemmas.{all_of-filter}
 use Rattle.f2b_model.proofs.SoundLemmas.{same_addr_true}
 use Rattle.jail_moves.specs.Added.{with_failure, IsAdded}
-use Rattle.jail_moves.specs.Addresses.{Entry, failures_in, own_after, AreWindows, Counts, IsHeld, Loses, Sweeps}
+use Rattle.jail_moves.specs.Addresses.{Entry, failures_in, Counts, IsHeld, Loses, Sweeps}
 use Rattle.jail_moves.proofs.WindowLists.{all_by_parts, full_with, late_with, near_with, other_with, rest_is, with_failure_is}
 use Rattle.jail_moves.proofs.WindowEntries.{in_order_of}
 use Rattle.jail_moves.proofs.WindowCounts.{all_placed, own_in}

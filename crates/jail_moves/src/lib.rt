@@ -9,5 +9,7 @@
 mod addresses;
 mod bans;
 mod windows;
+#[cfg(test)]
+mod windows_tests;
 
 pub use windows::Windows;
