@@ -55,6 +55,7 @@ module _ (findtime maxretry now : ℕ) (f : Failure) (fs : List Failure) (old ne
       subst (λ (n : ℕ). StandsFor 0 n old.window.failures fs) (sym span)
       (subst (λ (gs : List Failure). StandsFor 0 findtime gs fs) (sym there) (stands_itself findtime fs long order))
 
+  -- the new window stands for the list with one more failure
   stands : StandsFor now findtime new.window.failures (fs ++ f ∷ [])
   stands = subst (λ (n : ℕ). StandsFor now n new.window.failures (fs ++ f ∷ [])) span (grows.stands 0 fs itself (omega arith))
 
@@ -103,9 +104,11 @@ module _ (findtime maxretry now : ℕ) (f : Failure) (fs : List Failure) (old ne
 abbrev pub own_in : Addr → List Entry → List Failure
 own_in addr es = filter (is_of addr) (failures_in es)
 
+-- an address's failures in all windows are in order
 pub own_in_order : (findtime maxretry : ℕ) (addr : Addr) (es : List Entry) → AreWindows findtime maxretry es → IsInOrder comes_before (own_in addr es)
 own_in_order findtime maxretry addr es w = filter_in_order comes_before failures_order (is_of addr) (failures_in es) (in_order_of findtime maxretry es w)
 
+-- and they are all the address's
 pub own_in_own : (addr : Addr) (es : List Entry) → AllOf (λ (g : Failure). is_of addr g ≡ true) (own_in addr es)
 own_in_own addr es = all_of-kept (λ (g : Failure). is_of addr g ≡ true) (is_of addr) (failures_in es) (λ g h. h)
 
@@ -141,6 +144,7 @@ pub record Found (findtime maxretry : ℕ) (addr : Addr) (es : List Entry) (w : 
   pub there : w.window.failures ≡ own_in addr es
   pub latest : AllOf (λ (g : Failure). g.time ≤ w.latest) (own_in addr es)
 
+-- a window that is there is the one that was found
 some_same : (v w : AddrWindow) → Some v ≡ Some w → v ≡ w
 some_same v w e = cc
 
@@ -155,6 +159,7 @@ limits_at findtime maxretry k (e ∷ es) w each at =
     subst (λ (v : AddrWindow). (v.window.findtime ≡ findtime) × (v.window.maxretry ≡ maxretry) × AllOf (λ (g : Failure). g.time ≤ v.latest) v.window.failures) same (o.span, o.most, o.latest))
     (λ t. limits_at findtime maxretry k es w each.1 (rw t at at))
 
+-- what stands under an address's key is the address's window
 pub found : (findtime maxretry : ℕ) (addr : Addr) (es : List Entry) (w : AddrWindow) → AreWindows findtime maxretry es → window_at (key_of addr) es ≡ Some w
     → Found findtime maxretry addr es w
 found findtime maxretry addr es w windows at =
@@ -223,10 +228,12 @@ pub same_through : (k : ℕ × ℕ) (m n : BTreeMap (ℕ × ℕ) AddrWindow) (w 
 same_through k m n w new at through same =
     through.0 ∙ ap (λ (v : AddrWindow). set_value (is_at (pair_cmp k)) m.entries v) same ∙ set_same (is_at (pair_cmp k)) m.entries w at
 
+-- what follows from a fact of an `Ok`
 pub ok_then : {T E : Type 0} (P Q : T → Type 0) (r : Result T E) → ((x : T) → P x → Q x) → IfOk r P → IfOk r Q
 ok_then P Q (Ok x) h p = h x p
 ok_then P Q (Err e) h p = tt
 
+-- what follows from a fact of an `Err`
 pub err_then : {T E : Type 0} (P Q : Type 0) (r : Result T E) → (P → Q) → OnErr r P → OnErr r Q
 err_then P Q (Ok x) h p = tt
 err_then P Q (Err e) h p = h p

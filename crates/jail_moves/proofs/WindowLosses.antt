@@ -23,6 +23,7 @@ use Rattle.jail_moves.proofs.WindowCounts.{own_in}
 
 -- ---- a window is taken out
 
+-- an address's entry taken out takes its failures out, and no others
 pub lost : (findtime maxretry : ℕ) (addr : Addr) (old new : List Entry) → AreWindows findtime maxretry old → new ≡ remove_entry (is_at (pair_cmp (key_of addr))) old
     → IsStrictlySortedBy pair_cmp (keys_of new) → ChangesAt addr None old new → Loses findtime maxretry addr old new
 lost findtime maxretry addr old new before is rising changes =
@@ -112,6 +113,7 @@ none_late now findtime latest (f ∷ fs) old a = (older f.time a.0, none_late no
     older : (time : ℕ) → time ≤ latest → nat_lt now (time + 2 * findtime) ≡ false
     older time le = grind (arith, nat_tests)
 
+-- all that is late stays
 late_live : (findtime maxretry now : ℕ) (es : List Entry) → AllOf (IsSome findtime maxretry) es
     → filter (is_late now findtime) (failures_in (filter (is_live now findtime) es)) ≡ filter (is_late now findtime) (failures_in es)
 late_live findtime maxretry now [] each = refl
@@ -145,6 +147,7 @@ fewer_live addr start findtime p (e ∷ es) =
     both : (fs gs : List Failure) → how_many addr start findtime (fs ++ gs) ≡ how_many addr start findtime fs + how_many addr start findtime gs
     both fs gs = ap length (filter-append (in_span addr start findtime) fs gs) ∙ length-append (filter (in_span addr start findtime) fs) (filter (in_span addr start findtime) gs)
 
+-- so a sweep keeps what matters
 pub swept : (findtime maxretry now : ℕ) (old new : List Entry) → IsHeld findtime maxretry old → new ≡ filter (is_live now findtime) old → IsStrictlySortedBy pair_cmp (keys_of new)
     → Sweeps findtime maxretry now old new
 swept findtime maxretry now old new held is rising = record {
