@@ -1,5 +1,5 @@
 -- One more failure goes into its address's window; a window is taken out; old windows go.
-use Rattle.std.proofs.Common.{◌≡◌, ◌↔◌, ℕ, ◌+◌, ◌*◌, ◌<◌, ◌≤◌, max, Bool, true, false, not, nat_lt, Option, Some, None, Result, Ok, Err, List, [], ◌∷◌, ◌++◌, length, refl, sym, ◌∙◌, ap, subst, arith}
+use Rattle.std.proofs.Common.{◌≡◌, ◌↔◌, ℕ, ◌+◌, ◌*◌, ◌<◌, ◌≤◌, max, Bool, true, Option, Some, None, Result, Ok, Err, List, [], ◌∷◌, ◌++◌, refl, sym, ◌∙◌, ap, subst, arith}
 use Rattle.std.specs.List.{filter}
 use Rattle.std.specs.List.Sorted.{IsStrictlySortedBy}
 use Rattle.std.specs.BTreeMap.{is_at, insert_entry, BTreeMap, WritesThrough}
@@ -10,7 +10,7 @@ use Rattle.std.specs.Result.{IfOk, OnErr}
 use Rattle.ban_table.specs.Places.{pair_cmp, key_of}
 use Rattle.f2b_base.specs.declared.addr.Addr.{Addr}
 use Rattle.f2b_base.specs.declared.ban.Failure.{Failure}
-use Rattle.f2b_model.specs.Full.{same_addr, is_of, IsFull, is_full, is_late}
+use Rattle.f2b_model.specs.Full.{is_of, IsFull, is_late}
 use Rattle.f2b_model.specs.Lists.{AllOf, IsInOrder, in_order, placed}
 use Rattle.f2b_model.specs.Nows.{comes_before}
 use Rattle.f2b_model.specs.Stands.{StandsFor}
@@ -23,7 +23,7 @@ use Rattle.f2b_model.proofs.StandLemmas.{stands_full}
 use Rattle.f2b_model.proofs.StepLemmas.{all_of-more}
 use Rattle.fail_window.specs.Opened.{Opened}
 use Rattle.jail_moves.specs.declared.addresses.AddrWindow.{AddrWindow}
-use Rattle.jail_moves.specs.Addresses.{Entry, failures_in, own_after, window_at, AreWindows, Enters, Grows, IsHeld, IsOwn, KeepsOthers}
+use Rattle.jail_moves.specs.Addresses.{Entry, failures_in, window_at, AreWindows, Enters, Grows, IsHeld, IsOwn}
 use Rattle.jail_moves.proofs.WindowLists.{filter_all, full_to_own}
 use Rattle.jail_moves.proofs.WindowEntries.{ChangesAt, IsSome, all_insert, all_set, changed_others, changed_own, failures_of, in_order_of, own_of, own_under}
 
@@ -55,6 +55,7 @@ module _ (findtime maxretry now : ℕ) (f : Failure) (fs : List Failure) (old ne
       subst (λ (n : ℕ). StandsFor 0 n old.window.failures fs) (sym span)
       (subst (λ (gs : List Failure). StandsFor 0 findtime gs fs) (sym there) (stands_itself findtime fs long order))
 
+  -- the new window stands for the list with one more failure
   stands : StandsFor now findtime new.window.failures (fs ++ f ∷ [])
   stands = subst (λ (n : ℕ). StandsFor now n new.window.failures (fs ++ f ∷ [])) span (grows.stands 0 fs itself (omega arith))
 
@@ -94,18 +95,20 @@ module _ (findtime maxretry now : ℕ) (f : Failure) (fs : List Failure) (old ne
       let tells = grows.tells 0 fs itself (omega arith) not_full in
       let with_one = stands_full now findtime maxretry new.window.failures fs f unfilled recent stands in (
         λ t. with_one.0 (subst (λ (n : ℕ). IsFull n maxretry f.addr (fs ++ f ∷ [])) span
-        (subst (λ (n : ℕ). IsFull old.window.findtime n f.addr (fs ++ f ∷ [])) most (tells.0 t))),
+            (subst (λ (n : ℕ). IsFull old.window.findtime n f.addr (fs ++ f ∷ [])) most (tells.0 t))),
         λ full. tells.1 (subst (λ (n : ℕ). IsFull n old.window.maxretry f.addr (fs ++ f ∷ [])) (sym span)
-        (subst (λ (n : ℕ). IsFull findtime n f.addr (fs ++ f ∷ [])) (sym most) (with_one.1 full))),
+            (subst (λ (n : ℕ). IsFull findtime n f.addr (fs ++ f ∷ [])) (sym most) (with_one.1 full))),
       )
 
 -- the address's failures in all windows
 abbrev pub own_in : Addr → List Entry → List Failure
 own_in addr es = filter (is_of addr) (failures_in es)
 
+-- an address's failures in all windows are in order
 pub own_in_order : (findtime maxretry : ℕ) (addr : Addr) (es : List Entry) → AreWindows findtime maxretry es → IsInOrder comes_before (own_in addr es)
 own_in_order findtime maxretry addr es w = filter_in_order comes_before failures_order (is_of addr) (failures_in es) (in_order_of findtime maxretry es w)
 
+-- and they are all the address's
 pub own_in_own : (addr : Addr) (es : List Entry) → AllOf (λ (g : Failure). is_of addr g ≡ true) (own_in addr es)
 own_in_own addr es = all_of-kept (λ (g : Failure). is_of addr g ≡ true) (is_of addr) (failures_in es) (λ g h. h)
 
@@ -127,7 +130,7 @@ entered findtime maxretry now f es new_es old new full held recent span most the
       others = changed_others findtime maxretry f.addr (Some new) es new_es held.windows windows changes;
       tells = (
         λ t. full_of_part (is_of f.addr) findtime maxretry f.addr (failures_in new_es)
-        (subst (λ (gs : List Failure). IsFull findtime maxretry f.addr gs) (sym after) (tells.0 t)),
+            (subst (λ (gs : List Failure). IsFull findtime maxretry f.addr gs) (sym after) (tells.0 t)),
         λ full. tells.1 (subst (λ (gs : List Failure). IsFull findtime maxretry f.addr gs) after (full_to_own findtime maxretry f.addr (failures_in new_es) full)),
       );
     }
@@ -141,6 +144,7 @@ pub record Found (findtime maxretry : ℕ) (addr : Addr) (es : List Entry) (w : 
   pub there : w.window.failures ≡ own_in addr es
   pub latest : AllOf (λ (g : Failure). g.time ≤ w.latest) (own_in addr es)
 
+-- a window that is there is the one that was found
 some_same : (v w : AddrWindow) → Some v ≡ Some w → v ≡ w
 some_same v w e = cc
 
@@ -155,6 +159,7 @@ limits_at findtime maxretry k (e ∷ es) w each at =
     subst (λ (v : AddrWindow). (v.window.findtime ≡ findtime) × (v.window.maxretry ≡ maxretry) × AllOf (λ (g : Failure). g.time ≤ v.latest) v.window.failures) same (o.span, o.most, o.latest))
     (λ t. limits_at findtime maxretry k es w each.1 (rw t at at))
 
+-- what stands under an address's key is the address's window
 pub found : (findtime maxretry : ℕ) (addr : Addr) (es : List Entry) (w : AddrWindow) → AreWindows findtime maxretry es → window_at (key_of addr) es ≡ Some w
     → Found findtime maxretry addr es w
 found findtime maxretry addr es w windows at =
@@ -223,10 +228,12 @@ pub same_through : (k : ℕ × ℕ) (m n : BTreeMap (ℕ × ℕ) AddrWindow) (w 
 same_through k m n w new at through same =
     through.0 ∙ ap (λ (v : AddrWindow). set_value (is_at (pair_cmp k)) m.entries v) same ∙ set_same (is_at (pair_cmp k)) m.entries w at
 
+-- what follows from a fact of an `Ok`
 pub ok_then : {T E : Type 0} (P Q : T → Type 0) (r : Result T E) → ((x : T) → P x → Q x) → IfOk r P → IfOk r Q
 ok_then P Q (Ok x) h p = h x p
 ok_then P Q (Err e) h p = tt
 
+-- what follows from a fact of an `Err`
 pub err_then : {T E : Type 0} (P Q : Type 0) (r : Result T E) → (P → Q) → OnErr r P → OnErr r Q
 err_then P Q (Ok x) h p = tt
 err_then P Q (Err e) h p = h p

@@ -1,11 +1,10 @@
 -- Failures in order by address: what the part of each address tells of the whole, before and after one more failure.
-use Rattle.std.proofs.Common.{◌≡◌, ◌↔◌, ℕ, ◌+◌, ◌*◌, ◌<◌, ◌≤◌, Bool, true, false, not, Option, Some, None, List, [], ◌∷◌, ◌++◌, length, refl, sym, ◌∙◌, ap, subst, arith}
-use Rattle.std.specs.Prelude.{is_some, IfSome}
+use Rattle.std.proofs.Common.{◌≡◌, ℕ, ◌+◌, ◌*◌, ◌<◌, ◌≤◌, Bool, true, false, not, List, [], ◌∷◌, refl, sym, ◌∙◌, ap, subst, arith}
 use Rattle.std.specs.List.{filter}
 use Rattle.f2b_base.specs.declared.addr.Addr.{Addr}
 use Rattle.f2b_base.specs.declared.ban.Failure.{Failure}
 use Rattle.f2b_model.specs.Full.{same_addr, is_of, in_span, IsFull, is_full, is_late}
-use Rattle.f2b_model.specs.Lists.{AllOf, IsInOrder, NoneBefore, placed}
+use Rattle.f2b_model.specs.Lists.{AllOf, IsInOrder, placed}
 use Rattle.f2b_model.specs.Moves.{is_near}
 use Rattle.f2b_model.specs.Nows.{comes_before}
 use Rattle.f2b_model.proofs.EndLemmas.{same_addr_same}
@@ -13,7 +12,7 @@ use Rattle.f2b_model.proofs.FullLemmas.{both_true, stands, full_of_part, full_of
 use Rattle.f2b_model.proofs.ListLemmas.{by_test, filter_both, filter_swap, filter_in_order, placed_filter, placed_filter_no, placed_in_order}
 use Rattle.f2b_model.proofs.MarkLemmas.{failures_order}
 use Rattle.f2b_model.proofs.MoveLemmas.{late_before}
-use Rattle.f2b_model.proofs.OrderlyLemmas.{all_of-filter, same_addr_sym}
+use Rattle.f2b_model.proofs.OrderlyLemmas.{same_addr_sym}
 use Rattle.f2b_model.proofs.PartLemmas.{known_by_parts}
 use Rattle.f2b_model.proofs.SoundLemmas.{same_addr_true}
 use Rattle.jail_moves.specs.Added.{with_failure}

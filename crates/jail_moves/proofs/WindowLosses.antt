@@ -1,5 +1,5 @@
 -- A window is taken out, where its address is full or by itself; and windows that hold nothing late go.
-use Rattle.std.proofs.Common.{◌≡◌, ◌↔◌, ℕ, ◌+◌, ◌*◌, ◌<◌, ◌≤◌, Bool, true, false, not, nat_lt, Option, Some, None, List, [], ◌∷◌, ◌++◌, length, refl, sym, ◌∙◌, ap, ap₂, subst, arith, length-append}
+use Rattle.std.proofs.Common.{◌≡◌, ℕ, ◌+◌, ◌*◌, ◌≤◌, Bool, true, false, nat_lt, Option, Some, None, List, [], ◌∷◌, ◌++◌, length, refl, sym, ◌∙◌, ap, subst, arith, length-append}
 use Rattle.std.specs.BTreeMap.{is_at}
 use Rattle.std.specs.List.{filter}
 use Rattle.std.specs.List.Sorted.{IsStrictlySortedBy}
@@ -15,7 +15,6 @@ use Rattle.f2b_model.proofs.FullLemmas.{full_of_part, full_of_test, not_true_bot
 use Rattle.f2b_model.proofs.ListLemmas.{by_test, filter-append}
 use Rattle.f2b_model.proofs.OrderlyLemmas.{all_of-filter}
 use Rattle.f2b_model.proofs.SoundLemmas.{same_addr_true}
-use Rattle.f2b_model.proofs.StepLemmas.{all_of-more}
 use Rattle.jail_moves.specs.declared.addresses.AddrWindow.{AddrWindow}
 use Rattle.jail_moves.specs.Addresses.{Entry, failures_in, is_live, own_after, window_at, AreWindows, Counts, Enters, IsHeld, Loses, Sweeps}
 use Rattle.jail_moves.proofs.WindowLists.{filter_none, full_by_own, full_to_own, other_kept, own_gone, rest_is}
@@ -24,6 +23,7 @@ use Rattle.jail_moves.proofs.WindowCounts.{own_in}
 
 -- ---- a window is taken out
 
+-- an address's entry taken out takes its failures out, and no others
 pub lost : (findtime maxretry : ℕ) (addr : Addr) (old new : List Entry) → AreWindows findtime maxretry old → new ≡ remove_entry (is_at (pair_cmp (key_of addr))) old
     → IsStrictlySortedBy pair_cmp (keys_of new) → ChangesAt addr None old new → Loses findtime maxretry addr old new
 lost findtime maxretry addr old new before is rising changes =
@@ -113,6 +113,7 @@ none_late now findtime latest (f ∷ fs) old a = (older f.time a.0, none_late no
     older : (time : ℕ) → time ≤ latest → nat_lt now (time + 2 * findtime) ≡ false
     older time le = grind (arith, nat_tests)
 
+-- all that is late stays
 late_live : (findtime maxretry now : ℕ) (es : List Entry) → AllOf (IsSome findtime maxretry) es
     → filter (is_late now findtime) (failures_in (filter (is_live now findtime) es)) ≡ filter (is_late now findtime) (failures_in es)
 late_live findtime maxretry now [] each = refl
@@ -146,6 +147,7 @@ fewer_live addr start findtime p (e ∷ es) =
     both : (fs gs : List Failure) → how_many addr start findtime (fs ++ gs) ≡ how_many addr start findtime fs + how_many addr start findtime gs
     both fs gs = ap length (filter-append (in_span addr start findtime) fs gs) ∙ length-append (filter (in_span addr start findtime) fs) (filter (in_span addr start findtime) gs)
 
+-- so a sweep keeps what matters
 pub swept : (findtime maxretry now : ℕ) (old new : List Entry) → IsHeld findtime maxretry old → new ≡ filter (is_live now findtime) old → IsStrictlySortedBy pair_cmp (keys_of new)
     → Sweeps findtime maxretry now old new
 swept findtime maxretry now old new held is rising = record {

@@ -1,5 +1,5 @@
 -- Windows of failures that are read in their order.
-use Rattle.std.proofs.Common.{◌≡◌, ℕ, zero, suc, ◌+◌, ◌*◌, ◌<◌, ◌≤◌, Bool, true, false, not, nat_lt, Option, List, [], ◌∷◌, ◌++◌, length, get_or, take, drop, refl, sym, ◌∙◌, ap, subst, arith, append-nil}
+use Rattle.std.proofs.Common.{◌≡◌, ℕ, zero, suc, ◌+◌, ◌*◌, ◌<◌, ◌≤◌, Bool, true, false, nat_lt, Option, List, [], ◌∷◌, ◌++◌, length, get_or, take, drop, refl, sym, ◌∙◌, ap, subst, arith, append-nil}
 use Rattle.std.specs.List.{filter}
 use Rattle.std.specs.List.Sorted.{IsStrictlySortedBy}
 use Rattle.std.specs.Map.{keys_of}
@@ -37,6 +37,7 @@ pub record IsRead (findtime maxretry at count : ℕ) (fs : List Failure) (es : L
 
 -- ---- parts of lists
 
+-- the first of a list in order are in order
 in_order_take : {A : Type 0} (less : A → A → Bool) (n : ℕ) (xs : List A) → IsInOrder less xs → IsInOrder less (take n xs)
 in_order_take less zero xs o = tt
 in_order_take less (suc n) [] o = tt
@@ -47,11 +48,13 @@ in_order_take {A = A} less (suc n) (x ∷ xs) o = (fewer n xs o.0, in_order_take
     fewer (suc m) [] h = tt
     fewer (suc m) (y ∷ ys) h = (h.0, fewer m ys h.1)
 
+-- and so are the others
 in_order_drop : {A : Type 0} (less : A → A → Bool) (n : ℕ) (xs : List A) → IsInOrder less xs → IsInOrder less (drop n xs)
 in_order_drop less zero xs o = o
 in_order_drop less (suc n) [] o = o
 in_order_drop less (suc n) (x ∷ xs) o = in_order_drop less n xs o.1
 
+-- what holds of each element holds of the first
 all_take : {A : Type 0} (P : A → Type 0) (n : ℕ) (xs : List A) → AllOf P xs → AllOf P (take n xs)
 all_take P zero xs a = tt
 all_take P (suc n) [] a = tt
@@ -99,6 +102,7 @@ time_of_order f g h own =
 rest_from : (fs : List Failure) (i : ℕ) (f : Failure) → i < length fs → f ≡ get_or fs i f → drop i fs ≡ f ∷ drop (i + 1) fs
 rest_from fs i f lt is = drop_more fs i f lt ∙ ap (λ g. g ∷ drop (i + 1) fs) (sym is)
 
+-- the list so far ends with it
 first_to : (fs : List Failure) (i : ℕ) (f : Failure) → i < length fs → f ≡ get_or fs i f → take (i + 1) fs ≡ take i fs ++ f ∷ []
 first_to fs i f lt is = take_more fs i f lt ∙ ap (λ g. take i fs ++ g ∷ []) (sym is)
 

@@ -1,5 +1,5 @@
 -- A whole turn: the windows after a sweep and one more failure, or without an address's.
-use Rattle.std.proofs.Common.{◌≡◌, ℕ, ◌+◌, ◌*◌, ◌<◌, ◌≤◌, Bool, true, false, not, Option, Some, None, Result, Ok, Err, List, [], ◌∷◌, ◌++◌, length, refl, sym, ◌∙◌, ap, subst, arith}
+use Rattle.std.proofs.Common.{◌≡◌, ℕ, ◌+◌, ◌<◌, ◌≤◌, true, false, not, Option, Some, None, Result, Ok, Err, List, length, sym, ◌∙◌, ap, subst}
 use Rattle.std.specs.List.{filter}
 use Rattle.std.specs.Prelude.{is_some}
 use Rattle.std.specs.Option.{IfSome}
@@ -17,7 +17,7 @@ use Rattle.f2b_model.proofs.MarkLemmas.{failures_order}
 use Rattle.f2b_model.proofs.OrderlyLemmas.{all_of-filter}
 use Rattle.f2b_model.proofs.SoundLemmas.{same_addr_true}
 use Rattle.jail_moves.specs.Added.{with_failure, IsAdded}
-use Rattle.jail_moves.specs.Addresses.{Entry, failures_in, own_after, AreWindows, Counts, IsHeld, Loses, Sweeps}
+use Rattle.jail_moves.specs.Addresses.{Entry, failures_in, Counts, IsHeld, Loses, Sweeps}
 use Rattle.jail_moves.proofs.WindowLists.{all_by_parts, full_with, late_with, near_with, other_with, rest_is, with_failure_is}
 use Rattle.jail_moves.proofs.WindowEntries.{in_order_of}
 use Rattle.jail_moves.proofs.WindowCounts.{all_placed, own_in}
@@ -56,10 +56,12 @@ all_counted findtime maxretry now f old new full P here a counts =
     same : (addr : Addr) → same_addr f.addr addr ≡ true → AllOf P (own_in addr new)
     same addr e = subst (λ (a : Addr). AllOf P (own_in a new)) (same_addr_true f.addr addr e) own
 
+-- the same count, said otherwise
 near_same : (full : Option ℕ) (m n : ℕ) → m ≡ n → IfSome full (λ k. k ≡ m) → IfSome full (λ k. k ≡ n)
 near_same None m n e h = h
 near_same (Some k) m n e h = h ∙ e
 
+-- nothing is told where nothing is there
 none_is : (full : Option ℕ) → full ≡ None → is_some full ≡ false
 none_is full e = ap is_some e
 
@@ -67,12 +69,15 @@ none_is full e = ap is_some e
 module _ (findtime maxretry now : ℕ) (f : Failure) (old mid new : List Entry) (full : Option ℕ) (held : IsHeld findtime maxretry old) (not_later : f.time ≤ now)
     (recent : now < f.time + findtime) (forward : AllOf (λ (g : Failure). g.time ≤ now) (failures_in old)) (sweeps : Sweeps findtime maxretry now old mid)
     (counts : Counts findtime maxretry now f mid new full) where
+  -- the failures stand in order before
   old_order : IsInOrder comes_before (failures_in old)
   old_order = in_order_of findtime maxretry old held.windows
 
+  -- after the sweep
   mid_order : IsInOrder comes_before (failures_in mid)
   mid_order = in_order_of findtime maxretry mid sweeps.held.windows
 
+  -- and after the failure
   new_order : IsInOrder comes_before (failures_in new)
   new_order = in_order_of findtime maxretry new counts.held.windows
 
@@ -80,9 +85,11 @@ module _ (findtime maxretry now : ℕ) (f : Failure) (old mid new : List Entry) 
   matters_is : (last : ℕ) → last ≤ now → placed comes_before f (filter (is_late now findtime) (failures_in mid)) ≡ with_failure last now findtime f (failures_in old)
   matters_is last le = ap (λ gs. placed comes_before f gs) sweeps.late ∙ sym (with_failure_is last now findtime f (failures_in old) le recent old_order)
 
+  -- where the address is not full, what is late is what matters then
   stays : is_some full ≡ false → filter (is_late now findtime) (failures_in new) ≡ placed comes_before f (filter (is_late now findtime) (failures_in mid))
   stays none = late_with now findtime f (failures_in mid) (failures_in new) recent mid_order new_order (counts.stays none) counts.others
 
+  -- where it is full, that without the address's
   goes : is_some full ≡ true
       → filter (is_late now findtime) (failures_in new) ≡ filter (λ (g : Failure). not (is_of f.addr g)) (placed comes_before f (filter (is_late now findtime) (failures_in mid)))
   goes some =
@@ -94,6 +101,7 @@ module _ (findtime maxretry now : ℕ) (f : Failure) (old mid new : List Entry) 
       filter_swap (is_late now findtime) (is_of other) (failures_in new) ∙ ap (λ gs. filter (is_late now findtime) gs) (counts.others other e)
       ∙ sym (other_with now findtime f (failures_in mid) other e))
 
+  -- all this is what one more failure does
   pub added : IsAdded now f (record { findtime = findtime; maxretry = maxretry; failures = failures_in old }) (record { findtime = findtime; maxretry = maxretry; failures = failures_in new }) full
   added = record {
     tells = λ last le.

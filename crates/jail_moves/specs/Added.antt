@@ -1,5 +1,5 @@
 -- What one more failure does to the windows of a jail.
-use Rattle.std.specs.Prelude.{◌≡◌, ℕ, ◌≤◌, Bool, true, false, not, Option, None, Some, is_some, IfSome, List, length, filter}
+use Rattle.std.specs.Prelude.{◌≡◌, ℕ, ◌≤◌, true, false, not, Option, None, is_some, IfSome, List, length, filter}
 use Rattle.f2b_base.specs.declared.ban.Failure.{Failure}
 use Rattle.f2b_model.specs.Full.{is_full, is_late, is_of}
 use Rattle.f2b_model.specs.Lists.{AllOf, placed}

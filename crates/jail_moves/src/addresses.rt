@@ -1,13 +1,11 @@
 //! The windows of a jail by address: what goes in, what comes out, and what is too old.
 ghost use Rattle.std.specs.Prelude.{◌≡◌, ℕ, ◌+◌, ◌*◌, ◌<◌, ◌≤◌, [], ◌∷◌, ◌++◌, None, true, nat_lt, length, filter, OnOk, OnErr, IfOk};
-ghost use Rattle.std.specs.Map.{keys_of};
-ghost use Rattle.std.specs.List.Sorted.{IsStrictlySortedBy};
 ghost use Rattle.f2b_base.specs.declared.ban.Failure.{Failure};
 ghost use Rattle.f2b_model.specs.Full.{is_late, is_of};
 ghost use Rattle.f2b_model.specs.Lists.{AllOf};
 ghost use Rattle.f2b_model.specs.Moves.{is_near_to};
-ghost use Rattle.ban_table.specs.Places.{key_of, pair_cmp};
-ghost use Rattle.jail_moves.specs.Addresses.{failures_in, is_live, window_at, AreWindows, Counts, Enters, Grows, IsHeld, Loses, Sweeps};
+ghost use Rattle.ban_table.specs.Places.{key_of};
+ghost use Rattle.jail_moves.specs.Addresses.{failures_in, window_at, AreWindows, Counts, Enters, Grows, IsHeld, Loses, Sweeps};
 
 use crate::bans::same_addr;
 use f2b_base::{Addr, Failure, NoMemory, Plain, Seq};
@@ -150,7 +148,10 @@ fn take_out(windows: &mut ByAddr, addr: Addr, time: u64, findtime: u64) -> u64
     ensures loses { (maxretry : ℕ) → AreWindows findtime maxretry windows.old.entries → Loses findtime maxretry addr windows.old.entries windows.new.entries }
 {
     match remove(windows, addr) {
-        Some(gone) => near_count(gone.window.into_failures().as_slice(), addr, time, findtime) as u64,
+        Some(gone) => {
+            let failures = gone.window.into_failures();
+            near_count(failures.as_slice(), addr, time, findtime) as u64
+        }
         None => 0,
     }
 }

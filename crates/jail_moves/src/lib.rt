@@ -13,5 +13,7 @@ mod room;
 mod unbans;
 mod watches;
 mod windows;
+#[cfg(test)]
+mod windows_tests;
 
 pub use room::Room;

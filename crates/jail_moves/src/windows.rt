@@ -51,7 +51,8 @@ impl Windows {
         }
     }
 
-    /// Windows of failures that stand in order and fill no address. Where they fill one, some are left out.
+    /// Windows of failures that stand in order, fill no address, and were all late at some moment. Where they do not, some are left
+    /// out.
     pub fn of(
         alloc: Global,
         findtime: u64,
@@ -91,7 +92,14 @@ impl Windows {
         ensures added { IfOk result (λ full. IsAdded now failure self.old self.new full) }
     {
         sweep_in_turn(&mut self.by_addr, &mut self.until_sweep, now, self.findtime);
-        count(&mut self.by_addr, self.alloc, self.findtime, self.maxretry, failure, now)
+        count(
+            &mut self.by_addr,
+            self.alloc,
+            self.findtime,
+            self.maxretry,
+            failure,
+            now,
+        )
     }
 
     /// Forgets the failures of an address. Takes no memory.

@@ -2,7 +2,6 @@
 use Rattle.std.proofs.Common.{◌++◌, ◌∙◌, ap, ap₂}
 use Rattle.std.specs.List.{filter}
 use Rattle.f2b_model.specs.Full.{is_late}
-use Rattle.jail_moves.specs.Addresses.{failures_in}
 use Rattle.jail_moves.proofs.WindowEntries.{all_of, all_of-values, copied_all, copied_on}
 use Rattle.jail_moves.proofs.addresses.late_failures.Goals as goal
 

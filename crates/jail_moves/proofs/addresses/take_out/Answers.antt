@@ -8,7 +8,7 @@ use Rattle.jail_moves.proofs.addresses.take_out.Goals as goal
 pub returns-in-Some-clause-near : goal.returns-in-Some-clause-near
 returns-in-Some-clause-near c = λ maxretry windows.
     c.near_count.ensures
-    ∙ ap (λ fs. length (filter (is_near_to c.args.addr c.args.time c.args.findtime) fs)) (c.as_slice-in-Some.ensures ∙ c.into_failures.ensures)
+    ∙ ap (λ fs. length (filter (is_near_to c.args.addr c.args.time c.args.findtime) fs)) (c.as_slice.ensures ∙ c.into_failures-failures.ensures)
     ∙ near_lost c.args.findtime maxretry c.args.time c.args.addr c.args.windows.now.entries (Some c.in-Some.gone) windows (sym c.in-Some.is ∙ c.remove.ensures.value)
 
 pub returns-in-Some-clause-loses : goal.returns-in-Some-clause-loses

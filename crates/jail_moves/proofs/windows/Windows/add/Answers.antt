@@ -1,9 +1,9 @@
 -- A sweep in turn, and the failure is counted.
-use Rattle.std.proofs.Common.{ℕ, Option, ◌≤◌}
+use Rattle.std.proofs.Common.{◌≤◌}
 use Rattle.f2b_base.specs.declared.ban.Failure.{Failure}
 use Rattle.f2b_model.specs.Full.{is_of}
 use Rattle.f2b_model.proofs.OrderlyLemmas.{all_of-filter}
-use Rattle.jail_moves.specs.Addresses.{failures_in, Counts, Sweeps}
+use Rattle.jail_moves.specs.Addresses.{failures_in, Counts}
 use Rattle.jail_moves.proofs.WindowCounts.{ok_then}
 use Rattle.jail_moves.proofs.WindowTurns.{added, held_either}
 use Rattle.jail_moves.proofs.windows.Windows.add.Goals as goal

@@ -1,5 +1,5 @@
 -- One failure after the other.
-use Rattle.std.proofs.Common.{List, sym, ap, subst, ◌≤◌, arith}
+use Rattle.std.proofs.Common.{sym, subst, ◌≤◌}
 use Rattle.std.specs.List.{filter}
 use Rattle.f2b_base.specs.declared.ban.Failure.{Failure}
 use Rattle.f2b_model.specs.Full.{is_of}

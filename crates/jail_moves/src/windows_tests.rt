@@ -1,0 +1,146 @@
+//! Worked rows, through the calls of `Windows`.
+ghost use Rattle.std.specs.Prelude.{◌≡◌, ◌≤◌, IfOk};
+
+use crate::Windows;
+use f2b_base::{Addr, Failure, NoMemory, Text};
+use std::alloc::Global;
+use std::test::Fail;
+
+const FIRST: Addr = Addr::V4(0xc000_0207);
+
+const SECOND: Addr = Addr::V4(0xc000_0208);
+
+const THIRD: Addr = Addr::V6(0xc000_0207);
+
+/// A failure of an address.
+fn failure(alloc: Global, addr: Addr, time: u64) -> Result<Failure, NoMemory>
+    ensures addr { IfOk result (λ failure. failure.addr ≡ addr) }
+    ensures time { IfOk result (λ failure. failure.time ≡ time) }
+{
+    Ok(Failure {
+        addr,
+        time,
+        line: Text::from_str(alloc, "")?,
+    })
+}
+
+/// The places at which an address was full, each with the number of its failures that were near.
+type Filled = Vec<(usize, u64)>;
+
+/// Windows that were given failures, each with its address, its time, and the moment at which it came, and where an address was full.
+/// They stop where a failure would not count.
+fn fed(
+    alloc: Global,
+    findtime: u64,
+    maxretry: u32,
+    rows: &[(Addr, u64, u64)],
+) -> Result<(Windows, Filled), NoMemory>
+    requires findtime { 1 ≤ findtime }
+    requires maxretry { 1 ≤ maxretry }
+{
+    let mut windows = Windows::new(alloc, findtime, maxretry);
+    let mut filled = Vec::new(alloc);
+    let mut last = 0;
+    for (index, &(addr, time, now)) in rows.iter().enumerate() {
+        if now < last || now < time || now - time >= findtime {
+            return Ok((windows, filled));
+        }
+        last = now;
+        if let Some(near) = windows.add(failure(alloc, addr, time)?, now)? {
+            filled.push((index, near))?;
+        }
+    }
+    Ok((windows, filled))
+}
+
+#[test]
+fn addresses_fill_each_for_itself(rt: HostRuntime) -> Result<(), Fail> {
+    let rows: [(u32, &[(Addr, u64, u64)], &[(usize, u64)]); 6] = [
+        (
+            3,
+            &[(FIRST, 100, 100), (FIRST, 300, 300), (FIRST, 699, 699)],
+            &[(2, 3)],
+        ),
+        (
+            3,
+            &[(FIRST, 100, 100), (FIRST, 300, 300), (FIRST, 700, 700)],
+            &[],
+        ),
+        (
+            3,
+            &[
+                (FIRST, 100, 100),
+                (SECOND, 200, 200),
+                (THIRD, 250, 250),
+                (FIRST, 300, 300),
+                (SECOND, 400, 400),
+                (THIRD, 410, 410),
+                (SECOND, 500, 500),
+            ],
+            &[(6, 3)],
+        ),
+        (
+            3,
+            &[
+                (FIRST, 100, 100),
+                (FIRST, 300, 300),
+                (FIRST, 699, 699),
+                (FIRST, 700, 700),
+                (FIRST, 701, 701),
+                (FIRST, 702, 702),
+            ],
+            &[(2, 3), (5, 3)],
+        ),
+        (
+            2,
+            &[(FIRST, 100, 100), (FIRST, 750, 750), (FIRST, 700, 760)],
+            &[(2, 2)],
+        ),
+        (1, &[(THIRD, 5, 5), (THIRD, 5, 5)], &[(0, 1), (1, 1)]),
+    ];
+    for (maxretry, failures, places) in rows {
+        let (_windows, filled) = fed(rt.alloc(), 600, maxretry, failures)?;
+        assert!(rt; filled.as_slice() == places, "{filled:?}");
+    }
+    Ok(())
+}
+
+/// How many failures are kept in all: at the first moment all of them are late.
+fn count_kept(windows: &Windows) -> Result<usize, NoMemory> {
+    Ok(windows.failures(0)?.len())
+}
+
+#[test]
+fn old_addresses_are_not_kept(rt: HostRuntime) -> Result<(), Fail> {
+    let rows = [
+        (FIRST, 100, 100),
+        (SECOND, 100, 100),
+        (THIRD, 200, 200),
+        (SECOND, 2000, 2000),
+    ];
+    let (mut windows, _filled) = fed(rt.alloc(), 600, 9, &rows)?;
+    assert_eq!(rt; count_kept(&windows)?, 1);
+    windows.forget(FIRST);
+    assert_eq!(rt; count_kept(&windows)?, 1);
+    assert_eq!(rt; windows.failures(3199)?.len(), 1);
+    assert_eq!(rt; windows.failures(3200)?.len(), 0);
+    windows.forget(SECOND);
+    assert_eq!(rt; count_kept(&windows)?, 0);
+    Ok(())
+}
+
+/// How many failures are kept of two of an address.
+fn kept_of_two(alloc: Global, maxretry: u32) -> Result<usize, NoMemory>
+    requires { 1 ≤ maxretry }
+{
+    let failures = [failure(alloc, FIRST, 100)?, failure(alloc, FIRST, 300)?];
+    let windows = Windows::of(alloc, 600, maxretry, 300, &failures)?;
+    count_kept(&windows)
+}
+
+#[test]
+fn a_full_window_is_left_out(rt: HostRuntime) -> Result<(), Fail> {
+    assert_eq!(rt; kept_of_two(rt.alloc(), 3)?, 2);
+    assert_eq!(rt; kept_of_two(rt.alloc(), 2)?, 0);
+    Ok(())
+}
