@@ -10,3 +10,4 @@
 
 mod definitions;
 mod each;
+mod stored;
