@@ -1,26 +1,36 @@
 -- What is stored of jails, and jails as they were stored, one after the other.
-use Rattle.std.proofs.Common.{◌≡◌, ℕ, zero, suc, ◌+◌, ◌<◌, ◌≤◌, true, false, List, [], ◌∷◌, ◌++◌, length, get_or, take, map, refl, sym, ◌∙◌, ap, ap₂, subst, arith}
+use Rattle.std.proofs.Common.{◌≡◌, ℕ, zero, suc, ◌+◌, ◌<◌, ◌≤◌, true, false, List, [], ◌∷◌, ◌++◌, length, get_or, take, map, refl, sym, ap, ap₂, subst, arith}
 use Rattle.f2b_base.specs.declared.addr.Addr.{Addr}
+use Rattle.f2b_base.specs.declared.ban.Ban.{Ban}
 use Rattle.f2b_base.specs.declared.ban.Failure.{Failure}
 use Rattle.f2b_base.specs.declared.jail.JailDef.{JailDef}
+use Rattle.f2b_base.specs.declared.job.Job.{Job}
 use Rattle.f2b_base.specs.declared.view.JailView.{JailView}
 use Rattle.f2b_base.specs.declared.view.View.{View}
+use Rattle.f2b_model.specs.declared.jail_now.JailNow.{JailNow}
+use Rattle.f2b_model.specs.Active.{held}
 use Rattle.f2b_model.specs.Full.{IsFull, is_full, is_late}
-use Rattle.f2b_model.specs.Lists.{AllOf}
-use Rattle.f2b_model.specs.Nows.{jail_from, jail_now}
-use Rattle.f2b_model.specs.Sound.{IsGoodJail, IsSoundView}
-use Rattle.f2b_model.specs.Views.{jail_of, jail_view, jails_of}
+use Rattle.f2b_model.specs.Jobs.{ArePending}
+use Rattle.f2b_model.specs.Lanes.{lanes_now}
+use Rattle.f2b_model.specs.Laws.{AreNumbered, AreWatched}
+use Rattle.f2b_model.specs.Lists.{AllOf, IsInOrder}
+use Rattle.f2b_model.specs.Nows.{comes_before, jail_from, jail_now}
+use Rattle.f2b_model.specs.Sound.{IsGoodJail, IsNumbered, IsOnceEach, IsSoundView}
+use Rattle.f2b_model.specs.Steps.{moves}
+use Rattle.f2b_model.specs.Views.{back, gathered, jail_of, jail_view, jails_of}
 use Rattle.f2b_model.proofs.FullLemmas.{full_of_test}
+use Rattle.f2b_model.proofs.LaneBackLemmas.{pending_bounds}
 use Rattle.f2b_model.proofs.ListLemmas.{by_test}
-use Rattle.f2b_model.proofs.MarkLemmas.{open_of-all}
+use Rattle.f2b_model.proofs.MarkLemmas.{active_of-all, open_of-all}
 use Rattle.f2b_model.proofs.StandLemmas.{shown_bounds}
 use Rattle.jail_moves.specs.Rooms.{Contents, jail_in, IsBounded, IsKept, IsStored, IsStoredWell}
 use Rattle.jail_core.specs.Kept.{jails_in, AreKept}
-use Rattle.jail_core.specs.Stored.{AreStored, AreStoredWell}
+use Rattle.jail_core.specs.Stored.{AreStored, AreStoredWell, IsBoundedView}
+use Rattle.lane_moves.specs.Held.{AreById}
 
 -- ---- what is stored
 
--- each jail's definition is bounded, and the limits of its windows are those of its definition
+-- what always holds of jails holds of each
 pub kept_at : (at next i : ℕ) (ds : List JailDef) (cs : List Contents) (d : JailDef) (c : Contents) → i < length ds → AreKept at next ds cs → d ≡ get_or ds i d
     → c ≡ get_or cs i c → IsKept at next d c
 kept_at at next i [] cs d c within kept d_is c_is = absurd (omega arith)
@@ -108,7 +118,7 @@ back_kept at next (d ∷ ds) (v ∷ vs) (c ∷ cs) many back stored = (back.0.ke
 
 -- ---- sound views
 
--- where a test says so of none, no address is full
+-- where no address is full, the test says so of none
 none_by_test : (findtime maxretry : ℕ) (whole fs : List Failure) → ((addr : Addr) → IsFull findtime maxretry addr whole → ⊥)
     → AllOf (λ (f : Failure). is_full findtime maxretry f.addr whole ≡ false) fs
 none_by_test findtime maxretry whole [] none_full = tt
@@ -147,3 +157,51 @@ all_well at (d ∷ ds) (v ∷ vs) good same =
 -- a sound view is stored well
 pub stored_well : (v : View) → IsSoundView v → AreStoredWell v.at v.defs.jails v.jails
 stored_well v sound = all_well v.at v.defs.jails v.jails sound.sound.from.jails.jails (ap (λ (w : View). w.jails) sound.same)
+
+-- what is stored of a sound jail is within its bounds, where its bans are numbered
+jail_stored : (at next : ℕ) (d : JailDef) (v : JailView) → IsGoodJail at (jail_from (jail_of d v)) → jail_view (jail_now (jail_from (jail_of d v))) ≡ v → IsNumbered next v.bans
+    → IsStored at next v
+jail_stored at next d v good same numbered =
+    let shown = shown_bounds at (jail_from (jail_of d v)) good in
+    let failures : (jail_now (jail_from (jail_of d v))).failures ≡ v.failures = ap (λ (w : JailView). w.failures) same in
+    record {
+      in_order = subst (λ (fs : List Failure). IsInOrder comes_before fs) failures shown.in_order;
+      times = subst (λ (fs : List Failure). AllOf (λ (f : Failure). f.time ≤ at) fs) failures shown.none_later;
+      rising = numbered.rising;
+      once = subst (λ (bs : List Ban). IsOnceEach bs) (active_of-all v.bans) good.orderly.once;
+      serials = numbered.below;
+    }
+
+-- and so of all jails, where as many are stored as there are definitions
+all_stored : (at next : ℕ) (ds : List JailDef) (vs : List JailView) → AllOf (IsGoodJail at) (map jail_from (jails_of ds vs))
+    → map jail_view (map jail_now (map jail_from (jails_of ds vs))) ≡ vs → map (λ (j : JailNow). j.definition) (map jail_now (map jail_from (jails_of ds vs))) ≡ ds
+    → AllOf IsBounded ds → AllOf (λ (j : JailNow). IsNumbered next j.bans) (jails_of ds vs) → AreStored at next ds vs
+all_stored at next [] [] good same defined bounded numbered = tt
+all_stored at next [] (v ∷ vs) good same defined bounded numbered = absurd (let h : [] ≡ v ∷ vs = same in cc)
+all_stored at next (d ∷ ds) [] good same defined bounded numbered = absurd (let h : [] ≡ d ∷ ds = defined in cc)
+all_stored at next (d ∷ ds) (v ∷ vs) good same defined bounded numbered =
+    let shown : JailView = jail_view (jail_now (jail_from (jail_of d v))) in
+    let others : List JailView = map jail_view (map jail_now (map jail_from (jails_of ds vs))) in
+    let rest : List JailDef = map (λ (j : JailNow). j.definition) (map jail_now (map jail_from (jails_of ds vs))) in
+    let heads : shown ≡ v = let h : shown ∷ others ≡ v ∷ vs = same in cc in
+    let tails : others ≡ vs = let h : shown ∷ others ≡ v ∷ vs = same in cc in
+    let definitions : rest ≡ ds = let h : d ∷ rest ≡ d ∷ ds = defined in cc in
+    (bounded.0, (jail_stored at next d v good.0 heads numbered.0, all_stored at next ds vs good.1 tails definitions bounded.1 numbered.1))
+
+-- the ids of pending jobs rise
+pub pending_by_id : (from : ℕ) (jobs : List Job) (next : ℕ) → ArePending from jobs next → AreById from jobs next
+pending_by_id from [] next pending = pending
+pending_by_id from (job ∷ jobs) next pending = (pending.0, pending_by_id (job.id + 1) jobs next pending.2)
+
+-- a sound view is within its bounds, where its definitions are, its bans are numbered and each jail watches the paths of its
+-- definition
+pub sound_bounded : (v : View) → IsSoundView v → AllOf IsBounded v.defs.jails → AreNumbered (gathered v).world → AreWatched (gathered v).world → IsBoundedView v
+sound_bounded v sound bounded numbered watched =
+    let from = sound.sound.from in
+    let pending : ArePending 0 (lanes_now (back v).lanes).jobs v.next_job = pending_bounds sound.sound.base (held moves (back v).world) (back v).lanes from.lanes in
+    record {
+      at = from.jails.at;
+      jails = all_stored v.at v.next_ban v.defs.jails v.jails from.jails.jails (ap (λ (w : View). w.jails) sound.same) (ap (λ (w : View). w.defs.jails) sound.same) bounded numbered;
+      watched = watched;
+      jobs = pending_by_id 0 v.jobs v.next_job (subst (λ (jobs : List Job). ArePending 0 jobs v.next_job) (ap (λ (w : View). w.jobs) sound.same) pending);
+    }

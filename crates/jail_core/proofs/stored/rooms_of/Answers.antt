@@ -1,4 +1,4 @@
-use Rattle.std.proofs.Common.{◌≡◌, ℕ, ◌+◌, ◌<◌, length, List, ◌++◌, [], ◌∷◌, sym, ◌∙◌, ap, subst, arith, length-append}
+use Rattle.std.proofs.Common.{◌≡◌, ◌+◌, length, List, ◌++◌, [], ◌∷◌, sym, ◌∙◌, ap, subst, arith, length-append}
 use Rattle.jail_moves.specs.Rooms.{Contents}
 use Rattle.jail_core.proofs.StoredLemmas.{AreBack, IsBack, back_jails, back_kept, back_one_more, stored_at, stored_length}
 use Rattle.jail_core.proofs.stored.rooms_of.Goals as goal

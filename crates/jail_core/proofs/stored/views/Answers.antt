@@ -1,4 +1,4 @@
-use Rattle.std.proofs.Common.{◌≡◌, ℕ, suc, ◌+◌, length, map, take, List, ◌++◌, [], ◌∷◌, sym, ◌∙◌, ap, arith}
+use Rattle.std.proofs.Common.{◌≡◌, suc, ◌+◌, length, map, take, List, ◌++◌, [], ◌∷◌, sym, ◌∙◌, ap, arith}
 use Rattle.f2b_base.specs.declared.view.JailView.{JailView}
 use Rattle.f2b_model.specs.Views.{jail_view}
 use Rattle.jail_moves.specs.Rooms.{jail_in}
