@@ -2,3 +2,4 @@ pub mod EachLemmas
 pub mod LogLemmas
 pub mod PlaceLemmas
 pub mod ReadLemmas
+pub mod StoredLemmas

@@ -5,3 +5,4 @@ mod definitions;
 mod each;
 mod jails;
 mod reads;
+mod stored;
