@@ -1,1 +1,2 @@
+pub mod ConfigureRooms
 pub mod EachLemmas

@@ -1,5 +1,6 @@
 pub mod Configured
 pub mod Each
 pub mod Kept
+pub mod Left
 pub mod Reading
 pub mod Stored

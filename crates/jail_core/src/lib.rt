@@ -8,5 +8,6 @@
 //! found, and what time it is.
 #![tactic(auto)]
 
+mod configure;
 mod definitions;
 mod each;
