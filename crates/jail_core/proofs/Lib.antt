@@ -1,2 +1,3 @@
+pub mod ConfigureLemmas
 pub mod ConfigureRooms
 pub mod EachLemmas
