@@ -11,3 +11,4 @@
 mod configure;
 mod definitions;
 mod each;
+mod same;
