@@ -1,3 +1,5 @@
+pub mod ConfigureLemmas
+pub mod ConfigureRooms
 pub mod EachLemmas
 pub mod LogLemmas
 pub mod PlaceLemmas

@@ -2,5 +2,6 @@ pub mod Configured
 pub mod Each
 pub mod Jails
 pub mod Kept
+pub mod Left
 pub mod Reading
 pub mod Stored

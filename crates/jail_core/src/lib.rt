@@ -7,3 +7,7 @@ mod each;
 mod jails;
 mod reads;
 mod stored;
+mod configure;
+mod definitions;
+mod each;
+mod same;
