@@ -1,6 +1,7 @@
 -- Moves on each of a list of jails, one after the other.
-use Rattle.std.proofs.Common.{◌≡◌, ℕ, zero, suc, ◌+◌, ◌<◌, ◌≤◌, List, [], ◌∷◌, ◌++◌, length, get_or, take, map, refl, sym, ◌∙◌, ap, ap₂, subst, arith, append_assoc}
+use Rattle.std.proofs.Common.{◌≡◌, ℕ, zero, suc, ◌+◌, ◌<◌, ◌≤◌, List, [], ◌∷◌, ◌++◌, length, get_or, take, drop, map, refl, sym, ◌∙◌, ap, ap₂, subst, arith, append_assoc}
 use Rattle.std.proofs.Math.ListN.{set}
+use Rattle.std.proofs.Math.Seq.{take-append_seam}
 use Rattle.std.proofs.lemmas.List.{append-nil}
 use Rattle.f2b_base.specs.declared.jail.JailDef.{JailDef}
 use Rattle.f2b_model.specs.declared.happening.Happening.{Happening}
@@ -90,3 +91,11 @@ pub told_all : (t : JailNow → List Happening) (ds : List JailDef) (cs : List C
 told_all t [] cs e = refl
 told_all t (d ∷ ds) [] e = absurd (omega arith)
 told_all t (d ∷ ds) (c ∷ cs) e = ap (λ r. t (jail_in d c) ++ r) (told_all t ds cs (omega arith))
+
+-- ---- lists that are written over
+
+-- a list written over another one of its length is itself
+pub as_a_whole : {A : Type 0} (new old : List A) (len : ℕ) → length new ≡ length old → len ≡ length old → take len (new ++ drop (length new) old) ≡ new
+as_a_whole new old len same is =
+    let n : len ≡ length new = is ∙ sym same in
+    rw n (take-append_seam new (drop (length new) old))

@@ -1,5 +1,6 @@
 pub mod Configured
 pub mod Each
+pub mod Happened
 pub mod Jails
 pub mod Kept
 pub mod Left

@@ -100,7 +100,13 @@ pub fn limit_in(
     let place = place_of(definitions.as_slice(), name);
     if place < definitions.len() {
         let mut definition = definitions.as_slice()[place].copy()?;
-        limit(alloc, &mut definition, &mut rooms[place], findtime, maxretry);
+        limit(
+            alloc,
+            &mut definition,
+            &mut rooms[place],
+            findtime,
+            maxretry,
+        );
         replace(definitions, place, definition)?;
     }
     Ok(())

@@ -20,7 +20,7 @@ bounds-rooms-place c =
 
 -- the definition that was copied is the one at that place
 own_definition : {A : Type 0} (x y : A) (xs ys : List A) (i : ℕ) → x ≡ y → y ≡ get_or xs i y → xs ≡ ys → x ≡ get_or ys i x
-own_definition x y xs ys i same own list = same ∙ own ∙ ap₂ (λ (r : List A) d. get_or r i d) list (sym same)
+own_definition {A = A} x y xs ys i same own list = same ∙ own ∙ ap₂ (λ (r : List A) d. get_or r i d) list (sym same)
 
 pub limit-requires-clause-bounded : goal.limit-requires-clause-bounded
 limit-requires-clause-bounded c =

@@ -11,7 +11,7 @@ use Rattle.jail_core.specs.Kept.{jails_in, AreKept}
 use Rattle.jail_core.specs.Reading.{banned_each, found_each, read_each, told_each_banned, told_each_found, told_read}
 use Rattle.jail_core.proofs.EachLemmas.{kept_length}
 use Rattle.jail_core.proofs.PlaceLemmas.{at_own_place, in_jail_at, in_jail_none, kept_at, kept_set, told_in_at, told_in_nowhere}
-use Rattle.jail_core.proofs.jails.ban_in.Goals as goal
+use Rattle.jail_core.proofs.within.ban_in.Goals as goal
 
 pub bounds-rooms-place : goal.bounds-rooms-place
 bounds-rooms-place c =
