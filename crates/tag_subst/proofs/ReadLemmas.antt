@@ -114,11 +114,12 @@ module _ (value : Valuation) (depth : ℕ) where
 
 -- ---- a whole text
 
-abbrev deeper_in : Valuation → ℕ → Replacement → Marked → Result Marked TagError
+-- what reads a value where so many more replacements may be asked for
+abbrev pub deeper_in : Valuation → ℕ → Replacement → Marked → Result Marked TagError
 deeper_in value zero r before = Ok before
 deeper_in value (suc left) r before = read value left r.depth r.text before
 
-read-bytes : (value : Valuation) (left depth : ℕ) (text : List ℕ) (kept : Marked) → read value left depth text kept ≡ read_bytes value (deeper_in value left) depth text kept
+pub read-bytes : (value : Valuation) (left depth : ℕ) (text : List ℕ) (kept : Marked) → read value left depth text kept ≡ read_bytes value (deeper_in value left) depth text kept
 unfolding read
 read-bytes value zero depth text kept = refl
 read-bytes value (suc left) depth text kept = refl

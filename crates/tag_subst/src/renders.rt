@@ -25,7 +25,7 @@ fn value_of(alloc: Global, name: &str, fill: &Fill) -> Result<Option<Text>, NoMe
     ensures { IfOk result (λ value. value ≡ value_of fill.now name.now) }
 {
     let Fill {
-        ip: _,
+        ip,
         family,
         failures,
         time,
@@ -34,8 +34,8 @@ fn value_of(alloc: Global, name: &str, fill: &Fill) -> Result<Option<Text>, NoMe
         matches,
     } = fill;
     let value = match name {
-        "ip" => match fill.ip {
-            Some(addr) => printed(alloc, addr)?,
+        "ip" => match ip {
+            Some(addr) => printed(alloc, *addr)?,
             None => String::new(alloc),
         },
         "family" => String::from_str(alloc, family_text(*family))?,
