@@ -1,7 +1,7 @@
 -- When nothing is left to be replaced in a text, and which faults there are.
-use Rattle.std.proofs.Common.{◌≡◌, ◌≢◌, ℕ, zero, suc, ◌+◌, ◌-◌, ◌<◌, ◌≤◌, ◌⊎◌, inl, inr, Bool, true, false, cond, ◌==◌, nat_lt, max, List, [], ◌∷◌, ◌++◌, length, take, drop, replicate, append_assoc, append-nil, Option, Some, None, Result, Ok, Err, refl, sym, subst, ap, ap₂, ◌∙◌, arith, take-append-drop}
+use Rattle.std.proofs.Common.{◌≡◌, ℕ, zero, suc, ◌+◌, ◌-◌, ◌⊎◌, inl, inr, ◌==◌, nat_lt, max, List, [], ◌∷◌, ◌++◌, length, take, drop, replicate, append_assoc, append-nil, Option, Some, None, Result, Ok, Err, refl, sym, subst, ap, ap₂, ◌∙◌, take-append-drop}
 use Rattle.std.specs.Prelude.{fold, ◌&&◌, not}
-use Rattle.std.proofs.lemmas.Bool.{cases_Bool, eqb-true, both_ways, le-leb}
+use Rattle.std.proofs.lemmas.Bool.{cases_Bool, eqb-true, both_ways}
 use Rattle.ini_interp.specs.declared.value_error.InterpError.{InterpError}
 use Rattle.ini_interp.specs.declared.value_error.InterpError.TheVariants as interp
 use Rattle.ini_interp.specs.Sections.{Sections}
@@ -13,7 +13,7 @@ use Rattle.tag_subst.specs.Errors.{tag_fault}
 use Rattle.tag_subst.specs.Marked.{Marked, no_text, added, cut}
 use Rattle.tag_subst.specs.Names.{name_start, is_open, open_name, is_reserved}
 use Rattle.tag_subst.specs.TagLaws.{IsWithoutValue, IsDone, TagLaw}
-use Rattle.tag_subst.specs.Tags.{Valuation, tag_depth, replacement, asked, closed, onward, replaced_by, read_byte, read_bytes, read, text_of, substituted}
+use Rattle.tag_subst.specs.Tags.{Valuation, tag_depth, replacement, asked, closed, onward, replaced_by, read_byte, read_bytes, read, text_of}
 use Rattle.tag_subst.specs.Values.{tag_value}
 use Rattle.tag_subst.proofs.ReadLemmas.{deeper_in, read-bytes}
 

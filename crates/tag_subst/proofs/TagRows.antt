@@ -1,5 +1,5 @@
 -- Worked rows of static tags, which compute from the definitions alone.
-use Rattle.std.proofs.Common.{◌≡◌, ℕ, List, [], ◌∷◌, ◌++◌, Ok, Err, refl, codes}
+use Rattle.std.proofs.Common.{◌≡◌, [], ◌∷◌, Ok, Err, refl, codes}
 use Rattle.ini_interp.specs.declared.value_error.InterpError.TheVariants as interp
 use Rattle.ini_interp.specs.References.{referred, percent_piece, piece_at, pieces_from}
 use Rattle.ini_interp.specs.Sections.{Sections, raw}

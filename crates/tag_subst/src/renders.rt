@@ -1,7 +1,7 @@
 //! Commands with their dynamic tags filled in.
-ghost use Rattle.std.specs.Prelude.{◌≡◌, ◌<◌, ◌==◌, ◌∷◌, ◌++◌, [], length, is_some, unwrap_or, option_copied, IfOk, IfSome, OnOk};
+ghost use Rattle.std.specs.Prelude.{◌≡◌, ◌<◌, ◌==◌, ◌∷◌, ◌++◌, length, option_copied, IfOk, IfSome, OnOk};
 ghost use Rattle.std.specs.List.{slice_split};
-ghost use Rattle.f2b_model.specs.Render.{value_of, family_text, part_value, filled, filled_after, rendered};
+ghost use Rattle.f2b_model.specs.Render.{value_of, family_text, part_value, filled, rendered};
 ghost use Rattle.tag_subst.specs.Parts.{parts_of};
 
 use crate::addresses::printed;

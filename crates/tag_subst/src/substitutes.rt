@@ -1,5 +1,5 @@
 //! Texts with their static tags replaced.
-ghost use Rattle.std.specs.Prelude.{◌≡◌, ◌≢◌, ◌≤◌, ◌-◌, ℕ, IfOk, IfErr, OnOk};
+ghost use Rattle.std.specs.Prelude.{◌≡◌, ◌≢◌, ◌≤◌, ◌-◌, IfOk, IfErr, OnOk};
 ghost use Rattle.ini_interp.specs.declared.value_error.InterpError.TheVariants as interp;
 ghost use Rattle.tag_subst.specs.Tags.{closed, read, substituted};
 ghost use Rattle.tag_subst.specs.Values.{tag_value};

@@ -1,8 +1,7 @@
-use Rattle.std.proofs.Common.{◌≡◌, ◌∙◌, ◌-◌, ◌+◌, ◌≤◌, ℕ, Option, None, Some, Result, Ok, lit<, sym, ap, rules, arith}
+use Rattle.std.proofs.Common.{◌≡◌, ◌∙◌, ◌-◌, Option, None, Some, Ok, lit<, sym, ap, rules, arith}
 use Rattle.std.proofs.lemmas.Result.{err_from_is_err_and}
 use Rattle.std.proofs.lemmas.Str.Pattern.{split_parts}
 use Rattle.tag_subst.specs.declared.substitutes.Replacement.{Replacement}
-use Rattle.tag_subst.specs.declared.tag_error.TagError.{TagError}
 use Rattle.tag_subst.specs.Marked.{cut}
 use Rattle.tag_subst.specs.Tags.{closed, read}
 use Rattle.tag_subst.specs.Values.{tag_value}
