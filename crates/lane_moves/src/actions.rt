@@ -15,7 +15,8 @@ use f2b_model::Happening;
 use std::alloc::Global;
 use std::marker::Model;
 
-/// The lanes that are up, whether a stop was asked for, and the jobs that are not settled.
+/// The lanes that are up, whether a stop was asked for, and the jobs that are not settled. After an error of a call that changes them
+/// some of its jobs may be made and others not: let them go.
 #[derive(Drop)]
 pub struct Actions {
     alloc: Global,

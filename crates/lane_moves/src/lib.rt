@@ -11,6 +11,8 @@ mod families;
 mod fills;
 mod held;
 mod orders;
+#[cfg(test)]
+mod tests;
 mod texts;
 mod up;
 

@@ -1,5 +1,7 @@
+pub mod DoneLemmas
 pub mod EscapeLemmas
 pub mod FillLemmas
 pub mod PartLemmas
 pub mod ReadLemmas
+pub mod TagRows
 pub mod ValueLemmas

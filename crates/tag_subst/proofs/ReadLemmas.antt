@@ -1,8 +1,8 @@
 -- How a text with tags is read, from one `>` to the next.
-use Rattle.std.proofs.Common.{◌≡◌, ◌≢◌, ℕ, zero, suc, ◌+◌, ◌-◌, ◌<◌, ◌≤◌, inl, inr, Bool, true, false, cond, ◌==◌, nat_lt, max, List, [], ◌∷◌, ◌++◌, length, get_or, drop, replicate, append_assoc, append-nil, Option, Some, None, Result, Ok, Err, refl, sym, subst, ap, ap₂, ◌∙◌, arith}
+use Rattle.std.proofs.Common.{◌≡◌, ◌≢◌, ℕ, zero, suc, ◌+◌, ◌-◌, ◌<◌, ◌≤◌, inl, inr, false, ◌==◌, nat_lt, max, List, [], ◌∷◌, ◌++◌, length, get_or, drop, replicate, append_assoc, append-nil, Option, Some, None, Result, Ok, Err, refl, sym, subst, ap, ap₂, ◌∙◌, arith}
 use Rattle.std.specs.Prelude.{fold, ◌&&◌, not}
 use Rattle.std.proofs.Common.{ne_eqb}
-use Rattle.std.proofs.lemmas.Bool.{cases_Bool, and_parts, ltb-false, ltb-true, eqb-true}
+use Rattle.std.proofs.lemmas.Bool.{cases_Bool, and_parts, ltb-false, eqb-true}
 use Rattle.ini_interp.specs.declared.value_error.InterpError.{InterpError}
 use Rattle.ini_interp.specs.Values.{most_depth}
 use Rattle.tag_subst.specs.declared.substitutes.Replacement.{Replacement}
@@ -114,11 +114,12 @@ module _ (value : Valuation) (depth : ℕ) where
 
 -- ---- a whole text
 
-abbrev deeper_in : Valuation → ℕ → Replacement → Marked → Result Marked TagError
+-- what reads a value where so many more replacements may be asked for
+abbrev pub deeper_in : Valuation → ℕ → Replacement → Marked → Result Marked TagError
 deeper_in value zero r before = Ok before
 deeper_in value (suc left) r before = read value left r.depth r.text before
 
-read-bytes : (value : Valuation) (left depth : ℕ) (text : List ℕ) (kept : Marked) → read value left depth text kept ≡ read_bytes value (deeper_in value left) depth text kept
+pub read-bytes : (value : Valuation) (left depth : ℕ) (text : List ℕ) (kept : Marked) → read value left depth text kept ≡ read_bytes value (deeper_in value left) depth text kept
 unfolding read
 read-bytes value zero depth text kept = refl
 read-bytes value (suc left) depth text kept = refl

@@ -1,7 +1,6 @@
 -- The value of a tag without a slash.
-use Rattle.std.proofs.Common.{◌≡◌, ℕ, Bool, cond, List, length, Option, Result, sym, ap}
+use Rattle.std.proofs.Common.{◌≡◌, ℕ, Bool, cond, List, length, ap}
 use Rattle.std.specs.List.{position_or_len, before_first, after_first}
-use Rattle.ini_interp.specs.declared.value_error.InterpError.{InterpError}
 use Rattle.ini_interp.specs.Sections.{Sections}
 use Rattle.ini_interp.specs.Values.{Scope, is_slash, value_in}
 use Rattle.ini_interp.proofs.ScopeLemmas.{none_passes}

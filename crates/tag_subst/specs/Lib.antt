@@ -3,5 +3,6 @@ pub mod Escapes
 pub mod Marked
 pub mod Names
 pub mod Parts
+pub mod TagLaws
 pub mod Tags
 pub mod Values

@@ -8,6 +8,7 @@
 mod addresses;
 mod escapes;
 mod groups;
+mod laws;
 mod names;
 mod renders;
 mod settled;
@@ -18,6 +19,7 @@ mod tag_values;
 mod tests;
 
 pub use escapes::escape;
+pub use laws::tag_law;
 pub use renders::render;
 pub use substitutes::substitute;
 pub use tag_error::TagError;

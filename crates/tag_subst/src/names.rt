@@ -1,5 +1,5 @@
 //! Which part of a text is a static tag.
-ghost use Rattle.std.specs.Prelude.{◌≡◌, ◌≤◌, ◌-◌, ◌+◌, length, IsTrue};
+ghost use Rattle.std.specs.Prelude.{◌≡◌, ◌≤◌, ◌-◌, length};
 ghost use Rattle.tag_subst.specs.Names.{is_name_byte, begins_name, name_start, is_open_at, is_listed, is_reserved};
 
 use crate::groups::opens_group;

@@ -1,7 +1,7 @@
 //! Commands with their dynamic tags filled in.
-ghost use Rattle.std.specs.Prelude.{◌≡◌, ◌<◌, ◌==◌, ◌∷◌, ◌++◌, [], length, is_some, unwrap_or, option_copied, IfOk, IfSome, OnOk};
+ghost use Rattle.std.specs.Prelude.{◌≡◌, ◌<◌, ◌==◌, ◌∷◌, ◌++◌, length, option_copied, IfOk, IfSome, OnOk};
 ghost use Rattle.std.specs.List.{slice_split};
-ghost use Rattle.f2b_model.specs.Render.{value_of, family_text, part_value, filled, filled_after, rendered};
+ghost use Rattle.f2b_model.specs.Render.{value_of, family_text, part_value, filled, rendered};
 ghost use Rattle.tag_subst.specs.Parts.{parts_of};
 
 use crate::addresses::printed;
@@ -25,7 +25,7 @@ fn value_of(alloc: Global, name: &str, fill: &Fill) -> Result<Option<Text>, NoMe
     ensures { IfOk result (λ value. value ≡ value_of fill.now name.now) }
 {
     let Fill {
-        ip: _,
+        ip,
         family,
         failures,
         time,
@@ -34,8 +34,8 @@ fn value_of(alloc: Global, name: &str, fill: &Fill) -> Result<Option<Text>, NoMe
         matches,
     } = fill;
     let value = match name {
-        "ip" => match fill.ip {
-            Some(addr) => printed(alloc, addr)?,
+        "ip" => match ip {
+            Some(addr) => printed(alloc, *addr)?,
             None => String::new(alloc),
         },
         "family" => String::from_str(alloc, family_text(*family))?,

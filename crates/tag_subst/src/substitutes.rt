@@ -1,5 +1,6 @@
 //! Texts with their static tags replaced.
-ghost use Rattle.std.specs.Prelude.{◌≡◌, ◌≢◌, ◌≤◌, ◌-◌, ℕ, IfOk, IfErr, OnOk};
+ghost use Rattle.std.specs.Prelude.{◌≡◌, ◌≢◌, ◌≤◌, ◌-◌, IfOk, IfErr, OnOk};
+ghost use Rattle.ini_interp.specs.declared.value_error.InterpError.TheVariants as interp;
 ghost use Rattle.tag_subst.specs.Tags.{closed, read, substituted};
 ghost use Rattle.tag_subst.specs.Values.{tag_value};
 
@@ -82,14 +83,8 @@ fn read(
             None => kept.add(">", depth)?,
             Some(value) => {
                 kept.cut(value.place);
-                read(
-                    alloc,
-                    sections,
-                    scope,
-                    value.depth,
-                    value.text.as_str(),
-                    kept,
-                )?;
+                let inner = value.text.as_str();
+                read(alloc, sections, scope, value.depth, inner, kept)?;
             }
         }
         rest = behind;
@@ -98,9 +93,8 @@ fn read(
     Ok(())
 }
 
-/// The text with its static tags replaced by the values that their items have in the scope.
-///
-/// Want of memory leaves nothing behind. A tag whose item has no value stays as it is written.
+/// The text with its static tags replaced by the values that their items have in the scope, the innermost first, and again in what
+/// they are replaced by, at most ten deep. A tag whose item has no value stays as it is written.
 pub fn substitute(
     alloc: Global,
     text: &str,
@@ -112,6 +106,9 @@ pub fn substitute(
     // The first fault from the left, or want of memory.
     ensures fault { IfErr result (λ fault. fault ≢ TagError.NoMemory
         → substituted items.now scope.now text.now ≡ Err fault) }
+
+    // Want of memory has one name.
+    ensures told { IfErr result (λ fault. fault ≢ TagError.Interp interp.NoMemory) }
 {
     let mut kept = Settled::new(alloc);
     read(alloc, items, scope, 0, text, &mut kept)?;

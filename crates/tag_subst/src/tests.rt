@@ -3,7 +3,7 @@
 use crate::{TagError, escape, render, substitute};
 use f2b_base::{Addr, Family, NoMemory, Seq, Text};
 use f2b_model::Fill;
-use ini_interp::{InterpError, Sections};
+use ini_interp::{InterpError, Sections, read_file};
 use std::alloc::Global;
 use std::test::Fail;
 
@@ -34,6 +34,14 @@ fn shown(alloc: Global, answer: Result<Text, TagError>) -> Result<String, NoMemo
     }
 }
 
+/// Items of the scope of an action, and of sections outside it.
+const ITEMS: &[u8] =
+    b"[Init]\nport=ssh\n[Init?family=inet6]\nport=six\n[Definition]\na=1\nb=<a>\nc=a\ntwo=<c><c>\nempty=\nless=<\ngroup=(?\nip=item\nf-x=fx\nq=%(a)s\nbad=x%\ngone=%(nowhere)s\nloop=<loop>\n[DEFAULT]\nd=def\n[other]\ny=5\nz=%(y)s\nw=%(a)s\n";
+
+/// Items that stand in one another.
+const CHAIN: &[u8] =
+    b"[Definition]\nd0=<d1>\nd1=<d2>\nd2=<d3>\nd3=<d4>\nd4=<d5>\nd5=<d6>\nd6=<d7>\nd7=<d8>\nd8=<d9>\nd9=<d10>\nd10=end\ne=d1\nempty=\n";
+
 /// The scope of an action.
 fn scope(alloc: Global) -> Result<Seq<Text>, NoMemory> {
     let mut scope = Seq::new(alloc);
@@ -44,34 +52,11 @@ fn scope(alloc: Global) -> Result<Seq<Text>, NoMemory> {
     Ok(scope)
 }
 
-/// Items of that scope, and of sections outside it.
-fn items(alloc: Global) -> Result<Sections, NoMemory> {
-    let mut items = Sections::new(alloc);
-    for (section, name, value) in [
-        ("]options", "port", "2222"),
-        ("]options", "o", "opt"),
-        ("Init", "port", "ssh"),
-        ("Init?family=inet6", "port", "six"),
-        ("Definition", "a", "1"),
-        ("Definition", "b", "<a>"),
-        ("Definition", "c", "a"),
-        ("Definition", "two", "<c><c>"),
-        ("Definition", "empty", ""),
-        ("Definition", "less", "<"),
-        ("Definition", "group", "(?"),
-        ("Definition", "ip", "item"),
-        ("Definition", "f-x", "fx"),
-        ("Definition", "q", "%(a)s"),
-        ("Definition", "bad", "x%"),
-        ("Definition", "gone", "%(nowhere)s"),
-        ("Definition", "loop", "<loop>"),
-        ("DEFAULT", "d", "def"),
-        ("other", "y", "5"),
-        ("other", "z", "%(y)s"),
-        ("other", "w", "%(a)s"),
-    ] {
-        items.put(section, name, value)?;
-    }
+/// The items, with options.
+fn items(alloc: Global) -> Result<Sections, Fail> {
+    let mut items = read_file(alloc, ITEMS)?;
+    items.put("]options", "port", "2222")?;
+    items.put("]options", "o", "opt")?;
     Ok(items)
 }
 
@@ -89,20 +74,14 @@ fn replaces_static_tags(rt: HostRuntime) -> Result<(), Fail> {
         ("<two>", "= aa"),
         ("<empty>", "= "),
         ("<q>", "= 1"),
+        ("%<a>", "= %1"),
         // Tags in tags.
         ("<<c>>", "= 1"),
         ("<<c>", "= <a"),
         ("<c>>", "= a>"),
         ("<less>a>", "= 1"),
-        ("<less>c>", "= a"),
         ("<less><c>>", "= 1"),
         ("<a<empty>>", "= 1"),
-        // Names without a value.
-        ("<no>", "= <no>"),
-        ("<no<c>>", "= <noa>"),
-        ("<<no>>", "= <<no>>"),
-        ("<<no><a>>", "= <<no>1>"),
-        ("<less>no>", "= <no>"),
     ] {
         let got = shown(rt.alloc(), substitute(rt.alloc(), text, &items, &scope))?;
         assert_eq!(rt; got.as_str(), want);
@@ -111,7 +90,7 @@ fn replaces_static_tags(rt: HostRuntime) -> Result<(), Fail> {
 }
 
 #[test]
-fn leaves_what_is_no_static_tag(rt: HostRuntime) -> Result<(), Fail> {
+fn leaves_what_is_no_tag(rt: HostRuntime) -> Result<(), Fail> {
     let items = items(rt.alloc())?;
     let scope = scope(rt.alloc())?;
     for (text, want) in [
@@ -131,6 +110,23 @@ fn leaves_what_is_no_static_tag(rt: HostRuntime) -> Result<(), Fail> {
         ("[(]?<a>", "= [(]?1"),
         ("(?<x<c>>", "= (?<xa>"),
         ("<group><a>", "= (?<a>"),
+    ] {
+        let got = shown(rt.alloc(), substitute(rt.alloc(), text, &items, &scope))?;
+        assert_eq!(rt; got.as_str(), want);
+    }
+    Ok(())
+}
+
+#[test]
+fn leaves_tags_without_an_item(rt: HostRuntime) -> Result<(), Fail> {
+    let items = items(rt.alloc())?;
+    let scope = scope(rt.alloc())?;
+    for (text, want) in [
+        ("<no>", "= <no>"),
+        ("<no<c>>", "= <noa>"),
+        ("<<no>>", "= <<no>>"),
+        ("<<no><a>>", "= <<no>1>"),
+        ("<less>no>", "= <no>"),
         // Reserved names.
         ("<ip> <br> <matches>", "= <ip> <br> <matches>"),
         ("<HOST> <ADDR>", "= <HOST> <ADDR>"),
@@ -138,6 +134,12 @@ fn leaves_what_is_no_static_tag(rt: HostRuntime) -> Result<(), Fail> {
         ("<F-X>", "= <F-X>"),
         ("<f-x>", "= fx"),
         ("<known/ip>", "= item"),
+        // The first fault from the left.
+        ("<bad>", "percent 1"),
+        ("<gone>", "missing nowhere"),
+        ("<loop><bad>", "too deep loop"),
+        ("<bad><loop>", "percent 1"),
+        ("<no><gone>", "missing nowhere"),
     ] {
         let got = shown(rt.alloc(), substitute(rt.alloc(), text, &items, &scope))?;
         assert_eq!(rt; got.as_str(), want);
@@ -166,14 +168,6 @@ fn looks_in_sections(rt: HostRuntime) -> Result<(), Fail> {
         ("<none/a>", "= <none/a>"),
         ("<DEFAULT/d>", "= def"),
         ("<default/d>", "= <default/d>"),
-        // The first fault from the left.
-        ("<bad>", "percent 1"),
-        ("<gone>", "missing nowhere"),
-        ("<loop>", "too deep loop"),
-        ("<loop><bad>", "too deep loop"),
-        ("<bad><loop>", "percent 1"),
-        ("<no><gone>", "missing nowhere"),
-        ("%<a>", "= %1"),
     ] {
         let got = shown(rt.alloc(), substitute(rt.alloc(), text, &items, &scope))?;
         assert_eq!(rt; got.as_str(), want);
@@ -183,25 +177,7 @@ fn looks_in_sections(rt: HostRuntime) -> Result<(), Fail> {
 
 #[test]
 fn replaces_ten_deep(rt: HostRuntime) -> Result<(), Fail> {
-    let mut items = Sections::new(rt.alloc());
-    for (name, value) in [
-        ("d0", "<d1>"),
-        ("d1", "<d2>"),
-        ("d2", "<d3>"),
-        ("d3", "<d4>"),
-        ("d4", "<d5>"),
-        ("d5", "<d6>"),
-        ("d6", "<d7>"),
-        ("d7", "<d8>"),
-        ("d8", "<d9>"),
-        ("d9", "<d10>"),
-        ("d10", "end"),
-        ("e", "d1"),
-        ("g9", "<ip><Definition/Gone>"),
-        ("empty", ""),
-    ] {
-        items.put("Definition", name, value)?;
-    }
+    let mut items = read_file(rt.alloc(), CHAIN)?;
     let scope = scope(rt.alloc())?;
     for (text, want) in [
         ("<d1>", "= end"),
@@ -212,18 +188,14 @@ fn replaces_ten_deep(rt: HostRuntime) -> Result<(), Fail> {
         ("<<e>>", "too deep d10"),
         ("<d1<empty>>", "= end"),
         ("<d1<d2>>", "= <d1end>"),
-        ("<g9>", "= <ip><Definition/Gone>"),
     ] {
         let got = shown(rt.alloc(), substitute(rt.alloc(), text, &items, &scope))?;
         assert_eq!(rt; got.as_str(), want);
     }
     // The depth is tested before the look-up, and a reserved name has none.
-    items.put("Definition", "d10", "<g9>")?;
-    let absent = shown(rt.alloc(), substitute(rt.alloc(), "<d1>", &items, &scope))?;
-    assert_eq!(rt; absent.as_str(), "too deep g9");
     items.put("Definition", "d10", "<ip><Definition/Gone>")?;
-    let behind = shown(rt.alloc(), substitute(rt.alloc(), "<d1>", &items, &scope))?;
-    assert_eq!(rt; behind.as_str(), "too deep Gone");
+    let absent = shown(rt.alloc(), substitute(rt.alloc(), "<d1>", &items, &scope))?;
+    assert_eq!(rt; absent.as_str(), "too deep Gone");
     Ok(())
 }
 

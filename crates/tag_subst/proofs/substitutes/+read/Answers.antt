@@ -1,8 +1,7 @@
-use Rattle.std.proofs.Common.{◌≡◌, ◌∙◌, ◌-◌, ◌+◌, ◌≤◌, ℕ, Option, None, Some, Result, Ok, lit<, sym, ap, rules, arith}
+use Rattle.std.proofs.Common.{◌≡◌, ◌∙◌, ◌-◌, Option, None, Some, Ok, lit<, sym, ap, rules, arith}
 use Rattle.std.proofs.lemmas.Result.{err_from_is_err_and}
 use Rattle.std.proofs.lemmas.Str.Pattern.{split_parts}
 use Rattle.tag_subst.specs.declared.substitutes.Replacement.{Replacement}
-use Rattle.tag_subst.specs.declared.tag_error.TagError.{TagError}
 use Rattle.tag_subst.specs.Marked.{cut}
 use Rattle.tag_subst.specs.Tags.{closed, read}
 use Rattle.tag_subst.specs.Values.{tag_value}
@@ -41,8 +40,8 @@ returns-in_err-read-in-Some-2-clause-fault t c =
     let split = split_parts 62 c.loop-plain.rest.now (Some (c.in-Some.plain, c.in-Some.behind)) c.in-Some.ensures.cases (lit< tt) in
     let found : closed value c.args.depth c.add.new.self ≡ Ok (Some c.in-Some-2.value) =
     c.in_ok-closed.ensures.ok ∙ ap (λ (found : Option Replacement). Ok found) c.in-Some-2.is in
-    let same = read-same value (10 - c.in-Some-2.value.depth) c.in-Some-2.value.depth c.as_str.result.now c.in-Some-2.value.text c.cut.new.self
-    (cut c.in-Some-2.value.place c.add.new.self) c.as_str.ensures.value c.cut.ensures in
+    let same = read-same value (10 - c.in-Some-2.value.depth) c.in-Some-2.value.depth c.as_str-inner.result.now c.in-Some-2.value.text c.cut.new.self
+    (cut c.in-Some-2.value.place c.add.new.self) c.as_str-inner.ensures.value c.cut.ensures in
     let p = err_from_is_err_and c.from_residual-in_err-read-in-Some-2.result c.from_residual-in_err-read-in-Some-2.ensures.1 in
     rw (p.1, p.2)
     (λ known. c.loop-plain.invariant.1
@@ -68,8 +67,8 @@ loop-plain-preserved t c =
     let split = split_parts 62 c.loop-plain.rest.now (Some (c.in-Some.plain, c.in-Some.behind)) c.in-Some.ensures.cases (lit< tt) in
     let found : closed value c.args.depth c.add.new.self ≡ Ok (Some c.in-Some-2.value) =
     c.in_ok-closed.ensures.ok ∙ ap (λ (found : Option Replacement). Ok found) c.in-Some-2.is in
-    let same = read-same value (10 - c.in-Some-2.value.depth) c.in-Some-2.value.depth c.as_str.result.now c.in-Some-2.value.text c.cut.new.self
-    (cut c.in-Some-2.value.place c.add.new.self) c.as_str.ensures.value c.cut.ensures in (
+    let same = read-same value (10 - c.in-Some-2.value.depth) c.in-Some-2.value.depth c.as_str-inner.result.now c.in-Some-2.value.text c.cut.new.self
+    (cut c.in-Some-2.value.place c.add.new.self) c.as_str-inner.ensures.value c.cut.ensures in (
       search rules,
       c.loop-plain.invariant.1
           ∙ read-replaced value (10 - c.args.depth) c.args.depth c.loop-plain.rest.now c.in-Some.plain.now c.in-Some.behind.now c.loop-plain.kept c.add.new.self split.0
