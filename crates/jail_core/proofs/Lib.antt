@@ -1,3 +1,4 @@
+pub mod CoreLemmas
 pub mod ConfigureLemmas
 pub mod ConfigureRooms
 pub mod EachLemmas

@@ -56,7 +56,11 @@ impl Model for Jails {
 }
 
 /// The active bans of each jail.
-fn held_each(definitions: &[JailDef], rooms: &[Room], alloc: Global) -> Result<Vec<JailBans>, NoMemory>
+fn held_each(
+    definitions: &[JailDef],
+    rooms: &[Room],
+    alloc: Global,
+) -> Result<Vec<JailBans>, NoMemory>
     requires { length rooms.now ≡ length definitions.now }
     ensures { IfOk result (λ held. held_of held.items ≡ held_by moves_now (jails_in definitions.now rooms.now)) }
 {
@@ -122,7 +126,12 @@ impl Jails {
         ensures { IsSoundView view.now → IfOk result (λ jails. jails ≡ (gathered view.now).world) }
     {
         let defs = view.defs.copy()?;
-        let rooms = rooms_of(alloc, view.defs.jails.as_slice(), view.jails.as_slice(), view.at)?;
+        let rooms = rooms_of(
+            alloc,
+            view.defs.jails.as_slice(),
+            view.jails.as_slice(),
+            view.at,
+        )?;
         Ok(Jails {
             alloc,
             at: view.at,
@@ -171,14 +180,22 @@ impl Jails {
     pub fn views(&self) -> Result<Seq<JailView>, NoMemory>
         ensures { IfOk result (λ views. views ≡ map jail_view self.now.jails) }
     {
-        views(self.alloc, self.defs.jails.as_slice(), self.rooms.as_slice())
+        views(
+            self.alloc,
+            self.defs.jails.as_slice(),
+            self.rooms.as_slice(),
+        )
     }
 
     /// The active bans of each jail.
     pub fn held(&self) -> Result<Vec<JailBans>, NoMemory>
         ensures { IfOk result (λ held. held_of held.items ≡ held moves_now self.now) }
     {
-        held_each(self.defs.jails.as_slice(), self.rooms.as_slice(), self.alloc)
+        held_each(
+            self.defs.jails.as_slice(),
+            self.rooms.as_slice(),
+            self.alloc,
+        )
     }
 
     /// The jails at a reading, once the bans that are due have ended; tells of them.
