@@ -75,13 +75,21 @@ fn spec(anchored: bool) -> DateSpec
     }
 }
 
+fn patterns(alloc: Global) -> Result<Seq<Text>, NoMemory> {
+    let mut patterns = Seq::new(alloc);
+    for text in [FAILED, INVALID, CLOSED] {
+        patterns.push(Text::from_str(alloc, text)?)?;
+    }
+    Ok(patterns)
+}
+
 fn jail(alloc: Global, anchored: bool) -> Result<JailDef, NoMemory>
     ensures { IfOk result IsSupported }
 {
-    let mut fail = Seq::new(alloc);
-    fail.push(Text::from_str(alloc, FAILED)?)?;
-    fail.push(Text::from_str(alloc, INVALID)?)?;
-    fail.push(Text::from_str(alloc, CLOSED)?)?;
+    let fail = patterns(alloc)?;
+    if fail.len() > 512 {
+        return Err(NoMemory);
+    }
     Ok(JailDef {
         name: Text::from_str(alloc, "sshd")?,
         watches: Seq::new(alloc),
