@@ -74,7 +74,7 @@ module _ (texts : List (List ℕ)) (old mid new : Standing) (before : HaveBuilt 
     told = adds_then (λ g events. events ≡ built texts) (IsCall (Make text WasTooBig)) _ _ _ _ before.told makes.0.adds
         (λ g h xs ys p q. record { before = texts; text = text; after = after; order = order; calls = ap₂ ◌++◌ p q.0 });
     steady = steady_after makes.0.steady;
-    cause = rose_after makes.1;
+    cause = (text, contains all texts after text order, rose_after makes.1);
   }
   fails all after text NoMemory order makes =
       let P : Standing → Type 0 = λ s. Builds all (Err NoMemory) old s in

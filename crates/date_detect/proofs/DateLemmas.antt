@@ -1,29 +1,55 @@
 -- The date of a form in a line, by what its pattern matches.
-use Rattle.std.proofs.Common.{◌≡◌, ℕ, ◌+◌, ◌<◌, length, get_or, drop-cons, add-one, is_some, Bool, true, false, List, [], ◌∷◌, drop, Some, None, option_map, ne_eqb, refl, ap, ℤ, if◌then◌else◌}
+use Rattle.std.proofs.Common.{◌≡◌, ℕ, ◌+◌, ◌<◌, length, get_or, drop-cons, add-one, is_some, is_none, Bool, true, false, true≢false, List, [], ◌∷◌, map, drop, Option, Some, None, option_map, ne_eqb, refl, sym, ap, ℤ, if◌then◌else◌}
 use Rattle.f2b_world.specs.declared.pattern.spans.Cut.{Cut}
 use Rattle.date_detect.proofs.OptionLemmas.{option_or-some, option_or-none}
 use Rattle.date_detect.specs.Fields.{said_moment}
-use Rattle.date_detect.specs.Dates.{match_in, said_in, found_at, one_on, has_bracket, date_of, date_by, first_date}
+use Rattle.f2b_world.specs.Matches.{whole_in, group_in}
+use Rattle.date_detect.specs.Texts.{numbers_of, said_at}
+use Rattle.date_detect.specs.Dates.{match_in, covered, said_in, found_at, one_on, has_bracket, date_of, date_by, first_date}
 use Rattle.date_detect.specs.declared.form.Form.{Form}
 
-module _ (form : Form) (now : ℕ) (zone : ℤ) (line : List ℕ) where
-  -- a form that has a match gives the match's date, anchored or not
-  pub matched : (anchored : Bool) (cut : Cut) → Some cut ≡ match_in form.pattern line →
-      option_map (found_at cut) (said_moment (said_in form line) now zone) ≡ date_by anchored form now zone line
-  unfolding date_by date_of
-  matched true cut is = rw (← is) refl
-  matched false cut is = rw (← is) refl
+matched-none : {A : Type 0} (o : Option A) → is_some o ≡ true → is_none o ≡ false
+matched-none None h = absurd (true≢false (sym h))
+matched-none (Some x) h = refl
 
-  module _ (none : None ≡ match_in form.pattern line) where
+unmatched-none : {A : Type 0} (o : Option A) → is_some o ≡ false → o ≡ None
+unmatched-none None h = refl
+unmatched-none (Some x) h = absurd (true≢false h)
+
+-- what the groups of a form cover, by the parts that were written
+pub said_is : (form : Form) (line : List ℕ) (cuts : List (Option Cut))
+    → cuts ≡ map (group_in form.pattern line) (numbers_of form.groups) → said_at line cuts ≡ said_in form line
+unfolding covered
+said_is form line cuts is = ap (said_at line) is
+
+module _ (form : Form) (now : ℕ) (zone : ℤ) (line : List ℕ) where
+  -- a match that is a date or none
+  pub date_is : (cut : Cut) → Some cut ≡ whole_in form.pattern line →
+      option_map (found_at cut) (said_moment (said_in form line) now zone) ≡ date_of form now zone line
+  unfolding date_of match_in
+  date_is cut is = rw (← is) refl
+
+  -- a form that has a match gives the match's date, anchored or not
+  pub matched : (anchored : Bool) → is_some (match_in form.pattern line) ≡ true →
+      date_of form now zone line ≡ date_by anchored form now zone line
+  unfolding date_by
+  matched true some = rw (matched-none _ some) refl
+  matched false some = refl
+
+  pub no_date : is_some (match_in form.pattern line) ≡ false → None ≡ date_of form now zone line
+  unfolding date_of
+  no_date none = rw (unmatched-none _ none) refl
+
+  module _ (none : is_some (match_in form.pattern line) ≡ false) where
     pub unmatched : None ≡ date_by false form now zone line
-    unfolding date_by date_of
-    unmatched = rw (← none) refl
+    unfolding date_by
+    unmatched = no_date none
 
     behind : (bracket : Bool) → has_bracket line ≡ bracket →
         (if bracket then option_map one_on (date_of form now zone (drop 1 line)) else None) ≡ date_by true form now zone line
-    unfolding date_by date_of
-    behind true is = rw (← none, is) refl
-    behind false is = rw (← none, is) refl
+    unfolding date_by
+    behind true is = rw (unmatched-none _ none, is) refl
+    behind false is = rw (unmatched-none _ none, is) (no_date none)
 
     -- one that has none is looked for behind a bracket
     pub behind_bracket : (if has_bracket line then option_map one_on (date_of form now zone (drop 1 line)) else None)

@@ -37,10 +37,11 @@ AreCalls texts (Err Syntax) events = Refuses texts WasSyntax events
 AreCalls texts (Err TooBig) events = Refuses texts WasTooBig events
 AreCalls texts (Err NoMemory) events = (n : ℕ) × (events ≡ built (take n texts))
 
--- a text is refused as Syntax only where it has no reading, and as TooBig only where that was counted
+-- one of the texts is refused: as Syntax only where it has no reading, and as TooBig only where that was counted
 abbrev pub HasCause : List (List ℕ) → Result Rule BuildError → Standing → Standing → Type 0
 HasCause texts (Err Syntax) old new = (text : List ℕ) × Contains texts text × (reading text ≡ None)
-HasCause texts (Err TooBig) old new = Rose (old.faults OfPatterns) (new.faults OfPatterns)
+HasCause texts (Err TooBig) old new =
+    (text : List ℕ) × Contains texts text × Rose (old.faults OfPatterns) (new.faults OfPatterns)
 HasCause texts _ old new = Unit {0}
 
 -- a build of patterns: what it told, that no count of faults fell, and its cause where one was refused

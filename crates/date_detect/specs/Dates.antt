@@ -1,9 +1,8 @@
 -- The date of a line, by the forms of a jail.
 use Rattle.std.specs.Prelude.{ℕ, ◌+◌, ◌≤◌, ◌==◌, ◌&&◌, ℤ, Bool, false, List, [], ◌∷◌, drop, slice_range, Option, None, is_none, option_and_then, option_map, if◌then◌else◌, IsCharBoundary}
 use Rattle.std.specs.Option.{option_or}
-use Rattle.f2b_world.specs.Matches.{numbered_in}
+use Rattle.f2b_world.specs.Matches.{whole_in, group_in}
 use Rattle.f2b_world.specs.declared.pattern.spans.Cut.{Cut}
-use Rattle.f2b_world.specs.declared.pattern.spans.NumberedSpans.{NumberedSpans}
 use Rattle.date_detect.specs.Fields.{Said, said_moment}
 use Rattle.date_detect.specs.Forms.{Rule}
 use Rattle.date_detect.specs.declared.form.Form.{Form}
@@ -11,16 +10,15 @@ use Rattle.date_detect.specs.declared.search.Found.{Found}
 
 -- the leftmost match of a pattern in a line
 unfoldable pub match_in : List ℕ → List ℕ → Option Cut
-match_in pattern line = option_map (λ (s : NumberedSpans). s.whole) (numbered_in pattern 0 line)
+match_in pattern line = whole_in pattern line
+
+-- the text of a part of a line
+abbrev pub text_of : List ℕ → Option Cut → Option (List ℕ)
+text_of line = option_map (λ (c : Cut). slice_range line c.start c.end)
 
 -- what the group with a number covers in that match, if there is such a group and it took part
 unfoldable pub covered : List ℕ → List ℕ → Option ℕ → Option (List ℕ)
-covered pattern line group =
-    option_and_then
-    (λ n. option_and_then
-    (λ (s : NumberedSpans). option_map (λ (c : Cut). slice_range line c.start c.end) s.group)
-    (numbered_in pattern n line))
-    group
+covered pattern line number = text_of line (group_in pattern line number)
 
 -- what the groups of a form cover in its leftmost match
 abbrev pub said_in : Form → List ℕ → Said

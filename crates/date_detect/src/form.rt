@@ -1,10 +1,9 @@
 //! A form of dates: a pattern, and what its groups mean.
-ghost use Rattle.std.specs.Prelude.{◌≡◌, None, IfSome, IfOk, option_copied, option_map, drop, if◌then◌else◌};
-ghost use Rattle.f2b_world.specs.Spans.{IsCut};
+ghost use Rattle.std.specs.Prelude.{◌≡◌, None, IfSome, IfOk, is_some, option_copied, option_map, drop, if◌then◌else◌};
+ghost use Rattle.f2b_world.specs.Spans.{IsCut, AreCuts};
 ghost use Rattle.date_detect.specs.Usual.{no_groups, with_time};
-ghost use Rattle.date_detect.specs.Fields.{said_moment};
-ghost use Rattle.date_detect.specs.Texts.{said_texts};
-ghost use Rattle.date_detect.specs.Dates.{match_in, covered, said_in, found_at, one_on, has_bracket, date_of, date_by, LiesIn};
+ghost use Rattle.date_detect.specs.Texts.{numbers_of, said_at, said_texts};
+ghost use Rattle.date_detect.specs.Dates.{match_in, text_of, one_on, has_bracket, date_of, date_by, LiesIn};
 
 use crate::fields::Said;
 use crate::search::Found;
@@ -12,6 +11,9 @@ use f2b_base::NoMemory;
 use f2b_world::{Cut, Matcher, Pattern};
 use std::alloc::Global;
 use std::marker::Model;
+
+/// How many parts of a date groups may cover.
+const PARTS: usize = 10;
 
 /// The numbers of the groups of a pattern, by what they cover. A part that no group covers is `None`.
 #[derive(Clone, Copy, Debug)]
@@ -57,6 +59,24 @@ impl Groups {
             ..Groups::NONE
         }
     }
+
+    /// The numbers in the order of what they cover.
+    fn numbers(&self) -> [Option<usize>; PARTS]
+        ensures { result ≡ numbers_of self.now }
+    {
+        [
+            self.year,
+            self.short_year,
+            self.month,
+            self.month_name,
+            self.day,
+            self.hour,
+            self.minute,
+            self.second,
+            self.zone,
+            self.moment,
+        ]
+    }
 }
 
 /// A form, which contracts see as the text of its pattern with its groups.
@@ -94,73 +114,57 @@ impl Form {
     }
 }
 
+/// What a part of a line says.
+fn text_of(line: &str, cut: Option<Cut>) -> Option<&str>
+    requires { IfSome cut (IsCut line.now) }
+    ensures { option_copied result ≡ text_of line.now cut }
+{
+    match cut {
+        Some(cut) => Some(&line[cut.start..cut.end]),
+        None => None,
+    }
+}
+
+/// What parts of a line say, in the order of `Groups`.
+fn said_at<'l>(line: &'l str, cuts: &[Option<Cut>; PARTS]) -> Said<'l>
+    requires { AreCuts line.now cuts.now }
+    ensures { said_texts result ≡ said_at line.now cuts.now }
+{
+    Said {
+        year: text_of(line, cuts[0]),
+        short_year: text_of(line, cuts[1]),
+        month: text_of(line, cuts[2]),
+        month_name: text_of(line, cuts[3]),
+        day: text_of(line, cuts[4]),
+        hour: text_of(line, cuts[5]),
+        minute: text_of(line, cuts[6]),
+        second: text_of(line, cuts[7]),
+        zone: text_of(line, cuts[8]),
+        moment: text_of(line, cuts[9]),
+    }
+}
+
 impl<'d> FormSearch<'d> {
-    /// The leftmost match.
-    #[tactic(auto, unfolding(crate::specs::Dates::match_in))]
-    fn leftmost(&mut self, line: &str) -> Option<Cut>
-        ensures found { result ≡ match_in self.old.pattern line.now }
-        ensures cut { IfSome result (IsCut line.now) }
+    /// The date of the leftmost match in a line, where there is a match: it may be no date of the calendar.
+    #[tactic(auto, unfolding(crate::specs::Dates::date_of, crate::specs::Dates::match_in))]
+    fn matched(&mut self, line: &str, now: u64, zone: i32) -> Option<Option<Found>>
+        ensures matched { is_some result ≡ is_some (match_in self.old.pattern line.now) }
+        ensures found { IfSome result (λ found. found ≡ date_of self.old now zone line.now) }
+        ensures lies { IfSome result (λ found. IfSome found (LiesIn line.now)) }
         ensures same { self.new ≡ self.old }
     {
-        let spans = self.matcher.numbered(line, 0)?;
-        Some(spans.whole)
-    }
-
-    /// What a group covers in the leftmost match, where it took part.
-    #[tactic(auto, unfolding(crate::specs::Dates::covered))]
-    fn covered<'l>(&mut self, line: &'l str, group: Option<usize>) -> Option<&'l str>
-        ensures text { option_copied result ≡ covered self.old.pattern line.now group }
-        ensures same { self.new ≡ self.old }
-    {
-        let spans = self.matcher.numbered(line, group?)?;
-        let cut = spans.group?;
-        Some(&line[cut.start..cut.end])
-    }
-
-    /// What the groups cover in the leftmost match.
-    fn said<'l>(&mut self, line: &'l str) -> Said<'l>
-        ensures texts { said_texts result ≡ said_in self.old line.now }
-        ensures same { self.new ≡ self.old }
-    {
-        let groups = self.groups;
-        Said {
-            year: self.covered(line, groups.year),
-            short_year: self.covered(line, groups.short_year),
-            month: self.covered(line, groups.month),
-            month_name: self.covered(line, groups.month_name),
-            day: self.covered(line, groups.day),
-            hour: self.covered(line, groups.hour),
-            minute: self.covered(line, groups.minute),
-            second: self.covered(line, groups.second),
-            zone: self.covered(line, groups.zone),
-            moment: self.covered(line, groups.moment),
-        }
-    }
-
-    /// The date of the leftmost match, which lies there.
-    fn date_at(&mut self, line: &str, cut: Cut, now: u64, zone: i32) -> Option<Found>
-        requires { IsCut line.now cut }
-        ensures found { result ≡ option_map (found_at cut) (said_moment (said_in self.old line.now) now zone) }
-        ensures lies { IfSome result (LiesIn line.now) }
-        ensures same { self.new ≡ self.old }
-    {
-        let secs = self.said(line).moment(now, zone)?;
-        Some(Found {
+        let mut cuts = [None; PARTS];
+        let cut = self
+            .matcher
+            .matched(line, &self.groups.numbers(), &mut cuts)?;
+        let Some(secs) = said_at(line, &cuts).moment(now, zone) else {
+            return Some(None);
+        };
+        Some(Some(Found {
             start: cut.start as u64,
             end: cut.end as u64,
             secs,
-        })
-    }
-
-    /// The date of the leftmost match in a line.
-    #[tactic(auto, unfolding(crate::specs::Dates::date_of))]
-    fn date_of(&mut self, line: &str, now: u64, zone: i32) -> Option<Found>
-        ensures found { result ≡ date_of self.old now zone line.now }
-        ensures lies { IfSome result (LiesIn line.now) }
-        ensures same { self.new ≡ self.old }
-    {
-        let cut = self.leftmost(line)?;
-        self.date_at(line, cut, now, zone)
+        }))
     }
 
     /// The date of the form in a line. A date that has to stand at the beginning may stand right behind a `[` there, where the
@@ -170,9 +174,21 @@ impl<'d> FormSearch<'d> {
         ensures lies { IfSome result (LiesIn line.now) }
         ensures same { self.new ≡ self.old }
     {
-        match self.leftmost(line) {
-            Some(cut) => self.date_at(line, cut, now, zone),
+        match self.matched(line, now, zone) {
+            Some(found) => found,
             None if anchored => self.behind_bracket(line, now, zone),
+            None => None,
+        }
+    }
+
+    /// The date of the leftmost match in a line.
+    fn date_of(&mut self, line: &str, now: u64, zone: i32) -> Option<Found>
+        ensures found { result ≡ date_of self.old now zone line.now }
+        ensures lies { IfSome result (LiesIn line.now) }
+        ensures same { self.new ≡ self.old }
+    {
+        match self.matched(line, now, zone) {
+            Some(found) => found,
             None => None,
         }
     }

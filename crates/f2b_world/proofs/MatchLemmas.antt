@@ -1,5 +1,5 @@
 -- From what `captures` ensures to the leftmost match by the text.
-use Rattle.std.proofs.Common.{◌≡◌, ℕ, zero, suc, ◌*◌, ◌+◌, ◌<◌, true, List, get_or, Option, Some, None, option_map, refl, sym, ap, ◌∙◌, arith, codes}
+use Rattle.std.proofs.Common.{◌≡◌, ℕ, zero, suc, ◌*◌, ◌+◌, ◌<◌, true, List, map, get_or, Option, Some, None, option_and_then, option_map, refl, sym, ap, ◌∙◌, arith, codes}
 use Rattle.std.proofs.lemmas.Option.{same_Some, none-some}
 use Rattle.regex.specs.Patterns.{Re, Match, find_str, slot_of, span}
 use Rattle.regex.specs.Names.{span_at}
@@ -10,8 +10,10 @@ use Rattle.regex.specs.declared.string.captures.Captures.{Captures}
 use Rattle.regex.proofs.ForCallers.{found_alike, span_alike}
 use Rattle.regex_syntax.specs.Grammar.{Names}
 use Rattle.f2b_world.specs.Reading.{IsReadAs}
-use Rattle.f2b_world.specs.Matches.{cut, offsets, named, number_of, host_spans, numbered_spans, hosts_in, numbered_in}
-use Rattle.f2b_world.specs.Captured.{captured_cut, captured_hosts, captured_numbered}
+use Rattle.f2b_world.specs.declared.pattern.spans.Cut.{Cut}
+use Rattle.f2b_world.specs.Matches.{NumberedSpans, cut, offsets, named, number_of, host_spans, numbered_spans, hosts_in, numbered_in, whole_in, group_in}
+use Rattle.f2b_world.specs.Captured.{captured_cut, captured_hosts, captured_numbered, captured_group}
+use Rattle.regex.specs.Strings.{match_span}
 
 span_at-alike : (f g : ℕ → Option (ℕ × ℕ)) → ((n : ℕ) → f n ≡ g n) → (o : Option ℕ) → span_at f o ≡ span_at g o
 span_at-alike f g h None = refl
@@ -76,10 +78,21 @@ module _ (text : List ℕ) (tree : Re) (names : Names) (g : IsReadAs text tree n
         let f = by_text in
         rw (g.is, f.1) (ap Some (captured_hosts_are line m c h f.0 f.2 f.3 _ (same ∙ g.named)))
 
-    pub found_numbered : (group : ℕ) → Some (captured_numbered c group) ≡ numbered_in text group line
+    found_numbered : (group : ℕ) → Some (captured_numbered c group) ≡ numbered_in text group line
     unfolding numbered_in
     found_numbered group =
         let f = by_text in rw (g.is, f.1) (ap Some (captured_numbered_are line m c h f.0 f.2 f.3 group))
+
+    pub found_whole : Some (cut (match_span c.whole)) ≡ whole_in text line
+    found_whole = ap (option_map (λ (s : NumberedSpans). s.whole)) (found_numbered 0)
+
+    found_group : (number : Option ℕ) → captured_group c number ≡ group_in text line number
+    found_group None = refl
+    found_group (Some n) = ap (option_and_then (λ (s : NumberedSpans). s.group)) (found_numbered n)
+
+    -- and so are all of their groups
+    pub found_groups : (numbers : List (Option ℕ)) → map (captured_group c) numbers ≡ map (group_in text line) numbers
+    found_groups numbers = λ i. map (λ number. found_group number i) numbers
 
   module _ (e : find_str tree line 0 ≡ None) where
     none_by_text : find_str g.expression.tree line 0 ≡ None
@@ -89,6 +102,6 @@ module _ (text : List ℕ) (tree : Re) (names : Names) (g : IsReadAs text tree n
     unfolding hosts_in
     no_hosts = let none = none_by_text in rw (g.is, none) refl
 
-    pub no_numbered : (group : ℕ) → None ≡ numbered_in text group line
+    pub no_whole : None ≡ whole_in text line
     unfolding numbered_in
-    no_numbered group = let none = none_by_text in rw (g.is, none) refl
+    no_whole = let none = none_by_text in rw (g.is, none) refl

@@ -7,7 +7,6 @@ use Rattle.regex_syntax.specs.Grammar.{Names}
 use Rattle.f2b_world.specs.Reading.{reading}
 use Rattle.f2b_world.specs.declared.pattern.spans.Cut.{Cut}
 use Rattle.f2b_world.specs.declared.pattern.spans.HostSpans.{HostSpans}
-use Rattle.f2b_world.specs.declared.pattern.spans.NumberedSpans.{NumberedSpans}
 
 abbrev pub same_text : List ℕ → List ℕ → Bool
 same_text [] [] = true
@@ -50,6 +49,11 @@ host_spans names m = record {
   content = named names m (codes "f2bc");
 }
 
+-- a match, and what one of its groups covers: none where the group took no part
+pub record NumberedSpans : Type 0 where
+  pub whole : Cut
+  pub group : Option Cut
+
 abbrev pub numbered_spans : ℕ → Match → NumberedSpans
 numbered_spans group m = record { whole = cut (span m); group = numbered m group }
 
@@ -60,3 +64,12 @@ hosts_in text line = option_and_then (λ e. option_map (host_spans e.names) (fin
 -- the same match, by the group of that number
 unfoldable pub numbered_in : List ℕ → ℕ → List ℕ → Option NumberedSpans
 numbered_in text group line = option_and_then (λ e. option_map (numbered_spans group) (find_str e.tree line 0)) (reading text)
+
+-- where that match lies
+abbrev pub whole_in : List ℕ → List ℕ → Option Cut
+whole_in text line = option_map (λ (s : NumberedSpans). s.whole) (numbered_in text 0 line)
+
+-- what the group with a number covers in it: none without a number or a match, and where the group took no part
+abbrev pub group_in : List ℕ → List ℕ → Option ℕ → Option Cut
+group_in text line number =
+    option_and_then (λ n. option_and_then (λ (s : NumberedSpans). s.group) (numbered_in text n line)) number

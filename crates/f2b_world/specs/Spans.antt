@@ -1,8 +1,7 @@
 -- Spans of a line at which it may be cut.
-use Rattle.std.specs.Prelude.{ℕ, ◌≤◌, List, IfSome, IsCharBoundary}
+use Rattle.std.specs.Prelude.{ℕ, ◌≤◌, List, Option, All, IfSome, IsCharBoundary}
 use Rattle.f2b_world.specs.declared.pattern.spans.Cut.{Cut}
 use Rattle.f2b_world.specs.declared.pattern.spans.HostSpans.{HostSpans}
-use Rattle.f2b_world.specs.declared.pattern.spans.NumberedSpans.{NumberedSpans}
 
 -- it lies in the line, and begins and ends between characters
 abbrev pub IsCut : List ℕ → Cut → Type 0
@@ -16,6 +15,6 @@ pub record AreHostCuts (line : List ℕ) (s : HostSpans) : Type 0 where
   pub name : IfSome s.name (IsCut line)
   pub content : IfSome s.content (IsCut line)
 
-pub record AreNumberedCuts (line : List ℕ) (s : NumberedSpans) : Type 0 where
-  pub whole : IsCut line s.whole
-  pub group : IfSome s.group (IsCut line)
+-- each part that is there does so
+abbrev pub AreCuts : List ℕ → List (Option Cut) → Type 0
+AreCuts line cuts = All (λ c. IfSome c (IsCut line)) cuts

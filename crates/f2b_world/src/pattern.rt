@@ -6,7 +6,7 @@ mod spans;
 
 pub use matcher::Matcher;
 use regex::{Error, Regex};
-pub use spans::{Cut, HostSpans, NumberedSpans};
+pub use spans::{Cut, HostSpans};
 use std::alloc::Global;
 use std::fmt;
 use std::marker::Model;

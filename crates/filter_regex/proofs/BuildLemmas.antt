@@ -3,7 +3,7 @@ use Rattle.std.proofs.Common.{◌≡◌, ℕ, List, ◌++◌, Ok, Err, map, opti
 use Rattle.f2b_base.specs.declared.jail.JailDef.{JailDef}
 use Rattle.f2b_world.specs.Told.{Standing}
 use Rattle.host_ident.specs.Expanded.{expanded}
-use Rattle.filter_regex.specs.Dates.{rule_of, texts}
+use Rattle.date_detect.specs.Forms.{rule_of, texts}
 use Rattle.filter_regex.specs.Rules.{rules_of, patterns, date_places, pref_place, numbered}
 use Rattle.filter_regex.specs.Builds.{MakesAll}
 use Rattle.filter_regex.specs.declared.error.PatternPlace.TheVariants.{Fail, Ignore}

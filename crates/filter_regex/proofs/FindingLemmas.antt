@@ -7,10 +7,10 @@ use Rattle.f2b_base.specs.declared.addr.Addr.{Addr}
 use Rattle.f2b_base.specs.declared.addr.Cidr.{Cidr}
 use Rattle.f2b_base.specs.Masks.{holds}
 use Rattle.host_ident.specs.Hosts.{host_of}
-use Rattle.filter_regex.specs.Dates.{date_in}
+use Rattle.date_detect.specs.Dates.{date_in}
 use Rattle.filter_regex.specs.Rules.{Rules}
 use Rattle.filter_regex.specs.Findings.{without, part, content, first_match, moment_of, is_ignored, failure, finding}
-use Rattle.filter_regex.specs.declared.date.Found.{Found}
+use Rattle.date_detect.specs.declared.search.Found.{Found}
 use Rattle.filter_regex.specs.declared.part.Hit.{Hit}
 use Rattle.filter_regex.specs.declared.finding.Finding.TheVariants.{Ignored, NoDate, Missed}
 

@@ -1,5 +1,6 @@
 pub mod AddsLemmas
 pub mod MakesLemmas
 pub mod ListLemmas
+pub mod DatesLemmas
 pub mod BuildLemmas
 pub mod FindingLemmas

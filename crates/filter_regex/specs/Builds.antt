@@ -7,11 +7,20 @@ use Rattle.f2b_world.specs.declared.event.Event.TheVariants.{Make}
 use Rattle.f2b_world.specs.declared.answer.MakeAnswer.{MakeAnswer}
 use Rattle.f2b_world.specs.declared.answer.MakeAnswer.TheVariants.{Built as WasBuilt, Syntax as WasSyntax, TooBig as WasTooBig}
 use Rattle.filter_regex.specs.Rules.{Rules, patterns}
+use Rattle.date_detect.specs.declared.error.BuildError.{BuildError}
+use Rattle.date_detect.specs.declared.error.BuildError.TheVariants.{Syntax as OfSyntax, TooBig as OfSize, NoMemory as OfMemory}
 use Rattle.filter_regex.specs.declared.error.PatternPlace.{PatternPlace}
+use Rattle.filter_regex.specs.declared.error.PatternPlace.TheVariants.{Date}
 use Rattle.filter_regex.specs.declared.error.BuildKind.{BuildKind}
 use Rattle.filter_regex.specs.declared.error.BuildKind.TheVariants.{Syntax, TooBig}
 use Rattle.filter_regex.specs.declared.error.PatternError.{PatternError}
 use Rattle.filter_regex.specs.declared.error.PatternError.TheVariants.{Refused, NoMemory}
+
+-- why a filter is not built whose dates are not
+abbrev pub refusal : BuildError → PatternError
+refusal OfSyntax = Refused Date Syntax
+refusal OfSize = Refused Date TooBig
+refusal OfMemory = NoMemory
 
 abbrev pub answer : BuildKind → MakeAnswer
 answer Syntax = WasSyntax

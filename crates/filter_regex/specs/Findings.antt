@@ -9,8 +9,8 @@ use Rattle.f2b_world.specs.Matches.{hosts_in}
 use Rattle.f2b_world.specs.declared.pattern.spans.Cut.{Cut}
 use Rattle.f2b_world.specs.declared.pattern.spans.HostSpans.{HostSpans}
 use Rattle.host_ident.specs.Hosts.{host_of}
-use Rattle.filter_regex.specs.Dates.{date_in}
-use Rattle.filter_regex.specs.declared.date.Found.{Found}
+use Rattle.date_detect.specs.Dates.{date_in}
+use Rattle.date_detect.specs.declared.search.Found.{Found}
 use Rattle.filter_regex.specs.Rules.{Rules}
 use Rattle.filter_regex.specs.declared.finding.Finding.{Finding}
 use Rattle.filter_regex.specs.declared.part.Hit.{Hit}

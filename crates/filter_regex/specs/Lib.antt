@@ -1,4 +1,3 @@
-pub mod Dates
 pub mod Rules
 pub mod Roles
 pub mod Findings

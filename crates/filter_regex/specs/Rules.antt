@@ -5,7 +5,7 @@ use Rattle.f2b_base.specs.declared.jail.JailDef.{JailDef}
 use Rattle.f2b_base.specs.declared.jail.DateSpec.{DateSpec}
 use Rattle.f2b_base.specs.declared.jail.DateSpec.TheVariants.{NoDate}
 use Rattle.host_ident.specs.Expanded.{expanded}
-use Rattle.filter_regex.specs.Dates.{Rule, rule_of, texts, HasDatePattern}
+use Rattle.date_detect.specs.Forms.{Rule, rule_of, texts, HasDatePattern}
 use Rattle.filter_regex.specs.declared.error.PatternPlace.{PatternPlace}
 use Rattle.filter_regex.specs.declared.error.PatternPlace.TheVariants.{Date, Pref, Fail, Ignore}
 

@@ -1,12 +1,12 @@
 //! Filters, and how they are built.
 ghost use Rattle.std.specs.Prelude.{◌≡◌, IfOk, OnOk, OnErr};
-ghost use Rattle.filter_regex.specs.Dates.{rule_of, texts};
+ghost use Rattle.date_detect.specs.Forms.{rule_of, texts, HasDatePattern};
 ghost use Rattle.filter_regex.specs.Rules.{rules_of, date_places, is_undated, IsSupported};
-ghost use Rattle.filter_regex.specs.Builds.{Builds, MakesAll};
+ghost use Rattle.filter_regex.specs.Builds.{Builds, MakesAll, refusal};
 
-use crate::date::{Dates, EPOCH};
-use crate::error::{PatternError, PatternPlace};
-use crate::make::{Role, made, made_list, made_pref};
+use crate::error::{BuildKind, PatternError, PatternPlace};
+use crate::make::{Role, made_list, made_pref};
+use date_detect::{BuildError, Dates};
 use f2b_base::{Cidr, DateSpec, JailDef, NoMemory, Seq};
 use f2b_world::{Pattern, Patterns};
 use ignore_set::IgnoreSet;
@@ -46,23 +46,34 @@ impl Model for Filter {
     ghost invariant = { λ f. (length f.fail.items < 2 ^ 32) × (length f.ignore_lines.items < 2 ^ 32) };
 }
 
+/// Why a filter is not built whose dates are not.
+fn not_built(error: BuildError) -> PatternError
+    ensures { result ≡ refusal error }
+{
+    let kind = match error {
+        BuildError::Syntax => BuildKind::Syntax,
+        BuildError::TooBig => BuildKind::TooBig,
+        BuildError::NoMemory => return PatternError::NoMemory,
+    };
+    PatternError::Refused {
+        place: PatternPlace::Date,
+        kind,
+    }
+}
+
 /// The patterns of dates.
 fn made_dates<P: Patterns>(
     alloc: Global,
     patterns: &mut P,
     spec: &DateSpec,
 ) -> Result<Dates, PatternError>
+    requires { HasDatePattern spec.now }
     ensures value { IfOk result (λ dates. dates ≡ rule_of spec.now) }
     ensures calls { MakesAll (date_places (texts (rule_of spec.now))) result (P.stands patterns.old) (P.stands patterns.new) }
 {
-    match spec {
-        DateSpec::Epoch => {
-            let pattern = made(patterns, PatternPlace::Date, EPOCH)?;
-            Ok(Dates {
-                pattern: Some(pattern),
-            })
-        }
-        _ => Ok(Dates { pattern: None }),
+    match Dates::build(alloc, patterns, spec) {
+        Ok(dates) => Ok(dates),
+        Err(error) => Err(not_built(error)),
     }
 }
 

@@ -2,8 +2,8 @@
 ghost use Rattle.std.specs.Prelude.{◌≡◌, ◌<◌, ◌^◌};
 ghost use Rattle.filter_regex.specs.Findings.{failure, is_ignored, moment_of, time_at, timed};
 
-use crate::date::Found;
 use crate::finding::Finding;
+use date_detect::Found;
 use f2b_base::Addr;
 use ignore_set::IgnoreSet;
 

@@ -6,7 +6,6 @@
 #![tactic(auto)]
 
 mod build;
-mod date;
 mod error;
 mod finding;
 mod judge;

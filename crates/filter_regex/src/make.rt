@@ -31,7 +31,7 @@ impl Role {
 }
 
 /// The pattern at a place, by one call.
-pub(crate) fn made<P: Patterns>(
+fn made<P: Patterns>(
     patterns: &mut P,
     place: PatternPlace,
     text: &str,

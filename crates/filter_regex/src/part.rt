@@ -2,10 +2,10 @@
 ghost use Rattle.std.specs.Prelude.{◌≡◌, ◌<◌, ◌^◌, length, option_copied, string_bytes, IfOk, IfSome, OnOk};
 ghost use Rattle.f2b_world.specs.Spans.{IsCut, AreHostCuts};
 ghost use Rattle.host_ident.specs.Hosts.{host_of};
-ghost use Rattle.filter_regex.specs.Dates.{LiesIn};
+ghost use Rattle.date_detect.specs.Dates.{LiesIn};
 ghost use Rattle.filter_regex.specs.Findings.{content, first_match, part, without};
 
-use crate::date::Found;
+use date_detect::Found;
 use f2b_base::{Addr, NoMemory};
 use f2b_world::{Cut, HostSpans, Matcher};
 use host_ident::{HostGroups, host_of};

@@ -3,10 +3,10 @@ ghost use Rattle.std.specs.Prelude.{◌≡◌, ◌<◌, ◌^◌, IfOk};
 ghost use Rattle.filter_regex.specs.Findings.{finding};
 
 use crate::build::Filter;
-use crate::date::DateSearcher;
 use crate::finding::Finding;
 use crate::judge::{failure, moment_of};
 use crate::part::{content, first_match, host_in, rest_of};
+use date_detect::Searcher as DateSearcher;
 use f2b_base::NoMemory;
 use f2b_world::{Matcher, Pattern};
 use ignore_set::IgnoreSet;

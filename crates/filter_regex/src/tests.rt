@@ -1,12 +1,16 @@
 //! Worked lines.
 ghost use Rattle.std.specs.Prelude.{IfOk};
+ghost use Rattle.f2b_base.specs.declared.jail.DateSpec.TheVariants.{Pattern};
+ghost use Rattle.date_detect.specs.Forms.{HasDatePattern};
 ghost use Rattle.filter_regex.specs.Rules.{IsSupported};
 
 mod builds;
+mod dates;
 mod hosts;
 mod lines;
 
 use super::*;
+use date_detect::is_date_pattern;
 use f2b_base::{Addr, BanRule, Cidr, DateSpec, JailDef, NoMemory, Seq, Text};
 use f2b_world::{Made, Outside, Patterns, build_pattern};
 use std::alloc::Global;
@@ -38,10 +42,22 @@ impl Patterns for Library {
     }
 }
 
+/// How the lines of a test are dated.
+#[derive(Clone, Copy)]
+enum Dated<'p> {
+    Epoch,
+    NoDate,
+    Usual,
+    Anchored,
+    Iso,
+    Own(&'p str),
+    OwnAnchored(&'p str),
+}
+
 /// What a jail of a test is made of. A list is given by lines; no line, no item.
 #[derive(Clone, Copy)]
 struct Parts<'p> {
-    undated: bool,
+    dated: Dated<'p>,
     pref: &'p str,
     fail: &'p str,
     ignore_lines: &'p str,
@@ -50,7 +66,7 @@ struct Parts<'p> {
 
 /// Nothing but dates.
 const NONE: Parts<'static> = Parts {
-    undated: false,
+    dated: Dated::Epoch,
     pref: "",
     fail: "",
     ignore_lines: "",
@@ -73,6 +89,30 @@ fn masks(alloc: Global, list: &str) -> Result<Seq<Cidr>, Fail> {
     Ok(masks)
 }
 
+/// The text of a date pattern.
+fn date_pattern(alloc: Global, text: &str) -> Result<Text, Fail>
+    ensures { IfOk result (λ pattern. HasDatePattern (Pattern pattern)) }
+{
+    if !is_date_pattern(text) {
+        return Err(Fail::from("no date pattern"));
+    }
+    Ok(Text::from_str(alloc, text)?)
+}
+
+fn spec(alloc: Global, dated: Dated<'_>) -> Result<DateSpec, Fail>
+    ensures { IfOk result HasDatePattern }
+{
+    match dated {
+        Dated::Epoch => Ok(DateSpec::Epoch),
+        Dated::NoDate => Ok(DateSpec::NoDate),
+        Dated::Usual => Ok(DateSpec::Default),
+        Dated::Anchored => Ok(DateSpec::Anchored),
+        Dated::Iso => Ok(DateSpec::Iso),
+        Dated::Own(text) => Ok(DateSpec::Pattern(date_pattern(alloc, text)?)),
+        Dated::OwnAnchored(text) => Ok(DateSpec::AnchoredPattern(date_pattern(alloc, text)?)),
+    }
+}
+
 fn jail(alloc: Global, parts: Parts<'_>) -> Result<JailDef, Fail>
     ensures { IfOk result IsSupported }
 {
@@ -84,11 +124,7 @@ fn jail(alloc: Global, parts: Parts<'_>) -> Result<JailDef, Fail>
     if ignore_lines.len() > 512 {
         return Err(Fail::from("too many patterns"));
     }
-    let date = if parts.undated {
-        DateSpec::NoDate
-    } else {
-        DateSpec::Epoch
-    };
+    let date = spec(alloc, parts.dated)?;
     let pref = if parts.pref.is_empty() {
         None
     } else {

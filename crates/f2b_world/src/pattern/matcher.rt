@@ -1,10 +1,10 @@
 //! Searches for one pattern in many lines.
-ghost use Rattle.std.specs.Prelude.{◌≡◌, IfOk, IfSome};
-ghost use Rattle.f2b_world.specs.Matches.{hosts_in, numbered_in};
-ghost use Rattle.f2b_world.specs.Spans.{AreHostCuts, AreNumberedCuts};
+ghost use Rattle.std.specs.Prelude.{◌≡◌, IfOk, IfSome, IfNone, OnSome, length, map};
+ghost use Rattle.f2b_world.specs.Matches.{hosts_in, whole_in, group_in};
+ghost use Rattle.f2b_world.specs.Spans.{IsCut, AreCuts, AreHostCuts};
 
 use crate::pattern::Pattern;
-use crate::pattern::spans::{HostSpans, NumberedSpans, hosts_at, numbered_at};
+use crate::pattern::spans::{Cut, HostSpans, hosts_at, whole_at, write_groups};
 use f2b_base::NoMemory;
 use std::alloc::Global;
 use std::marker::Model;
@@ -55,14 +55,29 @@ impl<'p> Matcher<'p> {
         }
     }
 
-    /// The leftmost match in the line, with the group of that number.
-    pub fn numbered(&mut self, line: &str, group: usize) -> Option<NumberedSpans>
-        ensures found { result ≡ numbered_in self.old group line.now }
-        ensures cuts { IfSome result (AreNumberedCuts line.now) }
+    /// Where the leftmost match in the line lies, by one search. What the groups with these numbers cover is written in the order
+    /// of the numbers. Without a match nothing is written.
+    pub fn matched(
+        &mut self,
+        line: &str,
+        numbers: &[Option<usize>],
+        cuts: &mut [Option<Cut>],
+    ) -> Option<Cut>
+        requires { length cuts.old ≡ length numbers.now }
+        ensures whole { result ≡ whole_in self.old line.now }
+        ensures groups { OnSome result (cuts.new ≡ map (group_in self.old line.now) numbers.now) }
+        ensures none { IfNone result (cuts.new ≡ cuts.old) }
+
+        // All of them can be taken out of the line.
+        ensures inside { IfSome result (IsCut line.now) }
+        ensures cuts { OnSome result (AreCuts line.now cuts.new) }
         ensures same { self.new ≡ self.old }
     {
         match self.inner.captures(line) {
-            Some(captures) => Some(numbered_at(&captures, group)),
+            Some(captures) => {
+                write_groups(&captures, numbers, cuts);
+                Some(whole_at(&captures))
+            }
             None => None,
         }
     }

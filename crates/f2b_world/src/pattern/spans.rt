@@ -1,7 +1,7 @@
 //! Where the groups of a match lie in its line.
-ghost use Rattle.std.specs.Prelude.{◌≡◌, IfSome};
-ghost use Rattle.f2b_world.specs.Captured.{captured_cut, captured_hosts, captured_numbered};
-ghost use Rattle.f2b_world.specs.Spans.{IsCut, AreHostCuts, AreNumberedCuts};
+ghost use Rattle.std.specs.Prelude.{◌≡◌, IfSome, length, map};
+ghost use Rattle.f2b_world.specs.Captured.{captured_cut, captured_hosts, captured_group};
+ghost use Rattle.f2b_world.specs.Spans.{IsCut, AreHostCuts, AreCuts};
 ghost use Rattle.regex.specs.Strings.{captures_haystack, match_haystack, match_span};
 ghost use Rattle.f2b_world.specs.Matches.{cut};
 
@@ -28,13 +28,6 @@ pub struct HostSpans {
     pub name: Option<Cut>,
     /// The group `f2bc`, the part of the line that is looked at further.
     pub content: Option<Cut>,
-}
-
-/// A match, and what one of its groups covers, `None` where the group took no part.
-#[derive(Clone, Copy, Debug, PartialEq, Eq)]
-pub struct NumberedSpans {
-    pub whole: Cut,
-    pub group: Option<Cut>,
 }
 
 fn cut_of(found: Match<'_>) -> Cut
@@ -64,7 +57,7 @@ pub(super) fn hosts_at(captures: &Captures<'_, '_>) -> HostSpans
     ensures cuts { AreHostCuts (captures_haystack captures.now) result }
 {
     HostSpans {
-        whole: cut_of(captures.get_match()),
+        whole: whole_at(captures),
         ip4: named(captures, "f2b4"),
         ip6: named(captures, "f2b6"),
         name: named(captures, "f2bn"),
@@ -72,16 +65,36 @@ pub(super) fn hosts_at(captures: &Captures<'_, '_>) -> HostSpans
     }
 }
 
-/// What the group with that number covers.
-pub(super) fn numbered_at(captures: &Captures<'_, '_>, group: usize) -> NumberedSpans
-    ensures value { result ≡ captured_numbered captures.now group }
-    ensures cuts { AreNumberedCuts (captures_haystack captures.now) result }
+/// Where the match lies.
+pub(super) fn whole_at(captures: &Captures<'_, '_>) -> Cut
+    ensures value { result ≡ cut (match_span captures.now.whole) }
+    ensures cut { IsCut (captures_haystack captures.now) result }
 {
-    NumberedSpans {
-        whole: cut_of(captures.get_match()),
-        group: match captures.get(group) {
-            Some(found) => Some(cut_of(found)),
-            None => None,
-        },
+    cut_of(captures.get_match())
+}
+
+/// What the group with that number covers.
+fn group_at(captures: &Captures<'_, '_>, number: Option<usize>) -> Option<Cut>
+    ensures value { result ≡ captured_group captures.now number }
+    ensures cut { IfSome result (IsCut (captures_haystack captures.now)) }
+{
+    match captures.get(number?) {
+        Some(found) => Some(cut_of(found)),
+        None => None,
+    }
+}
+
+/// Writes what the groups with these numbers cover.
+pub(super) fn write_groups(
+    captures: &Captures<'_, '_>,
+    numbers: &[Option<usize>],
+    cuts: &mut [Option<Cut>],
+)
+    requires { length cuts.old ≡ length numbers.now }
+    ensures value { cuts.new ≡ map (captured_group captures.now) numbers.now }
+    ensures cuts { AreCuts (captures_haystack captures.now) cuts.new }
+{
+    for i in 0..numbers.len() {
+        cuts[i] = group_at(captures, numbers[i]);
     }
 }

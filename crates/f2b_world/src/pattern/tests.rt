@@ -31,7 +31,28 @@ fn groups_of_many_lines(rt: HostRuntime) -> Result<(), Fail> {
     let name = matcher.hosts("bad from somewhere").ok_or("a name")?;
     assert_eq!(rt; name.ip4, None);
     assert_eq!(rt; name.name, Some(Cut { start: 9, end: 18 }));
-    let second = matcher.numbered("bad from 192.7", 2).ok_or("a match")?;
-    assert_eq!(rt; second.group, None);
+    Ok(())
+}
+
+#[test]
+fn numbered_groups_of_many_lines(rt: HostRuntime) -> Result<(), Fail> {
+    let Made::Built(pattern) = build_pattern(rt.alloc(), "([0-9]+)(x)?-([a-z]+)") else {
+        return Err(Fail::from("not built"));
+    };
+    let mut matcher = pattern.matcher(rt.alloc())?;
+    let numbers = [Some(3), None, Some(2), Some(0), Some(1), Some(9)];
+    let mut cuts = [None; 6];
+    let whole = matcher.matched("a 12-bc 3x-d", &numbers, &mut cuts);
+    assert_eq!(rt; whole, Some(Cut { start: 2, end: 7 }));
+    assert_eq!(rt; cuts[0], Some(Cut { start: 5, end: 7 }));
+    assert_eq!(rt; cuts[1], None);
+    assert_eq!(rt; cuts[2], None);
+    assert_eq!(rt; cuts[3], whole);
+    assert_eq!(rt; cuts[4], Some(Cut { start: 2, end: 4 }));
+    assert_eq!(rt; cuts[5], None);
+    assert!(rt; matcher.matched("a 12 3x", &numbers, &mut cuts).is_none());
+    let whole = matcher.matched("3x-d", &numbers, &mut cuts);
+    assert_eq!(rt; whole, Some(Cut { start: 0, end: 4 }));
+    assert_eq!(rt; cuts[2], Some(Cut { start: 1, end: 2 }));
     Ok(())
 }

@@ -47,12 +47,42 @@ fn refused_patterns(rt: HostRuntime) -> Result<(), Fail> {
         ),
         (
             Parts {
-                undated: true,
+                dated: Dated::NoDate,
                 ignore_lines: "(",
                 ..NONE
             },
             PatternPlace::Ignore(1),
             BuildKind::Syntax,
+            1,
+        ),
+        (
+            Parts {
+                dated: Dated::Usual,
+                fail: "(",
+                ..NONE
+            },
+            PatternPlace::Fail(1),
+            BuildKind::Syntax,
+            7,
+        ),
+        (
+            Parts {
+                dated: Dated::Own("%d.%m("),
+                pref: "(",
+                ..NONE
+            },
+            PatternPlace::Date,
+            BuildKind::Syntax,
+            1,
+        ),
+        (
+            Parts {
+                dated: Dated::OwnAnchored("%d.%ma{1000}{1000}{100}"),
+                pref: "(",
+                ..NONE
+            },
+            PatternPlace::Date,
+            BuildKind::TooBig,
             1,
         ),
     ];

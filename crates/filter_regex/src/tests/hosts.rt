@@ -5,7 +5,7 @@ fn found(alloc: Global, pattern: &str, line: &str) -> Result<Finding, Fail> {
     let filter = filter(
         alloc,
         Parts {
-            undated: true,
+            dated: Dated::NoDate,
             fail: pattern,
             ..NONE
         },

@@ -4,7 +4,7 @@ use super::*;
 const NOW: u64 = 1_700_000_110;
 
 const SSHD: Parts<'static> = Parts {
-    undated: false,
+    dated: Dated::Epoch,
     pref: r"^\s*\S+ sshd(?:-session)?\[[0-9]+\]: <F-CONTENT>.+</F-CONTENT>$",
     fail: r"^Failed \S+ for (?:invalid user )?<F-USER>.*</F-USER> from <HOST> port [0-9]+(?: ssh2)?$
 ^Invalid user <F-USER>.*</F-USER> from <HOST>(?: port [0-9]+)?$
@@ -114,7 +114,7 @@ fn times(rt: HostRuntime) -> Result<(), Fail> {
 #[test]
 fn ignored_addresses(rt: HostRuntime) -> Result<(), Fail> {
     let parts = Parts {
-        undated: true,
+        dated: Dated::NoDate,
         fail: "from <HOST>$",
         ignore: "10.0.0.0/8",
         ..NONE
@@ -147,7 +147,7 @@ fn found(alloc: Global, pref: &str, line: &str) -> Result<Finding, Fail> {
     let filter = filter(
         alloc,
         Parts {
-            undated: true,
+            dated: Dated::NoDate,
             pref,
             fail: "^from <HOST>$",
             ..NONE

@@ -1,7 +1,12 @@
 use Rattle.std.proofs.Common.{◌≡◌, Err, rules}
 use Rattle.filter_regex.specs.declared.error.PatternError.TheVariants.{NoMemory}
-use Rattle.filter_regex.proofs.BuildLemmas.{pref_failed, fail_failed, ignore_failed, all_made, all_lost}
+use Rattle.filter_regex.proofs.BuildLemmas.{dates_failed, pref_failed, fail_failed, ignore_failed, all_made, all_lost}
 use Rattle.filter_regex.proofs.build.Filter.build.Goals as goal
+
+pub returns-in_err-dates-clause-calls : goal.returns-in_err-dates-clause-calls
+returns-in_err-dates-clause-calls g c =
+    let outcome : c.from_residual.result ≡ Err c.in_err-dates.field-0.0 = search rules in
+    rw outcome (dates_failed c.args.jail.now _ _ _ _ c.in_err-dates.ensures.calls)
 
 pub returns-in_err-pref-clause-calls : goal.returns-in_err-pref-clause-calls
 returns-in_err-pref-clause-calls g c =
