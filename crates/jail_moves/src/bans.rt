@@ -11,9 +11,7 @@ ghost use Rattle.f2b_model.specs.Until.{until_of};
 pub use crate::ends::end_due;
 pub use crate::unbans::unban;
 use ban_table::{BanLists, BanTable};
-use f2b_base::{
-    Addr, Ban, BanRule, JailDef, NoMemory, Past, Plain, Seq, Span, Until, ban_span,
-};
+use f2b_base::{Addr, Ban, BanRule, JailDef, NoMemory, Past, Plain, Seq, Span, Until, ban_span};
 use std::alloc::Global;
 
 /// The last second that a moment can be.
