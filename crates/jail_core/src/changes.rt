@@ -112,6 +112,33 @@ pub fn limit_in(
     Ok(())
 }
 
+/// Sets other limits in the jail of a name among all jails.
+pub fn limit_among(
+    alloc: Global,
+    definitions: &mut Seq<JailDef>,
+    rooms: &mut Vec<Room>,
+    name: &Text,
+    findtime: Option<u64>,
+    maxretry: Option<u64>,
+) -> Result<(), NoMemory>
+    requires kept { (at : ℕ) × ((next : ℕ) × AreKept at next definitions.old rooms.old.items) }
+    requires findtime { IfSome findtime (λ secs. 1 ≤ secs) }
+    requires maxretry { IfSome maxretry (λ number. (1 ≤ number) × (number < 2 ^ 32)) }
+    ensures jails { (n : ℕ) → OnOk result (in_jail moves_now name.now (alone moves_now (λ (j : JailNow). limited_now (unwrap_or findtime j.definition.findtime) (unwrap_or maxretry j.definition.maxretry) j)) n (jails_in definitions.old rooms.old.items)
+        ≡ record { jails = jails_in definitions.new rooms.new.items; next = n }) }
+    ensures kept { (at next : ℕ) → AreKept at next definitions.old rooms.old.items → OnOk result (AreKept at next definitions.new rooms.new.items) }
+{
+    limit_in(
+        alloc,
+        definitions,
+        rooms.as_mut_slice(),
+        name,
+        findtime,
+        maxretry,
+    )?;
+    Ok(())
+}
+
 /// Sets whether the logs of the jail of a name are not looked at, if there is one.
 pub fn idle_in(definitions: &[JailDef], rooms: &mut [Room], name: &Text, idle: bool)
     requires { length rooms.old ≡ length definitions.now }

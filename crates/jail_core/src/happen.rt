@@ -5,7 +5,7 @@ ghost use Rattle.jail_core.specs.Happened.{happened, told_happened};
 ghost use Rattle.jail_core.specs.Jails.{is_of_jails};
 ghost use Rattle.jail_core.specs.Kept.{jails_in, AreKept, IsBoundedWhat};
 
-use crate::changes::{idle_in, ignore_in, limit_in, span_in};
+use crate::changes::{idle_in, ignore_in, limit_among, span_in};
 use crate::each::unban_all;
 use crate::reads::{Reading, Turn};
 use crate::within::{ban_in, find_in, read_in};
@@ -119,14 +119,7 @@ pub fn happen(
             Ok(turn.serial)
         }
         What::Findtime { jail, secs } => {
-            limit_in(
-                alloc,
-                definitions,
-                rooms.as_mut_slice(),
-                jail,
-                Some(*secs),
-                None,
-            )?;
+            limit_among(alloc, definitions, rooms, jail, Some(*secs), None)?;
             Ok(turn.serial)
         }
         What::Bantime { jail, secs } => {
@@ -134,14 +127,7 @@ pub fn happen(
             Ok(turn.serial)
         }
         What::Maxretry { jail, number } => {
-            limit_in(
-                alloc,
-                definitions,
-                rooms.as_mut_slice(),
-                jail,
-                None,
-                Some(*number),
-            )?;
+            limit_among(alloc, definitions, rooms, jail, None, Some(*number))?;
             Ok(turn.serial)
         }
         What::Idle { jail, idle } => {
