@@ -1,103 +1,88 @@
--- The step, from its parts.
-use Rattle.std.proofs.Common.{◌≡◌, ℕ, max, Bool, true, false, cond, List, [], ◌∷◌, ◌++◌, map, refl, sym, ◌∙◌, ap, ap₂, subst}
-use Rattle.f2b_base.specs.declared.ban.Ban.{Ban}
+-- The step of the core, from its parts.
+use Rattle.std.proofs.Common.{◌≡◌, ℕ, max, false, List, [], ◌++◌, map, refl, sym, ◌∙◌, ap}
 use Rattle.f2b_base.specs.declared.input.Input.{Input}
 use Rattle.f2b_base.specs.declared.input.What.{What}
 use Rattle.f2b_base.specs.declared.input.What.TheVariants.{Tick, Read, Ended, Config, Stop, Ban as BanThese, Unban, Attempt, Ignore, Findtime, Bantime, Maxretry, Idle}
-use Rattle.f2b_base.specs.declared.job.Job.{Job}
 use Rattle.f2b_model.specs.declared.happening.Happening.{Happening}
 use Rattle.f2b_model.specs.declared.jail_now.JailNow.{JailNow}
-use Rattle.f2b_model.specs.Active.{held, held_by, held_in}
-use Rattle.f2b_model.specs.Lanes.{Lanes, books_now, issue, lanes_done, lanes_step}
 use Rattle.f2b_model.specs.Nows.{JailsNow}
 use Rattle.f2b_model.specs.NowMoves.{dropped_now}
-use Rattle.f2b_model.specs.Orders.{Held, told_orders}
-use Rattle.f2b_model.specs.Steps.{Outs, moves_now, with_outs, is_spent, at_reading, done, each_jail, raised, jails_step_now}
+use Rattle.f2b_model.specs.Steps.{Outs, moves_now, with_outs, is_spent, ended_by_time, done, each_jail, raised, jails_step_now}
 use Rattle.f2b_model.specs.Told.{told_each, told_ends, told_done, jails_told}
-use Rattle.f2b_model.specs.Whole.{Now, is_whole_spent, step_now, told_now}
-use Rattle.jail_core.specs.Happened.{happened, told_happened}
-use Rattle.jail_core.specs.Jails.{is_of_jails}
+use Rattle.jail_core.specs.Kept.{IsTaken}
+use Rattle.jail_core.specs.Reading.{happened, told_happened}
 use Rattle.jail_core.proofs.LogLemmas.{read_at_once, told_read_at_once}
-use Rattle.jail_core.proofs.ReadLemmas.{banned_at_once, found_at_once, told_at_once, told_banned_at_once}
 
--- what is done of an input of the jails alone
-pub done_is : (word : ℕ) (what : What) (w : JailsNow) → is_of_jails what ≡ true → done moves_now word what w ≡ with_outs w (happened w.at word what w.next_ban w.jails)
-done_is word Tick w alone = refl
-done_is word (Read jail path place found) w alone = read_at_once word jail path place found w
-done_is word (Ended job outcome) w alone = absurd (let k : false ≡ true = alone in cc)
-done_is word (Config defs) w alone = absurd (let k : false ≡ true = alone in cc)
-done_is word Stop w alone = absurd (let k : false ≡ true = alone in cc)
-done_is word (BanThese jail addrs) w alone = banned_at_once word jail addrs w
-done_is word (Unban jail addrs) w alone = refl
-done_is word (Attempt jail addr) w alone = found_at_once word jail (record { addr = addr; time = w.at; line = [] } ∷ []) w
-done_is word (Ignore jail cidr add) w alone = refl
-done_is word (Findtime jail secs) w alone = refl
-done_is word (Bantime jail secs) w alone = refl
-done_is word (Maxretry jail number) w alone = refl
-done_is word (Idle jail idle) w alone = refl
+-- what is done of a taken input
+done_is : (word : ℕ) (what : What) (w : JailsNow) → IsTaken what → done moves_now word what w ≡ with_outs w (happened w.at word what w.next_ban w.jails)
+done_is word Tick w taken = refl
+done_is word (Read jail path place found) w taken = read_at_once word jail path place found w
+done_is word (Ended job outcome) w taken = absurd taken
+done_is word (Config defs) w taken = absurd taken
+done_is word Stop w taken = absurd taken
+done_is word (BanThese jail addrs) w taken = absurd taken
+done_is word (Unban jail addrs) w taken = absurd taken
+done_is word (Attempt jail addr) w taken = absurd taken
+done_is word (Ignore jail cidr add) w taken = refl
+done_is word (Findtime jail secs) w taken = absurd taken
+done_is word (Bantime jail secs) w taken = absurd taken
+done_is word (Maxretry jail number) w taken = absurd taken
+done_is word (Idle jail idle) w taken = absurd taken
 
--- and what it tells
-pub told_is : (word : ℕ) (what : What) (w : JailsNow) → is_of_jails what ≡ true → told_done moves_now word what w ≡ told_happened w.at word what w.next_ban w.jails
-told_is word Tick w alone = refl
-told_is word (Read jail path place found) w alone = told_read_at_once word jail path place found w
-told_is word (Ended job outcome) w alone = absurd (let k : false ≡ true = alone in cc)
-told_is word (Config defs) w alone = absurd (let k : false ≡ true = alone in cc)
-told_is word Stop w alone = absurd (let k : false ≡ true = alone in cc)
-told_is word (BanThese jail addrs) w alone = told_banned_at_once word jail addrs w
-told_is word (Unban jail addrs) w alone = refl
-told_is word (Attempt jail addr) w alone = told_at_once word jail (record { addr = addr; time = w.at; line = [] } ∷ []) w
-told_is word (Ignore jail cidr add) w alone = refl
-told_is word (Findtime jail secs) w alone = refl
-told_is word (Bantime jail secs) w alone = refl
-told_is word (Maxretry jail number) w alone = refl
-told_is word (Idle jail idle) w alone = refl
+told_is : (word : ℕ) (what : What) (w : JailsNow) → IsTaken what → told_done moves_now word what w ≡ told_happened w.at word what w.next_ban w.jails
+told_is word Tick w taken = refl
+told_is word (Read jail path place found) w taken = told_read_at_once word jail path place found w
+told_is word (Ended job outcome) w taken = absurd taken
+told_is word (Config defs) w taken = absurd taken
+told_is word Stop w taken = absurd taken
+told_is word (BanThese jail addrs) w taken = absurd taken
+told_is word (Unban jail addrs) w taken = absurd taken
+told_is word (Attempt jail addr) w taken = absurd taken
+told_is word (Ignore jail cidr add) w taken = refl
+told_is word (Findtime jail secs) w taken = absurd taken
+told_is word (Bantime jail secs) w taken = absurd taken
+told_is word (Maxretry jail number) w taken = absurd taken
+told_is word (Idle jail idle) w taken = absurd taken
 
--- what happened leaves the moment
-pub done_at : (word : ℕ) (what : What) (w : JailsNow) → (done moves_now word what w).at ≡ w.at
-done_at word Tick w = refl
-done_at word (Read jail path place found) w = ap (λ (r : JailsNow). r.at) (read_at_once word jail path place found w)
-done_at word (Ended job outcome) w = refl
-done_at word (Config defs) w = refl
-done_at word Stop w = refl
-done_at word (BanThese jail addrs) w = ap (λ (r : JailsNow). r.at) (banned_at_once word jail addrs w)
-done_at word (Unban jail addrs) w = refl
-done_at word (Attempt jail addr) w = ap (λ (r : JailsNow). r.at) (found_at_once word jail (record { addr = addr; time = w.at; line = [] } ∷ []) w)
-done_at word (Ignore jail cidr add) w = refl
-done_at word (Findtime jail secs) w = refl
-done_at word (Bantime jail secs) w = refl
-done_at word (Maxretry jail number) w = refl
-done_at word (Idle jail idle) w = refl
+-- the step of a state that is not spent
+step_open : (w : JailsNow) (input : Input) → IsTaken input.what → is_spent w ≡ false
+    → (let at = max w.at input.secs in
+    let o = happened at input.word input.what w.next_ban (map (ended_by_time moves_now at) w.jails) in
+    record { at = at; purge = w.purge; jails = map (dropped_now at w.purge) o.jails; next_ban = o.next }) ≡ jails_step_now w input
+step_open w input taken unspent =
+    let now = raised moves_now input.secs w in
+    let ended = each_jail moves_now (ended_by_time moves_now now.at) now in
+    rw unspent (sym (ap (λ (r : JailsNow). each_jail moves_now (dropped_now r.at r.purge) r) (done_is input.word input.what ended taken)))
 
--- what is over for long is no active ban
-pub held_dropped : (at purge : ℕ) (js : List JailNow) → held_by moves_now (map (dropped_now at purge) js) ≡ held_by moves_now js
-held_dropped at purge [] = refl
-held_dropped at purge (j ∷ js) = ap (λ (r : List Held). held_in moves_now j ++ r) (held_dropped at purge js)
+-- the parts of a step in their turn
+pub step_is : (w : JailsNow) (input : Input) (at next : ℕ) (ended after last : List JailNow) → IsTaken input.what → is_spent w ≡ false → at ≡ max w.at input.secs
+    → ended ≡ map (ended_by_time moves_now at) w.jails → happened at input.word input.what w.next_ban ended ≡ record { jails = after; next = next }
+    → last ≡ map (dropped_now at w.purge) after → record { at = at; purge = w.purge; jails = last; next_ban = next } ≡ jails_step_now w input
+step_is w input at next ended after last taken unspent at_is ended_is after_is last_is =
+    let result : ℕ → Outs JailNow → JailsNow = λ a o. record { at = a; purge = w.purge; jails = map (dropped_now a w.purge) o.jails; next_ban = o.next } in
+    let whole : ℕ → JailsNow = λ a. result a (happened a input.word input.what w.next_ban (map (ended_by_time moves_now a) w.jails)) in
+    ap (λ (js : List JailNow). record { at = at; purge = w.purge; jails = js; next_ban = next }) last_is
+    ∙ ap (result at) (sym after_is ∙ ap (happened at input.word input.what w.next_ban) ended_is)
+    ∙ ap whole at_is
+    ∙ step_open w input taken unspent
 
--- The step of a state that is not spent, from its parts: the jails at the reading, what happened to them, and the lanes.
-pub step_is : (n : Now) (input : Input) (after last : JailsNow) (told : List Happening) (lanes : Lanes (List Job))
-    → is_whole_spent moves_now books_now n ≡ false → is_spent n.world ≡ false
-    → after ≡ done moves_now input.word input.what (at_reading moves_now input.secs n.world)
-    → last ≡ each_jail moves_now (dropped_now after.at after.purge) after
-    → told ≡ jails_told moves_now n.world input
-    → lanes ≡ lanes_step books_now after.at input.what (held moves_now (at_reading moves_now input.secs n.world)) (held moves_now after) told n.lanes
-    → record { world = last; lanes = lanes } ≡ step_now n input
-step_is n input after last told lanes unspent fresh after_is last_is told_is lanes_is =
-    let mid = at_reading moves_now input.secs n.world in
-    let whole : JailsNow → JailsNow = λ w. each_jail moves_now (dropped_now w.at w.purge) w in
-    let step : JailsNow = jails_step_now n.world input in
-    let world : last ≡ step = last_is ∙ ap whole after_is ∙ (rw fresh refl) in
-    let moment : after.at ≡ step.at = sym (ap (λ (w : JailsNow). w.at) last_is) ∙ ap (λ (w : JailsNow). w.at) world in
-    let bans : held moves_now after ≡ held moves_now step =
-    sym (held_dropped after.at after.purge after.jails) ∙ sym (ap (held moves_now) last_is) ∙ ap (held moves_now) world in
-    let books : ℕ → List Held → List Happening → Lanes (List Job) = λ at h t. lanes_step books_now at input.what (held moves_now mid) h t n.lanes in
-    let all : lanes ≡ books step.at (held moves_now step) (jails_told moves_now n.world input) =
-    lanes_is ∙ ap (λ at. books at (held moves_now after) told) moment ∙ ap₂ (books step.at) bans told_is in
-    rw unspent (ap₂ (λ (w : JailsNow) (l : Lanes (List Job)). let r : Now = record { world = w; lanes = l } in r) world all)
+-- what the step of a state that is not spent tells
+told_open : (w : JailsNow) (input : Input) → IsTaken input.what → is_spent w ≡ false
+    → (let at = max w.at input.secs in
+    told_each (told_ends moves_now at) w.jails ++ told_happened at input.word input.what w.next_ban (map (ended_by_time moves_now at) w.jails)) ≡ jails_told moves_now w input
+told_open w input taken unspent =
+    let now = raised moves_now input.secs w in
+    let ended = each_jail moves_now (ended_by_time moves_now now.at) now in
+    rw unspent (sym (ap (λ r. told_each (told_ends moves_now now.at) w.jails ++ r) (told_is input.word input.what ended taken)))
 
--- and what it tells
-pub told_step_is : (n : Now) (input : Input) (first all : List Happening) → is_whole_spent moves_now books_now n ≡ false → is_spent n.world ≡ false
-    → first ≡ told_each (told_ends moves_now (max n.world.at input.secs)) n.world.jails
-    → all ≡ first ++ told_done moves_now input.word input.what (at_reading moves_now input.secs n.world)
-    → all ≡ jails_told moves_now n.world input
-told_step_is n input first all unspent fresh first_is all_is =
-    all_is ∙ ap (λ (r : List Happening). r ++ told_done moves_now input.word input.what (at_reading moves_now input.secs n.world)) first_is ∙ (rw fresh refl)
+-- and what its parts tell in their turn
+pub told_step_is : (w : JailsNow) (input : Input) (at : ℕ) (ended : List JailNow) (first all : List Happening) → IsTaken input.what → is_spent w ≡ false → at ≡ max w.at input.secs
+    → ended ≡ map (ended_by_time moves_now at) w.jails → first ≡ [] ++ told_each (told_ends moves_now at) w.jails
+    → all ≡ first ++ told_happened at input.word input.what w.next_ban ended → all ≡ jails_told moves_now w input
+told_step_is w input at ended first all taken unspent at_is ended_is first_is all_is =
+    let whole : ℕ → List Happening = λ a. told_each (told_ends moves_now a) w.jails ++ told_happened a input.word input.what w.next_ban (map (ended_by_time moves_now a) w.jails) in
+    all_is
+    ∙ ap (λ r. r ++ told_happened at input.word input.what w.next_ban ended) first_is
+    ∙ ap (λ js. told_each (told_ends moves_now at) w.jails ++ told_happened at input.word input.what w.next_ban js) ended_is
+    ∙ ap whole at_is
+    ∙ told_open w input taken unspent

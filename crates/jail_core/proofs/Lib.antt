@@ -1,8 +1,8 @@
-pub mod CoreLemmas
-pub mod ConfigureLemmas
-pub mod ConfigureRooms
-pub mod EachLemmas
-pub mod LogLemmas
 pub mod PlaceLemmas
+pub mod OwnLemmas
+pub mod RunLemmas
+pub mod KeptLemmas
 pub mod ReadLemmas
-pub mod StoredLemmas
+pub mod LogLemmas
+pub mod LoopLemmas
+pub mod CoreLemmas

@@ -15,7 +15,8 @@ use Rattle.f2b_model.specs.Steps.{Outs, moves_now, with_outs, in_jail, at_jail, 
 use Rattle.f2b_model.specs.Told.{told_in, told_done}
 use Rattle.f2b_model.specs.Watches.{is_watched, with_place}
 use Rattle.f2b_model.proofs.ListLemmas.{by_test}
-use Rattle.jail_core.specs.Reading.{found_each, read_each, told_each_found, told_read}
+use Rattle.jail_core.specs.Kept.{IsKept}
+use Rattle.jail_core.specs.Reading.{found_each, read_each, told_each_found, told_read, watch_place}
 use Rattle.jail_core.proofs.ReadLemmas.{in_jail_twice, found_at_once, told_at_once}
 
 -- a move on the jail of a name, where it watches the path
@@ -81,6 +82,18 @@ told_read_at_once word name path place fs w =
 pub alone_is : (n : ℕ) (k j : JailNow) → k ≡ j → ◌≡◌ {A = Out JailNow} (record { jail = j; next = n }) (record { jail = k; next = n })
 alone_is n k j e = ap (λ (r : JailNow). record { jail = r; next = n }) (sym e)
 
+-- the watch of a path, in its place
+pub place_is_set : (path : List ℕ) (place : Place) (ws : List WatchView) (d : WatchView) → watch_place path ws < length ws
+    → (is_watched path ws ≡ true)
+    × (insert (remove ws (watch_place path ws)) (watch_place path ws) (record { path = (get_or ws (watch_place path ws) d).path; place = place }) ≡ with_place path place ws)
+place_is_set path place [] d lt = absurd (omega arith)
+place_is_set path place (w ∷ ws) d lt =
+    by_test (bytes_eq w.path path) _
+    (λ t. rw t (refl, refl))
+    (λ t. let lt2 : suc (watch_place path ws) < suc (length ws) = rw t at lt in
+    let rest = place_is_set path place ws d (omega arith) in
+    rw t (rest.0, ap (λ r. w ∷ r) rest.1))
+
 -- a path that is not watched has no place to set
 unwatched_same : (path : List ℕ) (place : Place) (ws : List WatchView) → is_watched path ws ≡ false → with_place path place ws ≡ ws
 unwatched_same path place [] h = refl
@@ -95,3 +108,38 @@ read_unwatched at word n path place fs j k watched is none k_is =
     let h : is_watched path j.watches ≡ false = sym is ∙ none in
     let same : k ≡ j = k_is ∙ ap (λ (ws : List WatchView). record j { watches = ws }) (unwatched_same path place j.watches h) in
     rw h (ap (λ (r : JailNow). record { jail = r; next = n }) (sym same))
+
+pub set_at : (path : List ℕ) (place copied : Place) (ws seen removed new : List WatchView) (i : ℕ) (w : WatchView) → seen ≡ ws → i ≡ watch_place path seen → i < length ws
+    → w ≡ get_or ws i w → removed ≡ remove ws i → copied ≡ place → new ≡ insert removed i (record { path = w.path; place = copied })
+    → (true ≡ is_watched path ws) × (new ≡ with_place path place ws)
+set_at path place copied ws seen removed new i w seen_is i_is lt w_is removed_is copied_is new_is =
+    let at : i ≡ watch_place path ws = i_is ∙ ap (watch_place path) seen_is in
+    let lt2 : watch_place path ws < length ws = omega arith in
+    let set = place_is_set path place ws w lt2 in
+    let own : w ≡ get_or ws (watch_place path ws) w = w_is ∙ ap (λ k. get_or ws k w) at in (
+      sym (set.0),
+      new_is
+          ∙ ap₂ (λ (r : List WatchView) (p : Place). insert r i (record { path = w.path; place = p })) removed_is copied_is
+          ∙ ap (λ k. insert (remove ws k) k (record { path = w.path; place = place })) at
+          ∙ ap (λ (v : WatchView). insert (remove ws (watch_place path ws)) (watch_place path ws) (record { path = v.path; place = place })) own
+          ∙ set.1,
+    )
+
+-- where no watch is of the path, nothing changes
+pub place_is_nowhere : (path : List ℕ) (place : Place) (ws : List WatchView) → length ws ≤ watch_place path ws
+    → (is_watched path ws ≡ false) × (with_place path place ws ≡ ws)
+place_is_nowhere path place [] le = (refl, refl)
+place_is_nowhere path place (w ∷ ws) le =
+    by_test (bytes_eq w.path path) _
+    (λ t. let le2 : suc (length ws) ≤ 0 = rw t at le in absurd (omega arith))
+    (λ t. let le2 : suc (length ws) ≤ suc (watch_place path ws) = rw t at le in
+    let rest = place_is_nowhere path place ws (omega arith) in
+    rw t (rest.0, ap (λ r. w ∷ r) rest.1))
+
+-- what always holds of a jail stays
+pub followed_kept : (path : List ℕ) (place : Place) (j : JailNow) → IsKept j → IsKept (followed_now path place j)
+followed_kept path place j kept = record { bounded = kept.bounded; in_order = kept.in_order; late = kept.late }
+
+pub ignored_kept : (cidr : Cidr) (add : Bool) (j : JailNow) → IsKept j → IsKept (moves_now.ignored cidr add j)
+ignored_kept cidr true j kept = record { bounded = record { rule = kept.bounded.rule; maxretry = kept.bounded.maxretry }; in_order = kept.in_order; late = kept.late }
+ignored_kept cidr false j kept = record { bounded = record { rule = kept.bounded.rule; maxretry = kept.bounded.maxretry }; in_order = kept.in_order; late = kept.late }

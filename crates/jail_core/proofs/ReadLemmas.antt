@@ -1,21 +1,20 @@
--- Failures found and bans begun in a jail, one by one and all at once.
+-- Failures found in a jail, one by one and all at once.
 use Rattle.std.proofs.Common.{◌≡◌, ℕ, zero, suc, ◌+◌, ◌≤◌, ◌<◌, List, [], ◌∷◌, ◌++◌, length, get_or, drop, refl, sym, ◌∙◌, ap, arith, append_assoc}
 use Rattle.std.proofs.Math.ListN.{set}
 use Rattle.std.specs.Prelude.{bytes_eq}
-use Rattle.f2b_base.specs.declared.addr.Addr.{Addr}
 use Rattle.f2b_base.specs.declared.ban.Failure.{Failure}
 use Rattle.f2b_model.specs.declared.happening.Happening.{Happening}
 use Rattle.f2b_model.specs.declared.jail_now.JailNow.{JailNow}
 use Rattle.f2b_model.specs.Full.{is_full}
-use Rattle.f2b_model.specs.Moves.{Out, counts, is_banned}
+use Rattle.f2b_model.specs.Moves.{Out, counts}
 use Rattle.f2b_model.specs.Nows.{JailsNow}
-use Rattle.f2b_model.specs.NowMoves.{banned_now, counted_now, found_now}
-use Rattle.f2b_model.specs.Steps.{Outs, moves_now, with_outs, in_jail, at_jail, ban_all, found_all}
-use Rattle.f2b_model.specs.Told.{told_banned, told_found, told_in, told_all_banned, told_all_found}
+use Rattle.f2b_model.specs.NowMoves.{counted_now, found_now}
+use Rattle.f2b_model.specs.Steps.{Outs, moves_now, with_outs, in_jail, at_jail, found_all}
+use Rattle.f2b_model.specs.Told.{told_found, told_in, told_all_found}
 use Rattle.f2b_model.proofs.ListLemmas.{by_test}
-use Rattle.jail_core.specs.Reading.{banned_each, found_each, told_each_banned, told_each_found}
+use Rattle.jail_core.specs.Reading.{jail_place, found_each, told_each_found}
 
-drop_at : {A : Type 0} (fs : List A) (i : ℕ) (f : A) → i < length fs → f ≡ get_or fs i f → drop i fs ≡ f ∷ drop (i + 1) fs
+drop_at : (fs : List Failure) (i : ℕ) (f : Failure) → i < length fs → f ≡ get_or fs i f → drop i fs ≡ f ∷ drop (i + 1) fs
 drop_at [] i f lt e = absurd (omega arith)
 drop_at (g ∷ gs) zero f lt e = ap (λ x. x ∷ gs) (sym e)
 drop_at (g ∷ gs) (suc i) f lt e = let s : suc i + 1 ≡ suc (i + 1) = omega arith in rw s (drop_at gs i f (omega arith) e)
@@ -89,40 +88,46 @@ told_at_once word name (f ∷ fs) w =
     ∙ told_in_twice name (λ n j. found_now w.at word n f j) (told_found moves_now w.at word f w.next_ban) (told_each_found w.at word fs)
     (λ n j. found_definition w.at word n f j) w.next_ban w.jails
 
--- ---- bans by command
+-- the jail of a name, by its place
+place_is : (name : List ℕ) (f : ℕ → JailNow → Out JailNow) (n : ℕ) (d : JailNow) (js : List JailNow) → jail_place name js < length js
+    → in_jail moves_now name f n js ≡ record { jails = set js (jail_place name js) (f n (get_or js (jail_place name js) d)).jail; next = (f n (get_or js (jail_place name js) d)).next }
+place_is name f n d [] h = absurd (omega arith)
+place_is name f n d (j ∷ js) h =
+    by_test (bytes_eq j.definition.name name) _
+    (λ t. rw t refl)
+    (λ t. let h2 : suc (jail_place name js) < suc (length js) = rw t at h in
+    rw t (ap (λ (o : Outs JailNow). record { jails = j ∷ o.jails; next = o.next }) (place_is name f n d js (omega arith))))
 
--- after one more of the bans
-pub banned_more : (at word n m i : ℕ) (addrs : List Addr) (addr : Addr) (j k : JailNow) → i < length addrs → addr ≡ get_or addrs i addr
-    → banned_now at word n addr j ≡ record { jail = k; next = m } → banned_each at word (drop (i + 1) addrs) m k ≡ banned_each at word (drop i addrs) n j
-banned_more at word n m i addrs addr j k lt e is =
-    sym (ap (λ r. banned_each at word r n j) (drop_at addrs i addr lt e) ∙ ap (λ (o : Out JailNow). banned_each at word (drop (i + 1) addrs) o.next o.jail) is)
+pub in_jail_at : (name : List ℕ) (f : ℕ → JailNow → Out JailNow) (n i next : ℕ) (d k : JailNow) (js : List JailNow) → i ≡ jail_place name js → i < length js
+    → f n (get_or js i d) ≡ record { jail = k; next = next } → in_jail moves_now name f n js ≡ record { jails = set js i k; next = next }
+in_jail_at name f n i next d k js e lt is =
+    let lt2 : jail_place name js < length js = rw (← e) lt in
+    place_is name f n d js lt2 ∙ (rw (← e) (ap (λ (o : Out JailNow). record { jails = set js i o.jail; next = o.next }) is))
 
-pub told_banned_more : (at word n m i : ℕ) (addrs : List Addr) (addr : Addr) (j k : JailNow) (told told_now all : List Happening) → i < length addrs → addr ≡ get_or addrs i addr
-    → banned_now at word n addr j ≡ record { jail = k; next = m } → told_now ≡ told ++ told_banned moves_now at word addr n j
-    → told ++ told_each_banned at word (drop i addrs) n j ≡ all → told_now ++ told_each_banned at word (drop (i + 1) addrs) m k ≡ all
-told_banned_more at word n m i addrs addr j k told told_now all lt e is more h =
-    let rest = told_each_banned at word (drop (i + 1) addrs) m k in
-    let here : told_each_banned at word (drop i addrs) n j ≡ told_banned moves_now at word addr n j ++ rest =
-    ap (λ r. told_each_banned at word r n j) (drop_at addrs i addr lt e)
-    ∙ ap (λ (o : Out JailNow). told_banned moves_now at word addr n j ++ told_each_banned at word (drop (i + 1) addrs) o.next o.jail) is in
-    ap (λ r. r ++ rest) more ∙ append_assoc told (told_banned moves_now at word addr n j) rest ∙ ap (λ r. told ++ r) (sym here) ∙ h
+pub in_jail_none : (name : List ℕ) (f : ℕ → JailNow → Out JailNow) (n i : ℕ) (js : List JailNow) → i ≡ jail_place name js → length js ≤ i
+    → in_jail moves_now name f n js ≡ record { jails = js; next = n }
+in_jail_none name f n i [] e h = refl
+in_jail_none name f n i (j ∷ js) e h =
+    by_test (bytes_eq j.definition.name name) _
+    (λ t. let z : i ≡ 0 = rw t at e in absurd (omega arith))
+    (λ t. let z : i ≡ suc (jail_place name js) = rw t at e in
+    rw t (ap (λ (o : Outs JailNow). record { jails = j ∷ o.jails; next = o.next }) (in_jail_none name f n (jail_place name js) js refl (omega arith))))
 
--- a ban leaves the definition
-banned_definition : (at word n : ℕ) (addr : Addr) (j : JailNow) → (banned_now at word n addr j).jail.definition ≡ j.definition
-banned_definition at word n addr j = by_test (is_banned addr j.bans) _ (λ e. rw e refl) (λ e. rw e refl)
+told_place : (name : List ℕ) (t : JailNow → List Happening) (d : JailNow) (js : List JailNow) → jail_place name js < length js
+    → told_in moves_now name t js ≡ t (get_or js (jail_place name js) d)
+told_place name t d [] h = absurd (omega arith)
+told_place name t d (j ∷ js) h =
+    by_test (bytes_eq j.definition.name name) _
+    (λ e. rw e refl)
+    (λ e. let h2 : suc (jail_place name js) < suc (length js) = rw e at h in rw e (told_place name t d js (omega arith)))
 
-pub banned_at_once : (word : ℕ) (name : List ℕ) (addrs : List Addr) (w : JailsNow) → ban_all moves_now word name addrs w ≡ at_jail moves_now name (banned_each w.at word addrs) w
-banned_at_once word name [] w = ap (λ (o : Outs JailNow). with_outs w o) (sym (in_jail_same name w.next_ban w.jails))
-banned_at_once word name (addr ∷ addrs) w =
-    banned_at_once word name addrs (at_jail moves_now name (λ n j. banned_now w.at word n addr j) w)
-    ∙ ap (λ (o : Outs JailNow). with_outs w o)
-    (in_jail_twice name (λ n j. banned_now w.at word n addr j) (banned_each w.at word addrs) (λ n j. banned_definition w.at word n addr j) w.next_ban w.jails)
+pub told_in_at : (name : List ℕ) (t : JailNow → List Happening) (i : ℕ) (d : JailNow) (js : List JailNow) → i ≡ jail_place name js → i < length js
+    → told_in moves_now name t js ≡ t (get_or js i d)
+told_in_at name t i d js e lt = let lt2 : jail_place name js < length js = rw (← e) lt in rw e (told_place name t d js lt2)
 
-pub told_banned_at_once : (word : ℕ) (name : List ℕ) (addrs : List Addr) (w : JailsNow)
-    → told_all_banned moves_now word name addrs w ≡ told_in moves_now name (told_each_banned w.at word addrs w.next_ban) w.jails
-told_banned_at_once word name [] w = sym (told_in_none name w.jails)
-told_banned_at_once word name (addr ∷ addrs) w =
-    ap (λ r. told_in moves_now name (told_banned moves_now w.at word addr w.next_ban) w.jails ++ r)
-    (told_banned_at_once word name addrs (at_jail moves_now name (λ n j. banned_now w.at word n addr j) w))
-    ∙ told_in_twice name (λ n j. banned_now w.at word n addr j) (told_banned moves_now w.at word addr w.next_ban) (told_each_banned w.at word addrs)
-    (λ n j. banned_definition w.at word n addr j) w.next_ban w.jails
+pub told_in_nowhere : (name : List ℕ) (t : JailNow → List Happening) (i : ℕ) (js : List JailNow) → i ≡ jail_place name js → length js ≤ i → told_in moves_now name t js ≡ []
+told_in_nowhere name t i [] e h = refl
+told_in_nowhere name t i (j ∷ js) e h =
+    by_test (bytes_eq j.definition.name name) _
+    (λ d. let z : i ≡ 0 = rw d at e in absurd (omega arith))
+    (λ d. let z : i ≡ suc (jail_place name js) = rw d at e in rw d (told_in_nowhere name t (jail_place name js) js refl (omega arith)))

@@ -1,36 +1,33 @@
--- The jails of a core: their definitions and what is kept beside them, what always holds of both, and which inputs are taken.
-use Rattle.std.specs.Prelude.{◌≡◌, ℕ, ◌^◌, ◌<◌, ◌≤◌, ◌≤ℤ◌, pos, List, [], ◌∷◌}
-use Rattle.f2b_base.specs.declared.input.Input.{Input}
+-- What always holds of the jails that the core keeps, and what it takes.
+use Rattle.std.specs.Prelude.{◌≡◌, ◌≤◌, true, List}
+use Rattle.f2b_base.specs.declared.ban.Failure.{Failure}
 use Rattle.f2b_base.specs.declared.input.What.{What}
-use Rattle.f2b_base.specs.declared.input.What.TheVariants.{Config, Findtime, Bantime, Maxretry}
+use Rattle.f2b_base.specs.declared.input.What.TheVariants.{Tick, Read, Ignore}
 use Rattle.f2b_base.specs.declared.jail.JailDef.{JailDef}
+use Rattle.f2b_base.specs.Span.{IsRule}
 use Rattle.f2b_model.specs.declared.jail_now.JailNow.{JailNow}
-use Rattle.f2b_model.specs.Lists.{AllOf}
-use Rattle.f2b_model.specs.Sound.{IsFit}
-use Rattle.jail_moves.specs.Rooms.{Contents, jail_in, IsBounded, IsKept}
+use Rattle.f2b_model.specs.Full.{is_late}
+use Rattle.f2b_model.specs.Lists.{AllOf, IsInOrder}
+use Rattle.f2b_model.specs.Nows.{comes_before}
 
--- the middle states of jails, by their definitions and what is kept of each
-abbrev pub jails_in : List JailDef → List Contents → List JailNow
-jails_in [] cs = []
-jails_in (d ∷ ds) [] = []
-jails_in (d ∷ ds) (c ∷ cs) = jail_in d c ∷ jails_in ds cs
+-- the rule of the bans is within its bounds, and an address is full after one failure at least
+pub record IsBounded (d : JailDef) : Type 0 where
+  pub rule : IsRule d.rule
+  pub maxretry : 1 ≤ d.maxretry
 
--- what always holds of jails at a moment, where the ban to come has that serial: something is kept of each definition
-abbrev pub AreKept : ℕ → ℕ → List JailDef → List Contents → Type 0
-AreKept at next [] [] = Unit {0}
-AreKept at next [] (c ∷ cs) = ⊥
-AreKept at next (d ∷ ds) [] = ⊥
-AreKept at next (d ∷ ds) (c ∷ cs) = IsKept at next d c × AreKept at next ds cs
+-- the failures stand in order, and all are late at the last one that counted
+pub record IsKept (j : JailNow) : Type 0 where
+  pub bounded : IsBounded j.definition
+  pub in_order : IsInOrder comes_before j.failures
+  pub late : AllOf (λ (f : Failure). is_late j.moment j.definition.findtime f ≡ true) j.failures
 
--- the numbers of what happened are within their bounds
-abbrev pub IsBoundedWhat : What → Type 0
-IsBoundedWhat (Config defs) = AllOf IsBounded defs.jails
-IsBoundedWhat (Findtime jail secs) = 1 ≤ secs
-IsBoundedWhat (Bantime jail secs) = secs ≤ℤ pos 3153600000
-IsBoundedWhat (Maxretry jail number) = (1 ≤ number) × (number < 2 ^ 32)
-IsBoundedWhat _ = Unit {0}
+-- each jail does so
+abbrev pub AreKept : List JailNow → Type 0
+AreKept js = AllOf IsKept js
 
--- an input that the core takes: one that the model takes, with its numbers within their bounds
-pub record IsTaken (input : Input) : Type 0 where
-  pub fit : IsFit input
-  pub bounded : IsBoundedWhat input.what
+-- what the core takes: time that passed, what was read of a log, and a mask of addresses that are never banned
+abbrev pub IsTaken : What → Type 0
+IsTaken Tick = Unit {0}
+IsTaken (Read jail path place found) = Unit {0}
+IsTaken (Ignore jail cidr add) = Unit {0}
+IsTaken _ = ⊥

@@ -1,8 +1,3 @@
-pub mod Configured
-pub mod Each
-pub mod Happened
-pub mod Jails
 pub mod Kept
-pub mod Left
+pub mod Runs
 pub mod Reading
-pub mod Stored

@@ -1,21 +1,27 @@
--- What an input does in one jail: failures found in a log, and bans by command.
+-- What reading a log does to its jail, and what a taken input does to the jails.
 use Rattle.std.specs.Prelude.{ℕ, suc, cond, List, [], ◌∷◌, ◌++◌, bytes_eq}
-use Rattle.f2b_base.specs.declared.addr.Addr.{Addr}
 use Rattle.f2b_base.specs.declared.ban.Failure.{Failure}
-use Rattle.f2b_base.specs.declared.jail.JailDef.{JailDef}
+use Rattle.f2b_base.specs.declared.input.What.{What}
+use Rattle.f2b_base.specs.declared.input.What.TheVariants.{Read, Ignore}
 use Rattle.f2b_base.specs.declared.jail.Place.{Place}
+use Rattle.f2b_base.specs.declared.view.WatchView.{WatchView}
 use Rattle.f2b_model.specs.declared.happening.Happening.{Happening}
 use Rattle.f2b_model.specs.declared.jail_now.JailNow.{JailNow}
 use Rattle.f2b_model.specs.Moves.{Out}
-use Rattle.f2b_model.specs.NowMoves.{banned_now, found_now, followed_now}
-use Rattle.f2b_model.specs.Steps.{moves_now}
-use Rattle.f2b_model.specs.Told.{told_banned, told_found}
+use Rattle.f2b_model.specs.NowMoves.{found_now, followed_now}
+use Rattle.f2b_model.specs.Steps.{Outs, alone, in_jail, moves_now}
+use Rattle.f2b_model.specs.Told.{told_found, told_in}
 use Rattle.f2b_model.specs.Watches.{is_watched}
 
--- the place of the first jail of a name, or how many there are
-abbrev pub jail_place : List ℕ → List JailDef → ℕ
+-- the place of the first jail of a name
+abbrev pub jail_place : List ℕ → List JailNow → ℕ
 jail_place name [] = 0
-jail_place name (d ∷ ds) = cond (bytes_eq d.name name) 0 (suc (jail_place name ds))
+jail_place name (j ∷ js) = cond (bytes_eq j.definition.name name) 0 (suc (jail_place name js))
+
+-- the place of the first watch of a path
+abbrev pub watch_place : List ℕ → List WatchView → ℕ
+watch_place path [] = 0
+watch_place path (w ∷ ws) = cond (bytes_eq w.path path) 0 (suc (watch_place path ws))
 
 -- failures found in one jail, in their order
 abbrev pub found_each : ℕ → ℕ → List Failure → ℕ → JailNow → Out JailNow
@@ -36,13 +42,13 @@ read_each at word path place fs n j = cond (is_watched path j.watches) (found_ea
 abbrev pub told_read : ℕ → ℕ → List ℕ → Place → List Failure → ℕ → JailNow → List Happening
 told_read at word path place fs n j = cond (is_watched path j.watches) (told_each_found at word fs n (followed_now path place j)) []
 
--- bans by command in one jail, in their order
-abbrev pub banned_each : ℕ → ℕ → List Addr → ℕ → JailNow → Out JailNow
-banned_each at word [] n j = record { jail = j; next = n }
-banned_each at word (addr ∷ addrs) n j = let o = banned_now at word n addr j in banned_each at word addrs o.next o.jail
+-- what an input that the core takes does to the jails, after the ends by time
+abbrev pub happened : ℕ → ℕ → What → ℕ → List JailNow → Outs JailNow
+happened at word (Read jail path place found) n js = in_jail moves_now jail (read_each at word path place found) n js
+happened at word (Ignore jail cidr add) n js = in_jail moves_now jail (alone moves_now (moves_now.ignored cidr add)) n js
+happened at word _ n js = record { jails = js; next = n }
 
--- and what they tell
-abbrev pub told_each_banned : ℕ → ℕ → List Addr → ℕ → JailNow → List Happening
-told_each_banned at word [] n j = []
-told_each_banned at word (addr ∷ addrs) n j =
-    let o = banned_now at word n addr j in told_banned moves_now at word addr n j ++ told_each_banned at word addrs o.next o.jail
+-- and what it tells
+abbrev pub told_happened : ℕ → ℕ → What → ℕ → List JailNow → List Happening
+told_happened at word (Read jail path place found) n js = told_in moves_now jail (told_read at word path place found n) js
+told_happened at word _ n js = []

@@ -1,299 +1,235 @@
-//! `Jails`: the jails of the server, their definitions and what is kept of each.
-ghost use Rattle.std.specs.Prelude.{◌≡◌, ◌≤◌, ◌^◌, ◌∷◌, ◌++◌, [], length, map, max, true, OnOk, IfOk};
+//! All jails: what a step does to each, and to the one of a name.
+ghost use Rattle.std.specs.Prelude.{◌≡◌, ◌≤◌, ◌<◌, ◌+◌, ◌^◌, ◌++◌, length, map, bytes_eq, OnOk, IfOk};
 ghost use Rattle.std.specs.List.{list_any};
-ghost use Rattle.f2b_base.specs.declared.input.What.TheVariants.{Config};
-ghost use Rattle.f2b_model.specs.Active.{held, held_by};
 ghost use Rattle.f2b_model.specs.NowMoves.{dropped_now};
-ghost use Rattle.f2b_model.specs.Sound.{AreFitDefs, IsSoundView};
-ghost use Rattle.f2b_model.specs.Steps.{at_reading, done, each_jail, first_jails_now, is_ban_due, moves_now};
-ghost use Rattle.f2b_model.specs.Told.{told_done, told_each, told_ends};
-ghost use Rattle.f2b_model.specs.Until.{last_moment};
-ghost use Rattle.f2b_model.specs.Views.{gathered, jail_view};
-ghost use Rattle.f2b_model.specs.Lists.{AllOf};
+ghost use Rattle.f2b_model.specs.Steps.{alone, ended_by_time, in_jail, is_due, moves_now};
+ghost use Rattle.f2b_model.specs.Told.{told_each, told_ends, told_in};
 ghost use Rattle.f2b_model.specs.declared.jail_now.JailNow.{JailNow};
-ghost use Rattle.jail_core.specs.Jails.{is_of_jails};
-ghost use Rattle.jail_core.specs.Kept.{jails_in, IsBoundedWhat};
-ghost use Rattle.jail_core.specs.Stored.{IsBoundedView};
-ghost use Rattle.jail_moves.specs.Rooms.{Contents, IsBounded};
-ghost use Rattle.lane_moves.specs.Held.{held_of};
+ghost use Rattle.jail_core.specs.Kept.{AreKept, IsKept};
+ghost use Rattle.jail_core.specs.Reading.{found_each, happened, jail_place, read_each, told_each_found, told_happened, told_read};
 
-use crate::configure::configure;
-use crate::each::{drop_all, end_all, is_ban_due};
-use crate::happen::happen;
-use crate::reads::Turn;
-use crate::stored::{rooms_of, views};
-use f2b_base::{Defs, JailDef, JailView, NoMemory, Plain, Seq, View, What};
-use f2b_model::Happening;
-use jail_moves::Room;
-use lane_moves::JailBans;
+use crate::bans::drop_past;
+use crate::ends::{end_due, is_any_due};
+use crate::failures::found;
+use crate::ignores::ignore;
+use crate::watches::follow;
+use f2b_base::{Cidr, Failure, NoMemory, Place, Seq, Text, What};
+use f2b_model::{Happening, JailNow};
 use std::alloc::Global;
-use std::marker::Model;
 
-/// The jails of the server.
-#[derive(Drop)]
-pub struct Jails {
+/// Whether some ban's end has come.
+pub fn is_ban_due(jails: &[JailNow], at: u64) -> bool
+    ensures { result ≡ list_any (λ (j : JailNow). list_any (is_due at) j.bans) jails.now }
+{
+    jails
+        .iter()
+        .any(|jail| is_any_due(at, jail.bans.as_slice()))
+}
+
+/// Ends the bans of each jail that are due, and tells of them.
+fn end_each(
     alloc: Global,
-    /// The greatest moment so far.
+    jails: &mut [JailNow],
+    told: &mut Seq<Happening>,
     at: u64,
-    defs: Defs,
-    /// What is kept of each jail, in the order of the definitions.
-    rooms: Vec<Room>,
-    /// The serial of the ban to come.
-    next_ban: u64,
+) -> Result<(), NoMemory>
+    ensures jails { OnOk result (jails.new ≡ map (ended_by_time moves_now at) jails.old) }
+    ensures told { OnOk result (told.new ≡ told.old ++ told_each (told_ends moves_now at) jails.old) }
+{
+    for jail in jails.iter_mut() {
+        end_due(alloc, jail, told, at)?;
+    }
+    Ok(())
 }
 
-impl Model for Jails {
-    ghost use Rattle.std.specs.Prelude.{◌≤◌};
-    ghost use Rattle.f2b_model.specs.Nows.{JailsNow};
-    ghost use Rattle.f2b_model.specs.Until.{last_moment};
-    ghost use Rattle.jail_core.specs.Kept.{jails_in, AreKept};
-
-    ghost Value = { JailsNow };
-
-    ghost view = { λ j. record { at = j.at; purge = j.defs.purge; jails = jails_in j.defs.jails j.rooms.items; next_ban = j.next_ban } };
-
-    ghost invariant = { λ j. (j.at ≤ last_moment) × AreKept j.at j.next_ban j.defs.jails j.rooms.items };
-}
-
-/// The active bans of each jail.
-fn held_each(
-    definitions: &[JailDef],
-    rooms: &[Room],
+/// Ends the bans of all jails that are due, and tells of them.
+pub fn end_jails(
     alloc: Global,
-) -> Result<Vec<JailBans>, NoMemory>
-    requires { length rooms.now ≡ length definitions.now }
-    ensures { IfOk result (λ held. held_of held.items ≡ held_by moves_now (jails_in definitions.now rooms.now)) }
+    jails: &mut Vec<JailNow>,
+    told: &mut Seq<Happening>,
+    at: u64,
+) -> Result<(), NoMemory>
+    ensures jails { OnOk result (jails.new.items ≡ map (ended_by_time moves_now at) jails.old.items) }
+    ensures told { OnOk result (told.new ≡ told.old ++ told_each (told_ends moves_now at) jails.old.items) }
 {
-    let mut held = Vec::new(alloc);
-    for index in 0..rooms.len() {
-        held.push(JailBans {
-            jail: definitions[index].name.copy()?,
-            bans: rooms[index].bans()?,
-        })?;
-    }
-    Ok(held)
+    end_each(alloc, jails.as_mut_slice(), told, at)
 }
 
-/// Whether the logs of some jail are not looked at.
-fn is_any_idle(rooms: &[Room]) -> bool
-    ensures { result ≡ list_any (λ (c : Contents). c.idle) rooms.now }
+/// Drops what is over for long in each jail.
+fn drop_each(jails: &mut [JailNow], at: u64, purge: u64)
+    ensures { jails.new ≡ map (dropped_now at purge) jails.old }
 {
-    rooms.iter().any(|room| room.is_idle())
+    for jail in jails.iter_mut() {
+        drop_past(jail, at, purge);
+    }
 }
 
-impl Jails {
-    /// No jails yet; a ban that is over counts for a day. Takes no memory.
-    pub fn empty(alloc: Global) -> Jails
-        ensures { result ≡ record { at = 0; purge = 86400; jails = []; next_ban = 0 } }
-    {
-        Jails {
-            alloc,
-            at: 0,
-            defs: Defs {
-                purge: 86_400,
-                jails: Seq::new(alloc),
-            },
-            rooms: Vec::new(alloc),
-            next_ban: 0,
+/// Drops what is over for long in all jails.
+pub fn drop_jails(jails: &mut Vec<JailNow>, at: u64, purge: u64)
+    ensures { jails.new.items ≡ map (dropped_now at purge) jails.old.items }
+{
+    drop_each(jails.as_mut_slice(), at, purge);
+}
+
+/// Whether a jail has a name.
+fn is_named(jail: &JailNow, name: &Text) -> bool
+    ensures { result ≡ bytes_eq jail.now.definition.name name.now }
+{
+    jail.definition.name == *name
+}
+
+/// The place of the first jail of a name, or how many there are.
+fn place_of(jails: &[JailNow], name: &Text) -> usize
+    ensures place { result ≡ jail_place name.now jails.now }
+    ensures within { result ≤ length jails.now }
+{
+    for (index, jail) in jails.iter().enumerate() {
+        if is_named(jail, name) {
+            return index;
         }
     }
+    jails.len()
+}
 
-    /// One jail in which nothing happened yet.
-    pub fn start(alloc: Global, definition: JailDef, purge: u64) -> Result<Jails, NoMemory>
-        requires { IsBounded definition }
-        ensures { IfOk result (λ jails. jails ≡ first_jails_now (record { purge = purge; jails = definition ∷ [] })) }
-    {
-        let room = Room::fresh(alloc, &definition)?;
-        let mut rooms = Vec::new(alloc);
-        rooms.push(room)?;
-        let mut definitions = Seq::new(alloc);
-        definitions.push(definition)?;
-        Ok(Jails {
-            alloc,
-            at: 0,
-            defs: Defs {
-                purge,
-                jails: definitions,
-            },
-            rooms,
-            next_ban: 0,
-        })
+/// Failures found in one jail, in their order. Gives the next serial.
+fn read_jail(
+    jail: &mut JailNow,
+    told: &mut Seq<Happening>,
+    failures: &[Failure],
+    at: u64,
+    word: u64,
+    serial: u64,
+) -> Result<u64, NoMemory>
+    requires kept { IsKept jail.old }
+    requires room { serial + length failures.now < 2 ^ 64 }
+    ensures jail { IfOk result (λ next. found_each at word failures.now serial jail.old ≡ record { jail = jail.new; next = next }) }
+    ensures told { OnOk result (told.new ≡ told.old ++ told_each_found at word failures.now serial jail.old) }
+    ensures kept { OnOk result (IsKept jail.new) }
+{
+    let mut next = serial;
+    for failure in failures {
+        next = found(jail, told, at, word, next, failure)?;
     }
+    Ok(next)
+}
 
-    /// The jails of a view.
-    pub fn of(alloc: Global, view: &View) -> Result<Jails, NoMemory>
-        requires { IsBoundedView view.now }
-        ensures { IsSoundView view.now → IfOk result (λ jails. jails ≡ (gathered view.now).world) }
-    {
-        let defs = view.defs.copy()?;
-        let rooms = rooms_of(
-            alloc,
-            view.defs.jails.as_slice(),
-            view.jails.as_slice(),
-            view.at,
-        )?;
-        Ok(Jails {
-            alloc,
-            at: view.at,
-            defs,
-            rooms,
-            next_ban: view.next_ban,
-        })
+/// What was read of a log: how far it was followed, and the failures that were found.
+#[derive(Clone, Copy)]
+struct Reading<'a> {
+    path: &'a Text,
+    place: &'a Place,
+    failures: &'a [Failure],
+}
+
+/// What was read of a log, in its jail. Nothing happens where the jail does not watch it. Gives the next serial.
+fn read_log(
+    jail: &mut JailNow,
+    told: &mut Seq<Happening>,
+    reading: &Reading<'_>,
+    at: u64,
+    word: u64,
+    serial: u64,
+) -> Result<u64, NoMemory>
+    requires kept { IsKept jail.old }
+    requires room { serial + length reading.now.failures.now < 2 ^ 64 }
+    ensures jail { IfOk result (λ next. read_each at word reading.now.path.now reading.now.place.now reading.now.failures.now serial jail.old ≡ record { jail = jail.new; next = next }) }
+    ensures told { OnOk result (told.new ≡ told.old ++ told_read at word reading.now.path.now reading.now.place.now reading.now.failures.now serial jail.old) }
+    ensures kept { OnOk result (IsKept jail.new) }
+{
+    if !follow(jail, reading.path, reading.place)? {
+        return Ok(serial);
     }
+    let next = read_jail(jail, told, reading.failures, at, word, serial)?;
+    Ok(next)
+}
 
-    /// The greatest moment so far, in seconds since 1970. Takes no memory.
-    pub fn now(&self) -> u64
-        ensures { result ≡ self.now.at }
-    {
-        self.at
+/// What was read of a log of the jail of that name, if there is one. Gives the next serial.
+fn read(
+    jails: &mut [JailNow],
+    told: &mut Seq<Happening>,
+    name: &Text,
+    reading: &Reading<'_>,
+    at: u64,
+    word: u64,
+    serial: u64,
+) -> Result<u64, NoMemory>
+    requires kept { AreKept jails.old }
+    requires room { serial + length reading.now.failures.now < 2 ^ 64 }
+    ensures jails { IfOk result (λ next. in_jail moves_now name.now (read_each at word reading.now.path.now reading.now.place.now reading.now.failures.now) serial jails.old ≡ record { jails = jails.new; next = next }) }
+    ensures told { OnOk result (told.new ≡ told.old ++ told_in moves_now name.now (told_read at word reading.now.path.now reading.now.place.now reading.now.failures.now serial) jails.old) }
+    ensures kept { OnOk result (AreKept jails.new) }
+{
+    let place = place_of(jails, name);
+    if place < jails.len() {
+        let next = read_log(&mut jails[place], told, reading, at, word, serial)?;
+        return Ok(next);
     }
+    Ok(serial)
+}
 
-    /// The serial of the ban to come. Takes no memory.
-    pub fn next_ban(&self) -> u64
-        ensures { result ≡ self.now.next_ban }
-    {
-        self.next_ban
+/// Changes the addresses of a jail that are never banned.
+fn ignore_in(jail: &mut JailNow, cidr: Cidr, add: bool) -> Result<(), NoMemory>
+    requires { IsKept jail.old }
+    ensures jail { OnOk result (jail.new ≡ moves_now.ignored cidr add jail.old) }
+    ensures kept { OnOk result (IsKept jail.new) }
+{
+    ignore(&mut jail.definition, cidr, add)
+}
+
+/// Changes the addresses that are never banned in the jail of that name, if there is one. Gives the serial back.
+fn ignore_at(
+    jails: &mut [JailNow],
+    name: &Text,
+    cidr: Cidr,
+    add: bool,
+    serial: u64,
+) -> Result<u64, NoMemory>
+    requires { AreKept jails.old }
+    ensures jails { IfOk result (λ next. in_jail moves_now name.now (alone moves_now (moves_now.ignored cidr add)) serial jails.old ≡ record { jails = jails.new; next = next }) }
+    ensures kept { OnOk result (AreKept jails.new) }
+{
+    let place = place_of(jails, name);
+    if place < jails.len() {
+        ignore_in(&mut jails[place], cidr, add)?;
     }
+    Ok(serial)
+}
 
-    /// The definitions. Takes no memory.
-    pub fn defs(&self) -> &Defs
-        ensures { result.now ≡ record { purge = self.now.purge; jails = map (λ (j : JailNow). j.definition) self.now.jails } }
-    {
-        &self.defs
-    }
-
-    /// Whether some ban's end has come at a moment. Takes no memory.
-    pub fn ban_due(&self, now: u64) -> bool
-        ensures { result ≡ is_ban_due moves_now now self.now }
-    {
-        is_ban_due(self.rooms.as_slice(), now)
-    }
-
-    /// Whether the logs of some jail are not looked at. Takes no memory.
-    pub fn is_any_idle(&self) -> bool
-        ensures { result ≡ list_any (λ (j : JailNow). j.idle) self.now.jails }
-    {
-        is_any_idle(self.rooms.as_slice())
-    }
-
-    /// What is stored of each jail.
-    pub fn views(&self) -> Result<Seq<JailView>, NoMemory>
-        ensures { IfOk result (λ views. views ≡ map jail_view self.now.jails) }
-    {
-        views(
-            self.alloc,
-            self.defs.jails.as_slice(),
-            self.rooms.as_slice(),
-        )
-    }
-
-    /// The active bans of each jail.
-    pub fn held(&self) -> Result<Vec<JailBans>, NoMemory>
-        ensures { IfOk result (λ held. held_of held.items ≡ held moves_now self.now) }
-    {
-        held_each(
-            self.defs.jails.as_slice(),
-            self.rooms.as_slice(),
-            self.alloc,
-        )
-    }
-
-    /// The jails at a reading, once the bans that are due have ended; tells of them.
-    pub fn raised(self, told: &mut Seq<Happening>, secs: u64) -> Result<Jails, NoMemory>
-        requires { secs ≤ last_moment }
-        ensures jails { IfOk result (λ jails. jails ≡ at_reading moves_now secs self) }
-        ensures told { OnOk result (told.new ≡ told.old ++ told_each (told_ends moves_now (max self.at secs)) self.jails) }
-    {
-        let Jails {
-            alloc,
-            at,
-            defs,
-            mut rooms,
-            next_ban,
-        } = self;
-        let at = at.max(secs);
-        end_all(defs.jails.as_slice(), &mut rooms, told, at)?;
-        Ok(Jails {
-            alloc,
-            at,
-            defs,
-            rooms,
-            next_ban,
-        })
-    }
-
-    /// The jails after what happened to them alone; tells of it.
-    pub fn after(self, told: &mut Seq<Happening>, what: &What, word: u64) -> Result<Jails, NoMemory>
-        requires serial { self.next_ban ≤ 2 ^ 62 }
-        requires bounded { IsBoundedWhat what.now }
-        requires alone { is_of_jails what.now ≡ true }
-        ensures jails { IfOk result (λ jails. jails ≡ done moves_now word what.now self) }
-        ensures told { OnOk result (told.new ≡ told.old ++ told_done moves_now word what.now self) }
-    {
-        let Jails {
-            alloc,
-            at,
-            mut defs,
-            mut rooms,
-            next_ban,
-        } = self;
-        let turn = Turn {
-            at,
-            word,
-            serial: next_ban,
-        };
-        let next_ban = happen(alloc, &mut defs.jails, &mut rooms, told, what, turn)?;
-        Ok(Jails {
-            alloc,
-            at,
-            defs,
-            rooms,
-            next_ban,
-        })
-    }
-
-    /// The jails of a configuration.
-    pub fn configured(self, new: &Defs) -> Result<Jails, NoMemory>
-        requires bounded { AllOf IsBounded new.now.jails }
-        requires fit { AreFitDefs new.now }
-        ensures { IfOk result (λ jails. jails ≡ done moves_now 0 (Config new.now) self) }
-    {
-        let Jails {
-            alloc,
-            at,
-            defs,
-            rooms,
-            next_ban,
-        } = self;
-        let rooms = configure(alloc, defs.jails.as_slice(), rooms, new.jails.as_slice())?;
-        let defs = new.copy()?;
-        Ok(Jails {
-            alloc,
-            at,
-            defs,
-            rooms,
-            next_ban,
-        })
-    }
-
-    /// The jails once what is over for long is dropped. Takes no memory.
-    pub fn dropped(self) -> Jails
-        ensures { result ≡ each_jail moves_now (dropped_now self.at self.purge) self }
-    {
-        let Jails {
-            alloc,
-            at,
-            defs,
-            mut rooms,
-            next_ban,
-        } = self;
-        drop_all(defs.jails.as_slice(), &mut rooms, at, defs.purge);
-        Jails {
-            alloc,
-            at,
-            defs,
-            rooms,
-            next_ban,
+/// Does what happened, after the ends by time, and tells of it. Gives the next serial.
+pub fn do_what(
+    jails: &mut Vec<JailNow>,
+    told: &mut Seq<Happening>,
+    what: &What,
+    at: u64,
+    word: u64,
+    serial: u64,
+) -> Result<u64, NoMemory>
+    requires kept { AreKept jails.old.items }
+    requires serial { serial ≤ 2 ^ 62 }
+    ensures jails { IfOk result (λ next. happened at word what.now serial jails.old.items ≡ record { jails = jails.new.items; next = next }) }
+    ensures told { OnOk result (told.new ≡ told.old ++ told_happened at word what.now serial jails.old.items) }
+    ensures kept { OnOk result (AreKept jails.new.items) }
+{
+    match what {
+        What::Read {
+            jail,
+            path,
+            place,
+            found,
+        } => {
+            let failures = found.as_slice();
+            let reading = Reading {
+                path,
+                place,
+                failures,
+            };
+            let next = read(jails.as_mut_slice(), told, jail, &reading, at, word, serial)?;
+            Ok(next)
         }
+        What::Ignore { jail, cidr, add } => {
+            let next = ignore_at(jails.as_mut_slice(), jail, *cidr, *add, serial)?;
+            Ok(next)
+        }
+        _ => Ok(serial),
     }
 }

@@ -1,20 +1,22 @@
-//! The state of the server as code keeps it, and the step that an input makes.
+//! The jails of the server as code keeps them, and the step that an input makes.
 //!
-//! A caller sees a `Core` as the model's middle state: jail by jail the failures that still matter, the bans that stand, those that are
-//! over, how far each log was followed and the definition; and the lanes with the jobs that are not settled. `take` makes the model's
-//! step, live and after a stop alike, and hands up what it did, in order, for lines. It takes time by the input and by what it changes,
-//! not by what stands: a failure is one look into the windows of its jail, and a ban that ends costs nothing for those that stay. A
-//! view is built only where it is asked for. Nothing here opens a log, runs a command or knows the clock: the caller says what was
-//! found, and what time it is.
+//! A caller sees a `Core` as the middle state of the model's jails: jail by jail the failures that still matter, the bans that stand,
+//! those that are over, how far each log was followed, and the definition with the addresses that are never banned. `take` makes the
+//! model's step, and hands up what it did, in order, for lines and jobs. A failure costs a search among the failures of its jail and a
+//! look at the address's own, and a pass over the bans. Nothing here opens a log, runs a command or knows the clock: the caller says
+//! what was read, and what time it is.
 #![tactic(auto)]
 
-mod changes;
-mod configure;
-mod definitions;
-mod each;
-mod happen;
+mod addresses;
+mod bans;
+mod ends;
+mod failures;
+mod ignores;
 mod jails;
-mod reads;
-mod same;
-mod stored;
-mod within;
+mod runs;
+mod step;
+#[cfg(test)]
+mod tests;
+mod watches;
+
+pub use step::Core;

@@ -1,0 +1,30 @@
+use Rattle.std.proofs.Common.{◌≡◌, ◌<◌, ◌≤◌, ◌^◌, ℕ, List, length, get_or, Option, None, Some, IfSome, refl, sym, ◌∙◌, ap, ap₂, subst, arith, rules}
+use Rattle.std.proofs.Math.ListN.{set}
+use Rattle.std.specs.Option.{unwrap_or}
+use Rattle.f2b_base.specs.declared.jail.JailDef.{JailDef}
+use Rattle.f2b_model.specs.declared.jail_now.JailNow.{JailNow}
+use Rattle.f2b_model.specs.Moves.{Out}
+use Rattle.f2b_model.specs.NowMoves.{limited_now}
+use Rattle.f2b_model.specs.Steps.{Outs, alone, moves_now}
+use Rattle.jail_moves.specs.Rooms.{Contents, jail_in, IsBounded, IsKept}
+use Rattle.jail_rooms.specs.Kept.{jails_in, AreKept}
+use Rattle.jail_rooms.specs.Reading.{jail_place}
+use Rattle.jail_rooms.proofs.EachLemmas.{kept_length}
+use Rattle.jail_rooms.proofs.PlaceLemmas.{at_own_place, idle_kept, in_jail_at, in_jail_none, kept_at, kept_set, moved_at, moved_kept}
+use Rattle.jail_rooms.proofs.changes.idle_in.Goals as goal
+
+idled : (c : goal.After-set_idle) → c.set_idle.new.self ≡ record (c.index-rooms-place.result) { idle = c.args.idle }
+idled c = c.set_idle.ensures ∙ ap (λ (r : Contents). record r { idle = c.args.idle }) (sym c.index-rooms-place.is)
+
+pub returns-then-place-definitions-clause-jails : goal.returns-then-place-definitions-clause-jails
+returns-then-place-definitions-clause-jails c n =
+    moved_at c.args.name.now (moves_now.idle c.args.idle) n c.place_of-place.result c.args.definitions.now c.args.rooms.now c.index-rooms-place.result c.set_idle.new.self
+    c.place_of-place.ensures.place c.if-place-definitions.true c.requires c.index-rooms-place.is (λ d. ap (λ (r : Contents). jail_in d r) (sym (idled c)))
+
+pub returns-then-place-definitions-clause-kept : goal.returns-then-place-definitions-clause-kept
+returns-then-place-definitions-clause-kept c at next kept =
+    moved_kept at next c.place_of-place.result c.args.definitions.now c.args.rooms.now c.index-rooms-place.result c.set_idle.new.self c.index-rooms-place.is
+    (λ d k. subst (IsKept at next d) (sym (idled c)) (idle_kept at next c.args.idle d c.index-rooms-place.result k)) kept
+
+pub returns-else-place-definitions-clause-jails : goal.returns-else-place-definitions-clause-jails
+returns-else-place-definitions-clause-jails c n = in_jail_none c.args.name.now (alone moves_now (moves_now.idle c.args.idle)) n c.args.definitions.now c.args.rooms.now (search rules)

@@ -1,0 +1,299 @@
+//! `Jails`: the jails of the server, their definitions and what is kept of each.
+ghost use Rattle.std.specs.Prelude.{◌≡◌, ◌≤◌, ◌^◌, ◌∷◌, ◌++◌, [], length, map, max, true, OnOk, IfOk};
+ghost use Rattle.std.specs.List.{list_any};
+ghost use Rattle.f2b_base.specs.declared.input.What.TheVariants.{Config};
+ghost use Rattle.f2b_model.specs.Active.{held, held_by};
+ghost use Rattle.f2b_model.specs.NowMoves.{dropped_now};
+ghost use Rattle.f2b_model.specs.Sound.{AreFitDefs, IsSoundView};
+ghost use Rattle.f2b_model.specs.Steps.{at_reading, done, each_jail, first_jails_now, is_ban_due, moves_now};
+ghost use Rattle.f2b_model.specs.Told.{told_done, told_each, told_ends};
+ghost use Rattle.f2b_model.specs.Until.{last_moment};
+ghost use Rattle.f2b_model.specs.Views.{gathered, jail_view};
+ghost use Rattle.f2b_model.specs.Lists.{AllOf};
+ghost use Rattle.f2b_model.specs.declared.jail_now.JailNow.{JailNow};
+ghost use Rattle.jail_rooms.specs.Jails.{is_of_jails};
+ghost use Rattle.jail_rooms.specs.Kept.{jails_in, IsBoundedWhat};
+ghost use Rattle.jail_rooms.specs.Stored.{IsBoundedView};
+ghost use Rattle.jail_moves.specs.Rooms.{Contents, IsBounded};
+ghost use Rattle.lane_moves.specs.Held.{held_of};
+
+use crate::configure::configure;
+use crate::each::{drop_all, end_all, is_ban_due};
+use crate::happen::happen;
+use crate::reads::Turn;
+use crate::stored::{rooms_of, views};
+use f2b_base::{Defs, JailDef, JailView, NoMemory, Plain, Seq, View, What};
+use f2b_model::Happening;
+use jail_moves::Room;
+use lane_moves::JailBans;
+use std::alloc::Global;
+use std::marker::Model;
+
+/// The jails of the server.
+#[derive(Drop)]
+pub struct Jails {
+    alloc: Global,
+    /// The greatest moment so far.
+    at: u64,
+    defs: Defs,
+    /// What is kept of each jail, in the order of the definitions.
+    rooms: Vec<Room>,
+    /// The serial of the ban to come.
+    next_ban: u64,
+}
+
+impl Model for Jails {
+    ghost use Rattle.std.specs.Prelude.{◌≤◌};
+    ghost use Rattle.f2b_model.specs.Nows.{JailsNow};
+    ghost use Rattle.f2b_model.specs.Until.{last_moment};
+    ghost use Rattle.jail_rooms.specs.Kept.{jails_in, AreKept};
+
+    ghost Value = { JailsNow };
+
+    ghost view = { λ j. record { at = j.at; purge = j.defs.purge; jails = jails_in j.defs.jails j.rooms.items; next_ban = j.next_ban } };
+
+    ghost invariant = { λ j. (j.at ≤ last_moment) × AreKept j.at j.next_ban j.defs.jails j.rooms.items };
+}
+
+/// The active bans of each jail.
+fn held_each(
+    definitions: &[JailDef],
+    rooms: &[Room],
+    alloc: Global,
+) -> Result<Vec<JailBans>, NoMemory>
+    requires { length rooms.now ≡ length definitions.now }
+    ensures { IfOk result (λ held. held_of held.items ≡ held_by moves_now (jails_in definitions.now rooms.now)) }
+{
+    let mut held = Vec::new(alloc);
+    for index in 0..rooms.len() {
+        held.push(JailBans {
+            jail: definitions[index].name.copy()?,
+            bans: rooms[index].bans()?,
+        })?;
+    }
+    Ok(held)
+}
+
+/// Whether the logs of some jail are not looked at.
+fn is_any_idle(rooms: &[Room]) -> bool
+    ensures { result ≡ list_any (λ (c : Contents). c.idle) rooms.now }
+{
+    rooms.iter().any(|room| room.is_idle())
+}
+
+impl Jails {
+    /// No jails yet; a ban that is over counts for a day. Takes no memory.
+    pub fn empty(alloc: Global) -> Jails
+        ensures { result ≡ record { at = 0; purge = 86400; jails = []; next_ban = 0 } }
+    {
+        Jails {
+            alloc,
+            at: 0,
+            defs: Defs {
+                purge: 86_400,
+                jails: Seq::new(alloc),
+            },
+            rooms: Vec::new(alloc),
+            next_ban: 0,
+        }
+    }
+
+    /// One jail in which nothing happened yet.
+    pub fn start(alloc: Global, definition: JailDef, purge: u64) -> Result<Jails, NoMemory>
+        requires { IsBounded definition }
+        ensures { IfOk result (λ jails. jails ≡ first_jails_now (record { purge = purge; jails = definition ∷ [] })) }
+    {
+        let room = Room::fresh(alloc, &definition)?;
+        let mut rooms = Vec::new(alloc);
+        rooms.push(room)?;
+        let mut definitions = Seq::new(alloc);
+        definitions.push(definition)?;
+        Ok(Jails {
+            alloc,
+            at: 0,
+            defs: Defs {
+                purge,
+                jails: definitions,
+            },
+            rooms,
+            next_ban: 0,
+        })
+    }
+
+    /// The jails of a view.
+    pub fn of(alloc: Global, view: &View) -> Result<Jails, NoMemory>
+        requires { IsBoundedView view.now }
+        ensures { IsSoundView view.now → IfOk result (λ jails. jails ≡ (gathered view.now).world) }
+    {
+        let defs = view.defs.copy()?;
+        let rooms = rooms_of(
+            alloc,
+            view.defs.jails.as_slice(),
+            view.jails.as_slice(),
+            view.at,
+        )?;
+        Ok(Jails {
+            alloc,
+            at: view.at,
+            defs,
+            rooms,
+            next_ban: view.next_ban,
+        })
+    }
+
+    /// The greatest moment so far, in seconds since 1970. Takes no memory.
+    pub fn now(&self) -> u64
+        ensures { result ≡ self.now.at }
+    {
+        self.at
+    }
+
+    /// The serial of the ban to come. Takes no memory.
+    pub fn next_ban(&self) -> u64
+        ensures { result ≡ self.now.next_ban }
+    {
+        self.next_ban
+    }
+
+    /// The definitions. Takes no memory.
+    pub fn defs(&self) -> &Defs
+        ensures { result.now ≡ record { purge = self.now.purge; jails = map (λ (j : JailNow). j.definition) self.now.jails } }
+    {
+        &self.defs
+    }
+
+    /// Whether some ban's end has come at a moment. Takes no memory.
+    pub fn ban_due(&self, now: u64) -> bool
+        ensures { result ≡ is_ban_due moves_now now self.now }
+    {
+        is_ban_due(self.rooms.as_slice(), now)
+    }
+
+    /// Whether the logs of some jail are not looked at. Takes no memory.
+    pub fn is_any_idle(&self) -> bool
+        ensures { result ≡ list_any (λ (j : JailNow). j.idle) self.now.jails }
+    {
+        is_any_idle(self.rooms.as_slice())
+    }
+
+    /// What is stored of each jail.
+    pub fn views(&self) -> Result<Seq<JailView>, NoMemory>
+        ensures { IfOk result (λ views. views ≡ map jail_view self.now.jails) }
+    {
+        views(
+            self.alloc,
+            self.defs.jails.as_slice(),
+            self.rooms.as_slice(),
+        )
+    }
+
+    /// The active bans of each jail.
+    pub fn held(&self) -> Result<Vec<JailBans>, NoMemory>
+        ensures { IfOk result (λ held. held_of held.items ≡ held moves_now self.now) }
+    {
+        held_each(
+            self.defs.jails.as_slice(),
+            self.rooms.as_slice(),
+            self.alloc,
+        )
+    }
+
+    /// The jails at a reading, once the bans that are due have ended; tells of them.
+    pub fn raised(self, told: &mut Seq<Happening>, secs: u64) -> Result<Jails, NoMemory>
+        requires { secs ≤ last_moment }
+        ensures jails { IfOk result (λ jails. jails ≡ at_reading moves_now secs self) }
+        ensures told { OnOk result (told.new ≡ told.old ++ told_each (told_ends moves_now (max self.at secs)) self.jails) }
+    {
+        let Jails {
+            alloc,
+            at,
+            defs,
+            mut rooms,
+            next_ban,
+        } = self;
+        let at = at.max(secs);
+        end_all(defs.jails.as_slice(), &mut rooms, told, at)?;
+        Ok(Jails {
+            alloc,
+            at,
+            defs,
+            rooms,
+            next_ban,
+        })
+    }
+
+    /// The jails after what happened to them alone; tells of it.
+    pub fn after(self, told: &mut Seq<Happening>, what: &What, word: u64) -> Result<Jails, NoMemory>
+        requires serial { self.next_ban ≤ 2 ^ 62 }
+        requires bounded { IsBoundedWhat what.now }
+        requires alone { is_of_jails what.now ≡ true }
+        ensures jails { IfOk result (λ jails. jails ≡ done moves_now word what.now self) }
+        ensures told { OnOk result (told.new ≡ told.old ++ told_done moves_now word what.now self) }
+    {
+        let Jails {
+            alloc,
+            at,
+            mut defs,
+            mut rooms,
+            next_ban,
+        } = self;
+        let turn = Turn {
+            at,
+            word,
+            serial: next_ban,
+        };
+        let next_ban = happen(alloc, &mut defs.jails, &mut rooms, told, what, turn)?;
+        Ok(Jails {
+            alloc,
+            at,
+            defs,
+            rooms,
+            next_ban,
+        })
+    }
+
+    /// The jails of a configuration.
+    pub fn configured(self, new: &Defs) -> Result<Jails, NoMemory>
+        requires bounded { AllOf IsBounded new.now.jails }
+        requires fit { AreFitDefs new.now }
+        ensures { IfOk result (λ jails. jails ≡ done moves_now 0 (Config new.now) self) }
+    {
+        let Jails {
+            alloc,
+            at,
+            defs,
+            rooms,
+            next_ban,
+        } = self;
+        let rooms = configure(alloc, defs.jails.as_slice(), rooms, new.jails.as_slice())?;
+        let defs = new.copy()?;
+        Ok(Jails {
+            alloc,
+            at,
+            defs,
+            rooms,
+            next_ban,
+        })
+    }
+
+    /// The jails once what is over for long is dropped. Takes no memory.
+    pub fn dropped(self) -> Jails
+        ensures { result ≡ each_jail moves_now (dropped_now self.at self.purge) self }
+    {
+        let Jails {
+            alloc,
+            at,
+            defs,
+            mut rooms,
+            next_ban,
+        } = self;
+        drop_all(defs.jails.as_slice(), &mut rooms, at, defs.purge);
+        Jails {
+            alloc,
+            at,
+            defs,
+            rooms,
+            next_ban,
+        }
+    }
+}
