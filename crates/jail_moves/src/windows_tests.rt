@@ -1,7 +1,7 @@
 //! Worked rows, through the calls of `Windows`.
 ghost use Rattle.std.specs.Prelude.{◌≡◌, ◌≤◌, IfOk};
 
-use crate::Windows;
+use crate::windows::Windows;
 use f2b_base::{Addr, Failure, NoMemory, Text};
 use std::alloc::Global;
 use std::test::Fail;

@@ -1,9 +1,14 @@
 -- Moves on each of a list of jails, one after the other.
-use Rattle.std.proofs.Common.{◌≡◌, ℕ, zero, suc, ◌+◌, ◌<◌, ◌≤◌, List, [], ◌∷◌, ◌++◌, length, get_or, take, drop, map, refl, sym, ◌∙◌, ap, ap₂, subst, arith, append_assoc}
+use Rattle.std.proofs.Common.{◌≡◌, ◌||◌, ℕ, zero, suc, ◌+◌, ◌<◌, ◌≤◌, List, [], ◌∷◌, ◌++◌, length, get_or, take, drop, map, refl, sym, ◌∙◌, ap, ap₂, subst, arith, append_assoc}
 use Rattle.std.proofs.Math.ListN.{set}
 use Rattle.std.proofs.Math.Seq.{take-append_seam}
 use Rattle.std.proofs.lemmas.List.{append-nil}
+use Rattle.std.specs.List.{list_any}
 use Rattle.f2b_base.specs.declared.jail.JailDef.{JailDef}
+use Rattle.f2b_model.specs.Active.{held_by, held_in}
+use Rattle.f2b_model.specs.Steps.{is_due, moves_now}
+use Rattle.lane_moves.specs.declared.held.JailBans.{JailBans}
+use Rattle.lane_moves.specs.Held.{held_in_jail, held_of}
 use Rattle.f2b_model.specs.declared.happening.Happening.{Happening}
 use Rattle.f2b_model.specs.declared.jail_now.JailNow.{JailNow}
 use Rattle.f2b_model.specs.Told.{told_each}
@@ -99,3 +104,37 @@ pub as_a_whole : {A : Type 0} (new old : List A) (len : ℕ) → length new ≡ 
 as_a_whole new old len same is =
     let n : len ≡ length new = is ∙ sym same in
     rw n (take-append_seam new (drop (length new) old))
+
+-- ---- active bans
+
+-- one more jail holds its bans
+pub held_one_more : (i : ℕ) (ds : List JailDef) (cs : List Contents) (d : JailDef) (c : Contents) → i < length ds → i < length cs
+    → d ≡ get_or ds i d → c ≡ get_or cs i c → held_by moves_now (take (suc i) (jails_in ds cs)) ≡ held_by moves_now (take i (jails_in ds cs)) ++ held_in moves_now (jail_in d c)
+held_one_more i [] cs d c lt within d_is c_is = absurd (omega arith)
+held_one_more i (e ∷ ds) [] d c lt within d_is c_is = absurd (omega arith)
+held_one_more zero (e ∷ ds) (b ∷ cs) d c lt within d_is c_is =
+    ap (λ (j : JailNow). held_in moves_now j ++ []) (ap₂ (λ (x : JailDef) (y : Contents). jail_in x y) (sym d_is) (sym c_is)) ∙ append-nil (held_in moves_now (jail_in d c))
+held_one_more (suc i) (e ∷ ds) (b ∷ cs) d c lt within d_is c_is =
+    ap (λ r. held_in moves_now (jail_in e b) ++ r) (held_one_more i ds cs d c (omega arith) (omega arith) d_is c_is)
+    ∙ sym (append_assoc (held_in moves_now (jail_in e b)) (held_by moves_now (take i (jails_in ds cs))) (held_in moves_now (jail_in d c)))
+
+-- all of them
+pub held_all : (ds : List JailDef) (cs : List Contents) → length cs ≡ length ds → held_by moves_now (take (length ds) (jails_in ds cs)) ≡ held_by moves_now (jails_in ds cs)
+held_all [] cs e = refl
+held_all (d ∷ ds) [] e = absurd (omega arith)
+held_all (d ∷ ds) (c ∷ cs) e = ap (λ r. held_in moves_now (jail_in d c) ++ r) (held_all ds cs (omega arith))
+
+-- the bans of one more jail stand behind the others
+pub held_push : (js : List JailBans) (j : JailBans) → held_of (js ++ j ∷ []) ≡ held_of js ++ held_in_jail j
+held_push [] j = append-nil (held_in_jail j)
+held_push (k ∷ js) j = ap (λ r. held_in_jail k ++ r) (held_push js j) ∙ sym (append_assoc (held_in_jail k) (held_of js) (held_in_jail j))
+
+-- ---- what a caller asks of all
+
+-- whether some ban is due
+pub due_in : (now : ℕ) (ds : List JailDef) (cs : List Contents) → length cs ≡ length ds
+    → list_any (λ (c : Contents). list_any (is_due now) c.bans.active) cs ≡ list_any (λ (j : JailNow). list_any (is_due now) j.bans) (jails_in ds cs)
+due_in now [] [] e = refl
+due_in now [] (c ∷ cs) e = absurd (omega arith)
+due_in now (d ∷ ds) [] e = refl
+due_in now (d ∷ ds) (c ∷ cs) e = ap (λ r. list_any (is_due now) c.bans.active || r) (due_in now ds cs (omega arith))

@@ -1,4 +1,4 @@
-pub mod CoreLemmas
+pub mod DoneLemmas
 pub mod ConfigureLemmas
 pub mod ConfigureRooms
 pub mod EachLemmas

@@ -189,7 +189,7 @@ impl Jails {
 
     /// The active bans of each jail.
     pub fn held(&self) -> Result<Vec<JailBans>, NoMemory>
-        ensures { IfOk result (λ held. held_of held.items ≡ held moves_now self.now) }
+        ensures { IfOk result (λ all. held_of all.items ≡ held moves_now self.now) }
     {
         held_each(
             self.defs.jails.as_slice(),

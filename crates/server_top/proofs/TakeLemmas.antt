@@ -12,7 +12,7 @@ use Rattle.f2b_model.specs.declared.happening.Happening.{Happening}
 use Rattle.f2b_model.proofs.LawLemmas.{now_step, sound_step}
 use Rattle.f2b_model.proofs.ToldLemmas.{told_by_now}
 use Rattle.f2b_world.specs.Told.{Standing}
-use Rattle.jail_core.specs.Kept.{IsTaken}
+use Rattle.plain_core.specs.Kept.{IsTaken}
 use Rattle.log_follow.specs.Followed.{StandsFor}
 use Rattle.log_follow.specs.declared.follower.Follower.{Follower}
 use Rattle.server_top.specs.Law.{Following, Run, Goes, taken, told_lines}

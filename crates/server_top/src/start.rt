@@ -16,8 +16,8 @@ use f2b_base::{Bytes, JailDef, NoMemory, Place, Plain, Reading, TreeAnswer};
 use f2b_world::World;
 use filter_regex::{Filter, PatternError};
 use flat_form::flat_jail;
-use jail_core::Core;
 use log_follow::Follower;
+use plain_core::Core;
 use std::alloc::Global;
 
 // The jail of a configuration, or why the run is refused.

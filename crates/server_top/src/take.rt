@@ -1,6 +1,6 @@
 //! Taking an input: its step, and the lines of what the step tells.
 ghost use Rattle.std.specs.Prelude.{◌≡◌, IfErr, IfOk};
-ghost use Rattle.jail_core.specs.Kept.{IsTaken};
+ghost use Rattle.plain_core.specs.Kept.{IsTaken};
 ghost use Rattle.server_top.specs.Stages.{HasCause, IsSteady, StepsTo, Takes, TakeFails};
 
 use crate::follow::Follow;

@@ -1,30 +1,37 @@
-use Rattle.std.proofs.Common.{rules, ◌≡◌, ◌≤◌, ◌^◌, ◌∷◌, ◌++◌, [], length, map, max, true, OnOk, IfOk, ℕ, ◌+◌, ◌-◌, ◌*◌, ◌<◌, ◌/◌, ◌%◌, Bool, false, nat_eq, nat_lt, List, slice_index_or, slice_set, bit_and, bit_or, Fits, w8, w32, w64, Bor, MutBor}
-use Rattle.std.specs.List.{list_any}
-use Rattle.f2b_base.specs.declared.input.What.TheVariants.{Config}
-use Rattle.f2b_model.specs.Active.{held, held_by}
-use Rattle.f2b_model.specs.NowMoves.{dropped_now}
-use Rattle.f2b_model.specs.Sound.{AreFitDefs, IsSoundView}
-use Rattle.f2b_model.specs.Steps.{at_reading, done, each_jail, first_jails_now, is_ban_due, moves_now}
-use Rattle.f2b_model.specs.Told.{told_done, told_each, told_ends}
-use Rattle.f2b_model.specs.Until.{last_moment}
-use Rattle.f2b_model.specs.Views.{gathered, jail_view}
-use Rattle.f2b_model.specs.Lists.{AllOf}
-use Rattle.f2b_model.specs.declared.jail_now.JailNow.{JailNow}
-use Rattle.jail_rooms.specs.Jails.{is_of_jails}
-use Rattle.jail_rooms.specs.Kept.{jails_in, IsBoundedWhat}
-use Rattle.jail_rooms.specs.Stored.{IsBoundedView}
-use Rattle.jail_moves.specs.Rooms.{Contents, IsBounded}
-use Rattle.lane_moves.specs.Held.{held_of}
+use Rattle.std.proofs.Common.{◌≡◌, ◌<◌, suc, ◌+◌, ◌++◌, length, List, [], ◌∷◌, take, sym, ◌∙◌, ap, ap₂, arith}
+use Rattle.f2b_base.specs.declared.jail.JailDef.{JailDef}
+use Rattle.f2b_model.specs.Active.{held_by, held_in}
+use Rattle.f2b_model.specs.Orders.{Held}
+use Rattle.f2b_model.specs.Steps.{moves_now}
+use Rattle.jail_moves.specs.Rooms.{Contents, jail_in}
+use Rattle.lane_moves.specs.declared.held.JailBans.{JailBans}
+use Rattle.lane_moves.specs.Held.{held_in_jail, held_of}
+use Rattle.jail_rooms.specs.Kept.{jails_in}
+use Rattle.jail_rooms.proofs.EachLemmas.{held_all, held_one_more, held_push}
 use Rattle.jail_rooms.proofs.jails.held_each.Goals as goal
 
--- src/jails.rt:68:5
-pub loop-index-init : goal.loop-index-init
-loop-index-init c = ?
-
--- src/jails.rt:68:5
 pub loop-index-preserved : goal.loop-index-preserved
-loop-index-preserved c = ?
+loop-index-preserved c =
+    let i = c.loop-index.index in
+    let ds = c.args.definitions.now in
+    let cs = c.args.rooms.now in
+    let d = c.index-definitions-index.result in
+    let room : Contents = c.index-rooms-index.result in
+    let entry : JailBans = record { jail = d.name; bans = room.bans.active } in
+    let lt : i < length ds = omega (arith, c.requires, c.loop-index-test.true) in
+    let up : suc i ≡ i + 1 = omega arith in
+    let pushed : c.push.new.self.items ≡ c.loop-index.held.items ++ entry ∷ [] =
+    c.in_ok-push.ensures.items
+    ∙ ap₂ (λ n bs. c.loop-index.held.items ++ (let e : JailBans = record { jail = n; bans = bs } in e) ∷ []) (c.in_ok-copy.ensures ∙ ap (λ (x : JailDef). x.name) (sym c.index-definitions-index.is)) c.in_ok-bans.ensures in
+    ap held_of pushed
+    ∙ held_push c.loop-index.held.items entry
+    ∙ ap (λ (r : List Held). r ++ held_in_jail entry) c.loop-index.invariant
+    ∙ sym (held_one_more i ds cs d room lt c.loop-index-test.true c.index-definitions-index.is c.index-rooms-index.is)
+    ∙ ap (λ k. held_by moves_now (take k (jails_in ds cs))) up
 
--- src/jails.rt:59:1
 pub returns : goal.returns
-returns c = ?
+returns c =
+    let all : c.loop-index.index ≡ length c.args.definitions.now = omega (arith, c.requires, c.loop-index-test.false, c.loop-index.auto.index-end) in
+    c.loop-index.invariant
+    ∙ ap (λ k. held_by moves_now (take k (jails_in c.args.definitions.now c.args.rooms.now))) all
+    ∙ held_all c.args.definitions.now c.args.rooms.now c.requires

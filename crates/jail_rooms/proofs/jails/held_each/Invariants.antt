@@ -1,21 +1,9 @@
-use Rattle.std.proofs.Common.{◌≡◌, ◌≤◌, ◌^◌, ◌∷◌, ◌++◌, [], length, map, max, true, OnOk, IfOk, ℕ, ◌+◌, ◌-◌, ◌*◌, ◌<◌}
-use Rattle.std.specs.List.{list_any}
-use Rattle.f2b_base.specs.declared.input.What.TheVariants.{Config}
-use Rattle.f2b_model.specs.Active.{held, held_by}
-use Rattle.f2b_model.specs.NowMoves.{dropped_now}
-use Rattle.f2b_model.specs.Sound.{AreFitDefs, IsSoundView}
-use Rattle.f2b_model.specs.Steps.{at_reading, done, each_jail, first_jails_now, is_ban_due, moves_now}
-use Rattle.f2b_model.specs.Told.{told_done, told_each, told_ends}
-use Rattle.f2b_model.specs.Until.{last_moment}
-use Rattle.f2b_model.specs.Views.{gathered, jail_view}
-use Rattle.f2b_model.specs.Lists.{AllOf}
-use Rattle.f2b_model.specs.declared.jail_now.JailNow.{JailNow}
-use Rattle.jail_rooms.specs.Jails.{is_of_jails}
-use Rattle.jail_rooms.specs.Kept.{jails_in, IsBoundedWhat}
-use Rattle.jail_rooms.specs.Stored.{IsBoundedView}
-use Rattle.jail_moves.specs.Rooms.{Contents, IsBounded}
+use Rattle.std.proofs.Common.{◌≡◌, take}
+use Rattle.f2b_model.specs.Active.{held_by}
+use Rattle.f2b_model.specs.Steps.{moves_now}
 use Rattle.lane_moves.specs.Held.{held_of}
+use Rattle.jail_rooms.specs.Kept.{jails_in}
 use Rattle.jail_rooms.proofs.jails.held_each.Given as goal
 
 abbrev pub invariant-loop-index : goal.invariant-loop-index
-invariant-loop-index l = ?
+invariant-loop-index l = held_of l.held.items ≡ held_by moves_now (take l.index (jails_in l.definitions l.rooms))

@@ -1,22 +1,27 @@
-use Rattle.std.proofs.Common.{rules, ◌≡◌, ◌≤◌, ◌^◌, ◌∷◌, ◌++◌, [], length, map, max, true, OnOk, IfOk, ℕ, ◌+◌, ◌-◌, ◌*◌, ◌<◌, ◌/◌, ◌%◌, Bool, false, nat_eq, nat_lt, List, slice_index_or, slice_set, bit_and, bit_or, Fits, w8, w32, w64, Bor, MutBor}
+use Rattle.std.proofs.Common.{◌≡◌, ◌≤◌, ◌++◌, ℕ, max, List, [], ◌∷◌, length, map, refl, sym, ◌∙◌, ap, ap₂, subst, arith, rules}
 use Rattle.std.specs.List.{list_any}
-use Rattle.f2b_base.specs.declared.input.What.TheVariants.{Config}
-use Rattle.f2b_model.specs.Active.{held, held_by}
-use Rattle.f2b_model.specs.NowMoves.{dropped_now}
-use Rattle.f2b_model.specs.Sound.{AreFitDefs, IsSoundView}
-use Rattle.f2b_model.specs.Steps.{at_reading, done, each_jail, first_jails_now, is_ban_due, moves_now}
-use Rattle.f2b_model.specs.Told.{told_done, told_each, told_ends}
-use Rattle.f2b_model.specs.Until.{last_moment}
-use Rattle.f2b_model.specs.Views.{gathered, jail_view}
-use Rattle.f2b_model.specs.Lists.{AllOf}
+use Rattle.f2b_base.specs.declared.jail.Defs.{Defs}
+use Rattle.f2b_base.specs.declared.jail.JailDef.{JailDef}
+use Rattle.f2b_base.specs.declared.view.JailView.{JailView}
+use Rattle.f2b_model.specs.declared.happening.Happening.{Happening}
 use Rattle.f2b_model.specs.declared.jail_now.JailNow.{JailNow}
-use Rattle.jail_rooms.specs.Jails.{is_of_jails}
-use Rattle.jail_rooms.specs.Kept.{jails_in, IsBoundedWhat}
-use Rattle.jail_rooms.specs.Stored.{IsBoundedView}
-use Rattle.jail_moves.specs.Rooms.{Contents, IsBounded}
-use Rattle.lane_moves.specs.Held.{held_of}
+use Rattle.f2b_model.specs.Nows.{JailsNow}
+use Rattle.f2b_model.specs.Steps.{Outs, done, is_ban_due, is_due, moves_now, with_outs}
+use Rattle.f2b_model.specs.Told.{told_done}
+use Rattle.f2b_model.specs.Until.{last_moment}
+use Rattle.f2b_model.specs.Views.{gathered, jails_of}
+use Rattle.jail_moves.specs.Rooms.{Contents, IsKept}
+use Rattle.jail_rooms.specs.Happened.{happened, told_happened}
+use Rattle.jail_rooms.specs.Kept.{jails_in, AreKept}
+use Rattle.jail_rooms.specs.Stored.{AreStoredWell}
+use Rattle.jail_rooms.proofs.ConfigureLemmas.{definitions_in, idle_in}
+use Rattle.jail_rooms.proofs.DoneLemmas.{done_is, told_is}
+use Rattle.jail_rooms.proofs.EachLemmas.{due_in, kept_length}
+use Rattle.jail_rooms.proofs.StoredLemmas.{stored_well}
 use Rattle.jail_rooms.proofs.jails.Jails.defs.Goals as goal
 
--- src/jails.rt:159:5
 pub returns : goal.returns
-returns c = ?
+returns c =
+    let same = kept_length c.self.inside.at c.self.inside.next_ban c.self.inside.defs.jails c.self.inside.rooms.items c.self.invariant.1 in
+    ap (λ (r : List JailDef). let d : Defs = record { purge = c.self.inside.defs.purge; jails = r } in d) (sym (definitions_in c.self.inside.defs.jails c.self.inside.rooms.items same))
+    ∙ ap (λ (w : JailsNow). let d : Defs = record { purge = w.purge; jails = map (λ (j : JailNow). j.definition) w.jails } in d) c.self.view_is

@@ -1,0 +1,133 @@
+-- Failures found in a jail, one by one and all at once.
+use Rattle.std.proofs.Common.{◌≡◌, ℕ, zero, suc, ◌+◌, ◌≤◌, ◌<◌, List, [], ◌∷◌, ◌++◌, length, get_or, drop, refl, sym, ◌∙◌, ap, arith, append_assoc}
+use Rattle.std.proofs.Math.ListN.{set}
+use Rattle.std.specs.Prelude.{bytes_eq}
+use Rattle.f2b_base.specs.declared.ban.Failure.{Failure}
+use Rattle.f2b_model.specs.declared.happening.Happening.{Happening}
+use Rattle.f2b_model.specs.declared.jail_now.JailNow.{JailNow}
+use Rattle.f2b_model.specs.Full.{is_full}
+use Rattle.f2b_model.specs.Moves.{Out, counts}
+use Rattle.f2b_model.specs.Nows.{JailsNow}
+use Rattle.f2b_model.specs.NowMoves.{counted_now, found_now}
+use Rattle.f2b_model.specs.Steps.{Outs, moves_now, with_outs, in_jail, at_jail, found_all}
+use Rattle.f2b_model.specs.Told.{told_found, told_in, told_all_found}
+use Rattle.f2b_model.proofs.ListLemmas.{by_test}
+use Rattle.plain_core.specs.Reading.{jail_place, found_each, told_each_found}
+
+drop_at : (fs : List Failure) (i : ℕ) (f : Failure) → i < length fs → f ≡ get_or fs i f → drop i fs ≡ f ∷ drop (i + 1) fs
+drop_at [] i f lt e = absurd (omega arith)
+drop_at (g ∷ gs) zero f lt e = ap (λ x. x ∷ gs) (sym e)
+drop_at (g ∷ gs) (suc i) f lt e = let s : suc i + 1 ≡ suc (i + 1) = omega arith in rw s (drop_at gs i f (omega arith) e)
+
+-- after one more of the failures
+pub found_more : (at word n m i : ℕ) (fs : List Failure) (f : Failure) (j k : JailNow) → i < length fs → f ≡ get_or fs i f
+    → found_now at word n f j ≡ record { jail = k; next = m } → found_each at word (drop (i + 1) fs) m k ≡ found_each at word (drop i fs) n j
+found_more at word n m i fs f j k lt e is =
+    sym (ap (λ r. found_each at word r n j) (drop_at fs i f lt e) ∙ ap (λ (o : Out JailNow). found_each at word (drop (i + 1) fs) o.next o.jail) is)
+
+pub told_more : (at word n m i : ℕ) (fs : List Failure) (f : Failure) (j k : JailNow) (told told_now all : List Happening) → i < length fs → f ≡ get_or fs i f
+    → found_now at word n f j ≡ record { jail = k; next = m } → told_now ≡ told ++ told_found moves_now at word f n j
+    → told ++ told_each_found at word (drop i fs) n j ≡ all → told_now ++ told_each_found at word (drop (i + 1) fs) m k ≡ all
+told_more at word n m i fs f j k told told_now all lt e is more h =
+    let rest = told_each_found at word (drop (i + 1) fs) m k in
+    let here : told_each_found at word (drop i fs) n j ≡ told_found moves_now at word f n j ++ rest =
+    ap (λ r. told_each_found at word r n j) (drop_at fs i f lt e)
+    ∙ ap (λ (o : Out JailNow). told_found moves_now at word f n j ++ told_each_found at word (drop (i + 1) fs) o.next o.jail) is in
+    ap (λ r. r ++ rest) more ∙ append_assoc told (told_found moves_now at word f n j) rest ∙ ap (λ r. told ++ r) (sym here) ∙ h
+
+-- a found failure leaves the definition
+found_definition : (at word n : ℕ) (f : Failure) (j : JailNow) → (found_now at word n f j).jail.definition ≡ j.definition
+found_definition at word n f j =
+    by_test (counts at j.definition j.bans f) _
+    (λ e. let k = counted_now at f j in
+    rw e (by_test (is_full k.definition.findtime k.definition.maxretry f.addr k.failures) _ (λ d. rw d refl) (λ d. rw d refl)))
+    (λ e. rw e refl)
+
+-- a move that changes nothing
+in_jail_same : (name : List ℕ) (n : ℕ) (js : List JailNow) → in_jail moves_now name (λ m (j : JailNow). record { jail = j; next = m }) n js ≡ record { jails = js; next = n }
+in_jail_same name n [] = refl
+in_jail_same name n (j ∷ js) =
+    by_test (bytes_eq j.definition.name name) _ (λ t. rw t refl) (λ t. rw t (ap (λ (o : Outs JailNow). record { jails = j ∷ o.jails; next = o.next }) (in_jail_same name n js)))
+
+-- two moves on the jail of one name are one move, where the first leaves the definition
+pub in_jail_twice : (name : List ℕ) (f g : ℕ → JailNow → Out JailNow) → ((n : ℕ) (j : JailNow) → (f n j).jail.definition ≡ j.definition) → (n : ℕ) (js : List JailNow)
+    → in_jail moves_now name g (in_jail moves_now name f n js).next (in_jail moves_now name f n js).jails ≡ in_jail moves_now name (λ m j. g (f m j).next (f m j).jail) n js
+in_jail_twice name f g same n [] = refl
+in_jail_twice name f g same n (j ∷ js) =
+    by_test (bytes_eq j.definition.name name) _
+    (λ t. let d = same n j in rw (t, d, t) refl)
+    (λ t. rw (t, t) (ap (λ (o : Outs JailNow). record { jails = j ∷ o.jails; next = o.next }) (in_jail_twice name f g same n js)))
+
+pub found_at_once : (word : ℕ) (name : List ℕ) (fs : List Failure) (w : JailsNow) → found_all moves_now word name fs w ≡ at_jail moves_now name (found_each w.at word fs) w
+found_at_once word name [] w = ap (λ (o : Outs JailNow). with_outs w o) (sym (in_jail_same name w.next_ban w.jails))
+found_at_once word name (f ∷ fs) w =
+    found_at_once word name fs (at_jail moves_now name (λ n j. found_now w.at word n f j) w)
+    ∙ ap (λ (o : Outs JailNow). with_outs w o)
+    (in_jail_twice name (λ n j. found_now w.at word n f j) (found_each w.at word fs) (λ n j. found_definition w.at word n f j) w.next_ban w.jails)
+
+-- what a jail tells after a move
+told_in_twice : (name : List ℕ) (f : ℕ → JailNow → Out JailNow) (t : JailNow → List Happening) (u : ℕ → JailNow → List Happening)
+    → ((n : ℕ) (j : JailNow) → (f n j).jail.definition ≡ j.definition) → (n : ℕ) (js : List JailNow)
+    → told_in moves_now name t js ++ told_in moves_now name (u (in_jail moves_now name f n js).next) (in_jail moves_now name f n js).jails
+    ≡ told_in moves_now name (λ j. t j ++ u (f n j).next (f n j).jail) js
+told_in_twice name f t u same n [] = refl
+told_in_twice name f t u same n (j ∷ js) =
+    by_test (bytes_eq j.definition.name name) _
+    (λ t2. let d = same n j in rw (t2, d, t2) refl)
+    (λ t2. rw (t2, t2) (told_in_twice name f t u same n js))
+
+told_in_none : (name : List ℕ) (js : List JailNow) → told_in moves_now name (λ (j : JailNow). []) js ≡ []
+told_in_none name [] = refl
+told_in_none name (j ∷ js) = by_test (bytes_eq j.definition.name name) _ (λ t. rw t refl) (λ t. rw t (told_in_none name js))
+
+pub told_at_once : (word : ℕ) (name : List ℕ) (fs : List Failure) (w : JailsNow) → told_all_found moves_now word name fs w ≡ told_in moves_now name (told_each_found w.at word fs w.next_ban) w.jails
+told_at_once word name [] w = sym (told_in_none name w.jails)
+told_at_once word name (f ∷ fs) w =
+    ap (λ r. told_in moves_now name (told_found moves_now w.at word f w.next_ban) w.jails ++ r)
+    (told_at_once word name fs (at_jail moves_now name (λ n j. found_now w.at word n f j) w))
+    ∙ told_in_twice name (λ n j. found_now w.at word n f j) (told_found moves_now w.at word f w.next_ban) (told_each_found w.at word fs)
+    (λ n j. found_definition w.at word n f j) w.next_ban w.jails
+
+-- the jail of a name, by its place
+place_is : (name : List ℕ) (f : ℕ → JailNow → Out JailNow) (n : ℕ) (d : JailNow) (js : List JailNow) → jail_place name js < length js
+    → in_jail moves_now name f n js ≡ record { jails = set js (jail_place name js) (f n (get_or js (jail_place name js) d)).jail; next = (f n (get_or js (jail_place name js) d)).next }
+place_is name f n d [] h = absurd (omega arith)
+place_is name f n d (j ∷ js) h =
+    by_test (bytes_eq j.definition.name name) _
+    (λ t. rw t refl)
+    (λ t. let h2 : suc (jail_place name js) < suc (length js) = rw t at h in
+    rw t (ap (λ (o : Outs JailNow). record { jails = j ∷ o.jails; next = o.next }) (place_is name f n d js (omega arith))))
+
+pub in_jail_at : (name : List ℕ) (f : ℕ → JailNow → Out JailNow) (n i next : ℕ) (d k : JailNow) (js : List JailNow) → i ≡ jail_place name js → i < length js
+    → f n (get_or js i d) ≡ record { jail = k; next = next } → in_jail moves_now name f n js ≡ record { jails = set js i k; next = next }
+in_jail_at name f n i next d k js e lt is =
+    let lt2 : jail_place name js < length js = rw (← e) lt in
+    place_is name f n d js lt2 ∙ (rw (← e) (ap (λ (o : Out JailNow). record { jails = set js i o.jail; next = o.next }) is))
+
+pub in_jail_none : (name : List ℕ) (f : ℕ → JailNow → Out JailNow) (n i : ℕ) (js : List JailNow) → i ≡ jail_place name js → length js ≤ i
+    → in_jail moves_now name f n js ≡ record { jails = js; next = n }
+in_jail_none name f n i [] e h = refl
+in_jail_none name f n i (j ∷ js) e h =
+    by_test (bytes_eq j.definition.name name) _
+    (λ t. let z : i ≡ 0 = rw t at e in absurd (omega arith))
+    (λ t. let z : i ≡ suc (jail_place name js) = rw t at e in
+    rw t (ap (λ (o : Outs JailNow). record { jails = j ∷ o.jails; next = o.next }) (in_jail_none name f n (jail_place name js) js refl (omega arith))))
+
+told_place : (name : List ℕ) (t : JailNow → List Happening) (d : JailNow) (js : List JailNow) → jail_place name js < length js
+    → told_in moves_now name t js ≡ t (get_or js (jail_place name js) d)
+told_place name t d [] h = absurd (omega arith)
+told_place name t d (j ∷ js) h =
+    by_test (bytes_eq j.definition.name name) _
+    (λ e. rw e refl)
+    (λ e. let h2 : suc (jail_place name js) < suc (length js) = rw e at h in rw e (told_place name t d js (omega arith)))
+
+pub told_in_at : (name : List ℕ) (t : JailNow → List Happening) (i : ℕ) (d : JailNow) (js : List JailNow) → i ≡ jail_place name js → i < length js
+    → told_in moves_now name t js ≡ t (get_or js i d)
+told_in_at name t i d js e lt = let lt2 : jail_place name js < length js = rw (← e) lt in rw e (told_place name t d js lt2)
+
+pub told_in_nowhere : (name : List ℕ) (t : JailNow → List Happening) (i : ℕ) (js : List JailNow) → i ≡ jail_place name js → length js ≤ i → told_in moves_now name t js ≡ []
+told_in_nowhere name t i [] e h = refl
+told_in_nowhere name t i (j ∷ js) e h =
+    by_test (bytes_eq j.definition.name name) _
+    (λ d. let z : i ≡ 0 = rw d at e in absurd (omega arith))
+    (λ d. let z : i ≡ suc (jail_place name js) = rw d at e in rw d (told_in_nowhere name t (jail_place name js) js refl (omega arith)))
