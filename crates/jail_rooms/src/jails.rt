@@ -143,7 +143,8 @@ impl Jails {
 
     /// The greatest moment so far, in seconds since 1970. Takes no memory.
     pub fn now(&self) -> u64
-        ensures { result ≡ self.now.at }
+        ensures moment { result ≡ self.now.at }
+        ensures within { result ≤ last_moment }
     {
         self.at
     }

@@ -1,0 +1,53 @@
+-- The step, from its parts.
+use Rattle.std.proofs.Common.{◌≡◌, ℕ, ◌^◌, false, Bool, true, ◌||◌, cond, nat_lt, List, [], ◌∷◌, ◌++◌, map, refl, sym, ◌∙◌, ap, ap₂}
+use Rattle.f2b_base.specs.declared.input.Input.{Input}
+use Rattle.f2b_base.specs.declared.job.Job.{Job}
+use Rattle.f2b_model.specs.declared.happening.Happening.{Happening}
+use Rattle.f2b_model.specs.declared.jail_now.JailNow.{JailNow}
+use Rattle.f2b_model.specs.Active.{held, held_by, held_in}
+use Rattle.f2b_model.specs.Lanes.{Lanes, books_now, lanes_step}
+use Rattle.f2b_model.specs.Nows.{JailsNow}
+use Rattle.f2b_model.specs.NowMoves.{dropped_now}
+use Rattle.f2b_model.specs.Orders.{Held}
+use Rattle.f2b_model.specs.Steps.{moves_now, is_spent, at_reading, done, each_jail, jails_step_now}
+use Rattle.f2b_model.specs.Told.{jails_told}
+use Rattle.f2b_model.specs.Whole.{Now, is_whole_spent, step_now}
+
+-- what is over for long is no active ban
+held_dropped : (at purge : ℕ) (js : List JailNow) → held_by moves_now (map (dropped_now at purge) js) ≡ held_by moves_now js
+held_dropped at purge [] = refl
+held_dropped at purge (j ∷ js) = ap (λ (r : List Held). held_in moves_now j ++ r) (held_dropped at purge js)
+
+-- where nothing is spent the serials are not
+pub fresh_serials : (n : Now) → is_whole_spent moves_now books_now n ≡ false → is_spent n.world ≡ false
+fresh_serials n e = left_false (is_spent n.world) (nat_lt (2 ^ 62) n.lanes.next_job) e where
+  left_false : (a b : Bool) → (a || b) ≡ false → a ≡ false
+  left_false false b h = refl
+  left_false true b h = absurd (let k : true ≡ false = h in cc)
+
+-- The step of a state that is not spent, from its parts: the jails at the reading, what happened to them, and the lanes.
+pub step_is : (n : Now) (input : Input) (mid after last : JailsNow) (told : List Happening) (lanes : Lanes (List Job))
+    → is_whole_spent moves_now books_now n ≡ false
+    → mid ≡ at_reading moves_now input.secs n.world
+    → after ≡ done moves_now input.word input.what mid
+    → last ≡ each_jail moves_now (dropped_now after.at after.purge) after
+    → told ≡ jails_told moves_now n.world input
+    → mid.at ≡ after.at
+    → lanes ≡ lanes_step books_now mid.at input.what (held moves_now mid) (held moves_now after) told n.lanes
+    → record { world = last; lanes = lanes } ≡ step_now n input
+step_is n input mid after last told lanes unspent mid_is after_is last_is told_is at_is lanes_is =
+    let fresh = fresh_serials n unspent in
+    let reading = at_reading moves_now input.secs n.world in
+    let whole : JailsNow → JailsNow = λ w. each_jail moves_now (dropped_now w.at w.purge) w in
+    let step : JailsNow = jails_step_now n.world input in
+    let world : last ≡ step = last_is ∙ ap whole (after_is ∙ ap (done moves_now input.word input.what) mid_is) ∙ (rw fresh refl) in
+    let moment : mid.at ≡ step.at = at_is ∙ sym (ap (λ (w : JailsNow). w.at) last_is) ∙ ap (λ (w : JailsNow). w.at) world in
+    let bans : held moves_now after ≡ held moves_now step =
+    sym (held_dropped after.at after.purge after.jails) ∙ sym (ap (held moves_now) last_is) ∙ ap (held moves_now) world in
+    let books : ℕ → List Held → List Held → List Happening → Lanes (List Job) = λ at m h t. lanes_step books_now at input.what m h t n.lanes in
+    let all : lanes ≡ books step.at (held moves_now reading) (held moves_now step) (jails_told moves_now n.world input) =
+    lanes_is
+    ∙ ap (λ at. books at (held moves_now mid) (held moves_now after) told) moment
+    ∙ ap (λ (w : JailsNow). books step.at (held moves_now w) (held moves_now after) told) mid_is
+    ∙ ap₂ (books step.at (held moves_now reading)) bans told_is in
+    rw unspent (ap₂ (λ (w : JailsNow) (l : Lanes (List Job)). let r : Now = record { world = w; lanes = l } in r) world all)

@@ -1,0 +1,29 @@
+use Rattle.std.proofs.Common.{◌≡◌, ℕ, max, false, List, [], ◌++◌, refl, sym, ◌∙◌, ap}
+use Rattle.f2b_model.specs.declared.happening.Happening.{Happening}
+use Rattle.f2b_model.specs.Lanes.{books_now}
+use Rattle.f2b_model.specs.Nows.{JailsNow}
+use Rattle.f2b_model.specs.Steps.{moves_now}
+use Rattle.f2b_model.specs.Told.{jails_told, told_done, told_each, told_ends}
+use Rattle.f2b_model.specs.Whole.{Now, is_whole_spent, step_now}
+use Rattle.jail_rooms.proofs.DoneLemmas.{done_at}
+use Rattle.jail_core.proofs.CoreLemmas.{fresh_serials, step_is}
+use Rattle.jail_core.proofs.core.Core.take.Goals as goal
+
+pub returns-clause-core : goal.returns-clause-core
+returns-clause-core c =
+    let input = c.args.input.now in
+    let n : Now = record { world = c.self.inside.jails; lanes = c.self.inside.actions } in
+    let mid : JailsNow = c.in_ok-jails.jails in
+    let after : JailsNow = c.in_ok-jails-2.jails in
+    let unspent : is_whole_spent moves_now books_now n ≡ false = ap (is_whole_spent moves_now books_now) c.self.view_is ∙ sym c.spent.ensures ∙ c.if-spent.false in
+    let fresh = fresh_serials n unspent in
+    let ends : List Happening = told_each (told_ends moves_now (max n.world.at input.secs)) n.world.jails in
+    let told : c.after.new.told ≡ jails_told moves_now n.world input =
+    c.in_ok-jails-2.ensures.told
+    ∙ ap (λ (r : List Happening). r ++ told_done moves_now input.word input.what mid) (c.in_ok-jails.ensures.told ∙ ap (λ (r : List Happening). r ++ ends) c.new-told.ensures)
+    ∙ ap (λ (w : JailsNow). ends ++ told_done moves_now input.word input.what w) c.in_ok-jails.ensures.jails
+    ∙ (rw fresh refl) in
+    let moment : mid.at ≡ after.at = sym (ap (λ (w : JailsNow). w.at) c.in_ok-jails-2.ensures.jails ∙ done_at input.word input.what mid) in
+    step_is n input mid after c.dropped-jails.result c.after.new.told c.in_ok-jails-2.actions unspent c.in_ok-jails.ensures.jails c.in_ok-jails-2.ensures.jails c.dropped-jails.ensures
+    told moment c.in_ok-jails-2.ensures.lanes
+    ∙ ap (λ (m : Now). step_now m input) c.self.view_is
