@@ -8,6 +8,6 @@
 #![tactic(auto)]
 
 mod after;
-mod core;
+mod state;
 
-pub use core::Core;
+pub use state::Core;

@@ -7,7 +7,7 @@ use Rattle.f2b_model.specs.Told.{jails_told, told_done, told_each, told_ends}
 use Rattle.f2b_model.specs.Whole.{Now, is_whole_spent, step_now}
 use Rattle.jail_rooms.proofs.DoneLemmas.{done_at}
 use Rattle.jail_core.proofs.CoreLemmas.{fresh_serials, step_is}
-use Rattle.jail_core.proofs.core.Core.take.Goals as goal
+use Rattle.jail_core.proofs.state.Core.take.Goals as goal
 
 pub returns-clause-core : goal.returns-clause-core
 returns-clause-core c =

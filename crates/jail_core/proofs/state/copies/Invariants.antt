@@ -1,5 +1,5 @@
 use Rattle.std.proofs.Common.{◌≡◌, take}
-use Rattle.jail_core.proofs.core.copies.Given as goal
+use Rattle.jail_core.proofs.state.copies.Given as goal
 
 abbrev pub invariant-loop-lane : goal.invariant-loop-lane
 invariant-loop-lane l = l.copies ≡ take l.lane-index l.lanes
