@@ -25,6 +25,17 @@ fresh_serials n e = left_false (is_spent n.world) (nat_lt (2 ^ 62) n.lanes.next_
   left_false false b h = refl
   left_false true b h = absurd (let k : true ≡ false = h in cc)
 
+-- the jails of the step, from their parts
+pub jails_step_is : (n : Now) (input : Input) (mid after last : JailsNow) → is_whole_spent moves_now books_now n ≡ false
+    → mid ≡ at_reading moves_now input.secs n.world
+    → after ≡ done moves_now input.word input.what mid
+    → last ≡ each_jail moves_now (dropped_now after.at after.purge) after
+    → last ≡ jails_step_now n.world input
+jails_step_is n input mid after last unspent mid_is after_is last_is =
+    let fresh = fresh_serials n unspent in
+    let whole : JailsNow → JailsNow = λ w. each_jail moves_now (dropped_now w.at w.purge) w in
+    last_is ∙ ap whole (after_is ∙ ap (done moves_now input.word input.what) mid_is) ∙ (rw fresh refl)
+
 -- The step of a state that is not spent, from its parts: the jails at the reading, what happened to them, and the lanes.
 pub step_is : (n : Now) (input : Input) (mid after last : JailsNow) (told : List Happening) (lanes : Lanes (List Job))
     → is_whole_spent moves_now books_now n ≡ false
@@ -36,11 +47,9 @@ pub step_is : (n : Now) (input : Input) (mid after last : JailsNow) (told : List
     → lanes ≡ lanes_step books_now mid.at input.what (held moves_now mid) (held moves_now after) told n.lanes
     → record { world = last; lanes = lanes } ≡ step_now n input
 step_is n input mid after last told lanes unspent mid_is after_is last_is told_is at_is lanes_is =
-    let fresh = fresh_serials n unspent in
     let reading = at_reading moves_now input.secs n.world in
-    let whole : JailsNow → JailsNow = λ w. each_jail moves_now (dropped_now w.at w.purge) w in
     let step : JailsNow = jails_step_now n.world input in
-    let world : last ≡ step = last_is ∙ ap whole (after_is ∙ ap (done moves_now input.word input.what) mid_is) ∙ (rw fresh refl) in
+    let world : last ≡ step = jails_step_is n input mid after last unspent mid_is after_is last_is in
     let moment : mid.at ≡ step.at = at_is ∙ sym (ap (λ (w : JailsNow). w.at) last_is) ∙ ap (λ (w : JailsNow). w.at) world in
     let bans : held moves_now after ≡ held moves_now step =
     sym (held_dropped after.at after.purge after.jails) ∙ sym (ap (held moves_now) last_is) ∙ ap (held moves_now) world in

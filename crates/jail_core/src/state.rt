@@ -1,12 +1,12 @@
 //! `Core` and its calls.
-ghost use Rattle.std.specs.Prelude.{◌≡◌, ◌∷◌, ◌++◌, [], false, map, IfOk};
+ghost use Rattle.std.specs.Prelude.{◌≡◌, ◌≢◌, ◌↔◌, ◌&&◌, not, map, IsTrue, IfOk};
 ghost use Rattle.f2b_model.specs.Lanes.{books_now};
-ghost use Rattle.f2b_model.specs.Sound.{IsSoundView};
-ghost use Rattle.f2b_model.specs.Steps.{first_jails_now, is_ban_due, moves_now};
+ghost use Rattle.f2b_model.specs.Sound.{AreFitDefs, IsSoundView};
+ghost use Rattle.f2b_model.specs.Steps.{is_ban_due, moves_now};
 ghost use Rattle.f2b_model.specs.Views.{empty_view, gathered, spread};
 ghost use Rattle.f2b_model.specs.Whole.{is_whole_spent, step_now, told_now};
 ghost use Rattle.f2b_model.specs.declared.jail_now.JailNow.{JailNow};
-ghost use Rattle.jail_moves.specs.Rooms.{IsBounded};
+ghost use Rattle.jail_rooms.specs.Configured.{configured_now};
 ghost use Rattle.jail_rooms.specs.Kept.{IsTaken};
 ghost use Rattle.jail_rooms.specs.Stored.{IsBoundedView};
 
@@ -14,7 +14,7 @@ use crate::after::after;
 use action_queue::Lanes;
 use f2b_base::{Defs, Input, NoMemory, Plain, Seq, UpLane, View};
 use f2b_model::Happening;
-use jail_rooms::Jails;
+use jail_rooms::{Jails, same_defs};
 use lane_moves::Actions;
 use std::alloc::Global;
 use std::marker::Model;
@@ -28,11 +28,14 @@ pub struct Core {
 }
 
 impl Model for Core {
+    ghost use Rattle.f2b_model.specs.Laws.{AreWatched};
     ghost use Rattle.f2b_model.specs.Whole.{Now};
 
     ghost Value = { Now };
 
     ghost view = { λ c. record { world = c.jails; lanes = c.actions } };
+
+    ghost invariant = { λ c. AreWatched c.jails };
 }
 
 /// A copy of lanes that are up.
@@ -44,6 +47,13 @@ fn copies(alloc: Global, lanes: &[UpLane]) -> Result<Seq<UpLane>, NoMemory>
         copies.push(lane.copy()?)?;
     }
     Ok(copies)
+}
+
+/// Whether a configuration changes nothing: the definitions are the same, no stop was asked for, no jail is idle, and its lanes are up.
+fn stays(same: bool, stopping: bool, idle: bool, just: bool) -> bool
+    ensures { result ≡ (same && (not stopping && (not idle && just))) }
+{
+    same && !stopping && !idle && just
 }
 
 impl Core {
@@ -119,6 +129,19 @@ impl Core {
         ensures { result ≡ is_whole_spent moves_now books_now self.now }
     {
         self.jails.next_ban() > 1 << 62 || self.actions.next_job() > 1 << 62
+    }
+
+    /// Whether a configuration would change anything, the ends by time and the drops left aside: its definitions are others, a stop
+    /// was asked for, a jail is idle, or the lanes that are up are not just its own. Takes no memory.
+    pub fn config_changes(&self, defs: &Defs) -> bool
+        requires { AreFitDefs defs.now }
+        ensures { IsTrue result ↔ (configured_now defs.now self.now ≢ self.now) }
+    {
+        let same = same_defs(defs, self.jails.defs());
+        let stopping = self.actions.is_stopping();
+        let idle = self.jails.is_any_idle();
+        let just = self.actions.are_just(defs);
+        !stays(same, stopping, idle, just)
     }
 
     /// Takes an input, and tells what it did, in order: bans that ended by time, and then, one by one, failures that counted, bans that

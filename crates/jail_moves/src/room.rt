@@ -91,6 +91,9 @@ impl Room {
         requires stored { (next : ℕ) × IsStored at next view.now }
         ensures jail { IfOk result (λ room. IsStoredWell at definition.now view.now → jail_in definition.now room ≡ jail_of definition.now view.now) }
         ensures kept { IfOk result (λ room. (next : ℕ) → IsStored at next view.now → IsKept at next definition.now room) }
+
+        // Sound or not.
+        ensures watches { IfOk result (λ room. room.watches ≡ view.now.watches) }
     {
         let windows = Windows::of(
             alloc,

@@ -12,7 +12,7 @@ use Rattle.f2b_model.specs.Active.{held}
 use Rattle.f2b_model.specs.Full.{IsFull, is_full, is_late}
 use Rattle.f2b_model.specs.Jobs.{ArePending}
 use Rattle.f2b_model.specs.Lanes.{lanes_now}
-use Rattle.f2b_model.specs.Laws.{AreNumbered, AreWatched}
+use Rattle.f2b_model.specs.Laws.{AreNumbered, AreWatched, IsWatched}
 use Rattle.f2b_model.specs.Lists.{AllOf, IsInOrder}
 use Rattle.f2b_model.specs.Nows.{comes_before, jail_from, jail_now}
 use Rattle.f2b_model.specs.Sound.{IsGoodJail, IsNumbered, IsOnceEach, IsSoundView}
@@ -62,6 +62,7 @@ view_all (d ∷ ds) (c ∷ cs) = ap (λ (vs : List JailView). jail_view (jail_in
 pub record IsBack (at : ℕ) (d : JailDef) (v : JailView) (c : Contents) : Type 0 where
   pub jail : IsStoredWell at d v → jail_in d c ≡ jail_of d v
   pub kept : (next : ℕ) → IsStored at next v → IsKept at next d c
+  pub watches : c.watches ≡ v.watches
 
 -- the first jails as they were stored
 abbrev pub AreBack : ℕ → List JailDef → List JailView → List Contents → Type 0
@@ -205,3 +206,12 @@ sound_bounded v sound bounded numbered watched =
       watched = watched;
       jobs = pending_by_id 0 v.jobs v.next_job (subst (λ (jobs : List Job). ArePending 0 jobs v.next_job) (ap (λ (w : View). w.jobs) sound.same) pending);
     }
+
+-- jails that were stored watch what was stored of them
+pub back_watched : (at : ℕ) (ds : List JailDef) (vs : List JailView) (cs : List Contents) → length cs ≡ length ds → AreBack at ds vs cs
+    → AllOf (λ (j : JailNow). IsWatched j.definition.watches j.watches) (jails_of ds vs) → AllOf (λ (j : JailNow). IsWatched j.definition.watches j.watches) (jails_in ds cs)
+back_watched at [] vs cs many back watched = tt
+back_watched at (d ∷ ds) vs [] many back watched = absurd (omega arith)
+back_watched at (d ∷ ds) [] (c ∷ cs) many back watched = absurd back
+back_watched at (d ∷ ds) (v ∷ vs) (c ∷ cs) many back watched =
+    (subst (IsWatched d.watches) (sym back.0.watches) watched.0, back_watched at ds vs cs (omega arith) back.1 watched.1)

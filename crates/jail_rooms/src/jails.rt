@@ -9,6 +9,7 @@ ghost use Rattle.f2b_model.specs.Steps.{at_reading, done, each_jail, first_jails
 ghost use Rattle.f2b_model.specs.Told.{told_done, told_each, told_ends};
 ghost use Rattle.f2b_model.specs.Until.{last_moment};
 ghost use Rattle.f2b_model.specs.Views.{gathered, jail_view};
+ghost use Rattle.f2b_model.specs.Laws.{AreWatched};
 ghost use Rattle.f2b_model.specs.Lists.{AllOf};
 ghost use Rattle.f2b_model.specs.declared.jail_now.JailNow.{JailNow};
 ghost use Rattle.jail_rooms.specs.Jails.{is_of_jails};
@@ -123,7 +124,8 @@ impl Jails {
     /// The jails of a view.
     pub fn of(alloc: Global, view: &View) -> Result<Jails, NoMemory>
         requires { IsBoundedView view.now }
-        ensures { IsSoundView view.now → IfOk result (λ jails. jails ≡ (gathered view.now).world) }
+        ensures jails { IsSoundView view.now → IfOk result (λ jails. jails ≡ (gathered view.now).world) }
+        ensures watched { IfOk result AreWatched }
     {
         let defs = view.defs.copy()?;
         let rooms = rooms_of(

@@ -1,6 +1,9 @@
 //! What is stored of the jails, and the jails as they were stored.
 ghost use Rattle.std.specs.Prelude.{◌≡◌, ℕ, map, IfOk};
+ghost use Rattle.f2b_model.specs.Laws.{IsWatched};
+ghost use Rattle.f2b_model.specs.Lists.{AllOf};
 ghost use Rattle.f2b_model.specs.Views.{jail_view, jails_of};
+ghost use Rattle.f2b_model.specs.declared.jail_now.JailNow.{JailNow};
 ghost use Rattle.jail_rooms.specs.Kept.{jails_in, AreKept};
 ghost use Rattle.jail_rooms.specs.Stored.{AreStored, AreStoredWell};
 
@@ -35,6 +38,8 @@ pub fn rooms_of(
     requires { (next : ℕ) × AreStored at next definitions.now views.now }
     ensures jails { AreStoredWell at definitions.now views.now → IfOk result (λ rooms. jails_in definitions.now rooms.items ≡ jails_of definitions.now views.now) }
     ensures kept { (next : ℕ) → AreStored at next definitions.now views.now → IfOk result (λ rooms. AreKept at next definitions.now rooms.items) }
+    ensures watched { AllOf (λ (j : JailNow). IsWatched j.definition.watches j.watches) (jails_of definitions.now views.now)
+        → IfOk result (λ rooms. AllOf (λ (j : JailNow). IsWatched j.definition.watches j.watches) (jails_in definitions.now rooms.items)) }
 {
     let mut rooms = Vec::new(alloc);
     for index in 0..views.len() {

@@ -1,12 +1,14 @@
-use Rattle.std.proofs.Common.{◌≡◌, ℕ, max, false, List, [], ◌++◌, refl, sym, ◌∙◌, ap}
+use Rattle.std.proofs.Common.{◌≡◌, ℕ, max, false, List, [], ◌++◌, refl, sym, ◌∙◌, ap, subst}
 use Rattle.f2b_model.specs.declared.happening.Happening.{Happening}
 use Rattle.f2b_model.specs.Lanes.{books_now}
+use Rattle.f2b_model.specs.Laws.{AreWatched}
 use Rattle.f2b_model.specs.Nows.{JailsNow}
 use Rattle.f2b_model.specs.Steps.{moves_now}
 use Rattle.f2b_model.specs.Told.{jails_told, told_done, told_each, told_ends}
 use Rattle.f2b_model.specs.Whole.{Now, is_whole_spent, step_now}
+use Rattle.f2b_model.proofs.WatchLemmas.{step_watched}
 use Rattle.jail_rooms.proofs.DoneLemmas.{done_at}
-use Rattle.jail_core.proofs.CoreLemmas.{fresh_serials, step_is}
+use Rattle.jail_core.proofs.CoreLemmas.{fresh_serials, jails_step_is, step_is}
 use Rattle.jail_core.proofs.state.Core.take.Goals as goal
 
 pub returns-clause-core : goal.returns-clause-core
@@ -27,3 +29,11 @@ returns-clause-core c =
     step_is n input mid after c.dropped-jails.result c.after.new.told c.in_ok-jails-2.actions unspent c.in_ok-jails.ensures.jails c.in_ok-jails-2.ensures.jails c.dropped-jails.ensures
     told moment c.in_ok-jails-2.ensures.lanes
     ∙ ap (λ (m : Now). step_now m input) c.self.view_is
+
+pub invariant_of-core : goal.invariant_of-core
+invariant_of-core c =
+    let n : Now = record { world = c.self.inside.jails; lanes = c.self.inside.actions } in
+    let unspent : is_whole_spent moves_now books_now n ≡ false = ap (is_whole_spent moves_now books_now) c.self.view_is ∙ sym c.spent.ensures ∙ c.if-spent.false in
+    subst AreWatched
+    (sym (jails_step_is n c.args.input.now c.in_ok-jails.jails c.in_ok-jails-2.jails c.dropped-jails.result unspent c.in_ok-jails.ensures.jails c.in_ok-jails-2.ensures.jails c.dropped-jails.ensures))
+    (step_watched n.world c.args.input.now c.self.invariant)
