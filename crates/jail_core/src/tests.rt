@@ -1,15 +1,19 @@
 //! The histories of docs/model.md, through the calls of `Core`.
-ghost use Rattle.std.specs.Prelude.{◌≡◌, map, bytes_eq, IfOk};
+ghost use Rattle.std.specs.Prelude.{◌≡◌, ◌∷◌, [], map, bytes_eq, IfOk};
 ghost use Rattle.f2b_base.specs.declared.jail.WatchDef.{WatchDef};
+ghost use Rattle.f2b_base.specs.declared.view.WatchView.{WatchView};
 ghost use Rattle.f2b_model.specs.Lists.{AllOf, AreDistinct};
 ghost use Rattle.f2b_model.specs.Sound.{AreFitDefs, IsFitWhat, same_kind};
-ghost use Rattle.jail_moves.specs.Rooms.{IsBounded};
+ghost use Rattle.jail_moves.specs.Rooms.{IsBounded, IsStored};
 ghost use Rattle.jail_rooms.specs.Kept.{IsBoundedWhat};
+ghost use Rattle.jail_rooms.specs.Stored.{IsBoundedView};
+ghost use Rattle.lane_moves.specs.Held.{AreById};
 
 use crate::Core;
 use f2b_base::{
-    ActionDef, Addr, BanRule, DateSpec, Defs, Failure, Family, Input, JailDef, NoMemory, Outcome,
-    Place, Seq, Text, WatchDef, What,
+    ActionDef, Addr, Ban, BanRule, DateSpec, Defs, Failure, Family, Input, JailDef, JailView, Job,
+    JobKind, LaneId, NoMemory, Outcome, Past, Place, Plain, Seq, Text, Until, UpLane, View,
+    WatchDef, WatchView, What,
 };
 use f2b_model::Happening;
 use std::alloc::Global;
@@ -17,6 +21,11 @@ use std::test::Fail;
 
 /// 192.0.2.7.
 const ADDR: Addr = Addr::V4(0xc000_0207);
+
+/// 2001:db8::1.
+const OTHER: Addr = Addr::V6(0x2001_0db8_0000_0000_0000_0000_0000_0001);
+
+const PATH: &str = "/var/log/auth.log";
 
 /// One action for both families, with this command that bans.
 fn action(alloc: Global, ban: &str) -> Result<Seq<ActionDef>, NoMemory>
@@ -37,14 +46,15 @@ fn action(alloc: Global, ban: &str) -> Result<Seq<ActionDef>, NoMemory>
 }
 
 /// A jail that bans for ten minutes after three failures within ten minutes.
-fn definition(alloc: Global, actions: Seq<ActionDef>) -> Result<JailDef, NoMemory>
+fn definition(alloc: Global, path: &str, actions: Seq<ActionDef>) -> Result<JailDef, NoMemory>
     ensures bounded { IfOk result IsBounded }
+    ensures path { IfOk result (λ d. map (λ (w : WatchDef). w.path) d.watches ≡ path.now ∷ []) }
     ensures paths { IfOk result (λ d. AreDistinct bytes_eq (map (λ (w : WatchDef). w.path) d.watches)) }
     ensures actions { IfOk result (λ d. d.actions ≡ actions) }
 {
     let mut watches = Seq::new(alloc);
     watches.push(WatchDef {
-        path: Text::from_str(alloc, "/var/log/auth.log")?,
+        path: Text::from_str(alloc, path)?,
         tail: true,
     })?;
     Ok(JailDef {
@@ -78,7 +88,7 @@ fn defs_of(alloc: Global, actions: Seq<ActionDef>) -> Result<Defs, NoMemory>
     ensures bounded { IfOk result (λ defs. AllOf IsBounded defs.jails) }
 {
     let mut jails = Seq::new(alloc);
-    jails.push(definition(alloc, actions)?)?;
+    jails.push(definition(alloc, PATH, actions)?)?;
     Ok(Defs {
         purge: 86400,
         jails,
@@ -105,11 +115,14 @@ fn no_actions(alloc: Global) -> Result<What, NoMemory>
     })
 }
 
-/// A log was read, in which failures of the address with these times were found.
+/// A log was read, in which failures of the address with these times were found; where there are none, time passed.
 fn reading(alloc: Global, times: &[u64]) -> Result<What, NoMemory>
     ensures fit { IfOk result IsFitWhat }
     ensures bounded { IfOk result IsBoundedWhat }
 {
+    if times.is_empty() {
+        return Ok(What::Tick);
+    }
     let mut found = Seq::new(alloc);
     for &time in times {
         found.push(Failure {
@@ -120,7 +133,7 @@ fn reading(alloc: Global, times: &[u64]) -> Result<What, NoMemory>
     }
     Ok(What::Read {
         jail: Text::from_str(alloc, "sshd")?,
-        path: Text::from_str(alloc, "/var/log/auth.log")?,
+        path: Text::from_str(alloc, PATH)?,
         place: Place::Tail,
         found,
     })
@@ -232,39 +245,168 @@ fn banned(alloc: Global) -> Result<Core, NoMemory> {
     Ok(core)
 }
 
-#[test]
-fn three_failures_within_ten_minutes_ban(rt: HostRuntime) -> Result<(), Fail> {
-    let alloc = rt.alloc();
-    let within: [(u32, &[u64]); 3] = [(1100, &[1100]), (1300, &[1300]), (1699, &[1699])];
-    let (core, told) = after_readings(alloc, &within)?;
-    assert_eq!(rt;
-        told.as_str(),
-        "counts\ncounts\ncounts\nbegins 1699 At(2299) 0 3\n"
-    );
+/// The lane that is up.
+fn stored_up(alloc: Global) -> Result<Seq<UpLane>, NoMemory> {
+    let mut up = Seq::new(alloc);
+    for action in action(alloc, "add <ip>")?.as_slice() {
+        up.push(UpLane {
+            jail: Text::from_str(alloc, "sshd")?,
+            action: action.copy()?,
+        })?;
+    }
+    Ok(up)
+}
 
-    assert!(rt; !core.ban_due(2298) && core.ban_due(2299));
-    let (core, told) = step(core, 2298, What::Tick)?;
-    assert!(rt; told.is_empty());
-    let (core, told) = step(core, 2299, What::Tick)?;
-    assert_eq!(rt; lines(alloc, &told)?.as_str(), "ends 1699 At(2299) 0 3\n");
-    let (core, told) = step(core, 2200, What::Tick)?;
-    assert!(rt; told.is_empty() && core.now() == 2299 && !core.ban_due(3000));
-    Ok(())
+/// The job that waits after a failed try.
+fn stored_jobs(alloc: Global) -> Result<Seq<Job>, NoMemory>
+    ensures { IfOk result (λ jobs. AreById 0 jobs 2) }
+{
+    let mut jobs = Seq::new(alloc);
+    jobs.push(Job {
+        id: 1,
+        lane: LaneId {
+            jail: Text::from_str(alloc, "sshd")?,
+            action: Text::from_str(alloc, "fw")?,
+            family: Family::Both,
+        },
+        kind: JobKind::Ban,
+        addr: Some(ADDR),
+        text: Text::from_str(alloc, "add 192.0.2.7")?,
+        timeout: 60,
+        tries: 1,
+        due: 1004,
+    })?;
+    Ok(jobs)
+}
+
+/// What is stored of the jail: a failure, a ban and one that is over.
+fn stored_jail(alloc: Global, path: &str) -> Result<JailView, NoMemory>
+    ensures stored { IfOk result (IsStored 1002 8) }
+    ensures path { IfOk result (λ v. map (λ (w : WatchView). w.path) v.watches ≡ path.now ∷ []) }
+{
+    let mut failures = Seq::new(alloc);
+    failures.push(Failure {
+        addr: OTHER,
+        time: 950,
+        line: Text::new(alloc),
+    })?;
+    let mut bans = Seq::new(alloc);
+    bans.push(Ban {
+        serial: 7,
+        addr: ADDR,
+        begin: 1001,
+        until: Until::At(1601),
+        count: 0,
+        failures: 0,
+    })?;
+    let mut past = Seq::new(alloc);
+    past.push(Past {
+        addr: OTHER,
+        end: 940,
+    })?;
+    let mut watches = Seq::new(alloc);
+    watches.push(WatchView {
+        path: Text::from_str(alloc, path)?,
+        place: Place::Tail,
+    })?;
+    Ok(JailView {
+        name: Text::from_str(alloc, "sshd")?,
+        idle: true,
+        total_failed: 4,
+        total_banned: 2,
+        moment: 960,
+        failures,
+        bans,
+        past,
+        watches,
+    })
+}
+
+/// What is stored of a server with one jail.
+fn view_of(
+    alloc: Global,
+    definition: JailDef,
+    jail: JailView,
+    up: Seq<UpLane>,
+    jobs: Seq<Job>,
+) -> Result<View, NoMemory>
+    requires bounded { IsBounded definition }
+    requires stored { IsStored 1002 8 jail }
+    requires path { map (λ (w : WatchView). w.path) jail.watches ≡ map (λ (w : WatchDef). w.path) definition.watches }
+    requires jobs { AreById 0 jobs 2 }
+    ensures { IfOk result IsBoundedView }
+{
+    let mut definitions = Seq::new(alloc);
+    definitions.push(definition)?;
+    let mut jails = Seq::new(alloc);
+    jails.push(jail)?;
+    Ok(View {
+        at: 1002,
+        defs: Defs {
+            purge: 3600,
+            jails: definitions,
+        },
+        stopping: false,
+        up,
+        jails,
+        jobs,
+        next_job: 2,
+        next_ban: 8,
+    })
+}
+
+/// What is stored.
+fn stored(alloc: Global) -> Result<View, NoMemory>
+    ensures { IfOk result IsBoundedView }
+{
+    let definition = definition(alloc, PATH, action(alloc, "add <ip>")?)?;
+    let jail = stored_jail(alloc, PATH)?;
+    view_of(
+        alloc,
+        definition,
+        jail,
+        stored_up(alloc)?,
+        stored_jobs(alloc)?,
+    )
 }
 
 #[test]
-fn the_times_of_failures_count(rt: HostRuntime) -> Result<(), Fail> {
+fn three_failures_within_ten_minutes_ban(rt: HostRuntime) -> Result<(), Fail> {
     let alloc = rt.alloc();
-    let apart: [(u32, &[u64]); 3] = [(1100, &[1100]), (1300, &[1300]), (1700, &[1700])];
-    let (_, told) = after_readings(alloc, &apart)?;
-    assert_eq!(rt; told.as_str(), "counts\ncounts\ncounts\n");
-
-    let mixed: [(u32, &[u64]); 1] = [(1500, &[1500, 1100, 1300])];
-    let (_, told) = after_readings(alloc, &mixed)?;
-    assert_eq!(rt;
-        told.as_str(),
-        "counts\ncounts\ncounts\nbegins 1500 At(2100) 0 3\n"
-    );
+    let rows: [(&[(u32, &[u64])], &str); 4] = [
+        (
+            &[(1100, &[1100]), (1300, &[1300]), (1700, &[1700])],
+            "counts\ncounts\ncounts\n",
+        ),
+        (
+            &[(1500, &[1500, 1100, 1300])],
+            "counts\ncounts\ncounts\nbegins 1500 At(2100) 0 3\n",
+        ),
+        (
+            &[
+                (1100, &[1100]),
+                (1300, &[1300]),
+                (1699, &[1699]),
+                (2298, &[]),
+                (2200, &[]),
+            ],
+            "counts\ncounts\ncounts\nbegins 1699 At(2299) 0 3\n",
+        ),
+        (
+            &[
+                (1100, &[1100]),
+                (1300, &[1300]),
+                (1699, &[1699]),
+                (2298, &[]),
+                (2299, &[]),
+            ],
+            "counts\ncounts\ncounts\nbegins 1699 At(2299) 0 3\nends 1699 At(2299) 0 3\n",
+        ),
+    ];
+    for (readings, want) in rows {
+        let (_, told) = after_readings(alloc, readings)?;
+        assert_eq!(rt; told.as_str(), want);
+    }
     Ok(())
 }
 
@@ -299,7 +441,7 @@ fn a_changed_action_goes_down_and_comes_up(rt: HostRuntime) -> Result<(), Fail> 
         ordered.as_str(),
         "2 del 192.0.2.7\n3 down\n4 up\n5 drop 192.0.2.7\n"
     );
-    assert!(rt; !core.ban_due(1600) && core.ban_due(1601));
+    assert!(rt; core.now() == 1010 && !core.ban_due(1600) && core.ban_due(1601));
     Ok(())
 }
 
@@ -319,5 +461,14 @@ fn a_stop_is_kept_and_called_off(rt: HostRuntime) -> Result<(), Fail> {
         "2 del 192.0.2.7\n3 down\n4 up\n5 add 192.0.2.7\n"
     );
     assert!(rt; !core.view()?.stopping);
+    Ok(())
+}
+
+#[test]
+fn what_is_stored_is_what_was_kept(rt: HostRuntime) -> Result<(), Fail> {
+    let alloc = rt.alloc();
+    let view = stored(alloc)?;
+    let core = Core::of(alloc, &view)?;
+    assert!(rt; core.view()? == view);
     Ok(())
 }
