@@ -9,5 +9,7 @@
 
 mod after;
 mod state;
+#[cfg(test)]
+mod tests;
 
 pub use state::Core;
