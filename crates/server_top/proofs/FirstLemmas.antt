@@ -2,12 +2,13 @@
 use Rattle.std.proofs.Common.{ℕ, ◌≡◌, ◌+◌, ◌++◌, ◌≤◌, List, [], ◌∷◌, length, min, refl, sym, ap, ◌∙◌, subst, arith}
 use Rattle.f2b_base.specs.declared.jail.JailDef.{JailDef}
 use Rattle.f2b_base.specs.declared.outside.Reading.{Reading}
-use Rattle.f2b_model.specs.Nows.{jails_now_of}
-use Rattle.f2b_model.specs.Steps.{first_jails, first_jails_now}
-use Rattle.f2b_model.proofs.LawLemmas.{first_sound, first_shows}
+use Rattle.f2b_model.specs.LaneSound.{never}
+use Rattle.f2b_model.specs.Sound.{IsSound}
+use Rattle.f2b_model.specs.Whole.{empty_state}
+use Rattle.f2b_model.proofs.WholeLemmas.{empty_sound, whole_shows, whole_keeps}
 use Rattle.f2b_world.specs.Told.{Standing, Called}
 use Rattle.f2b_world.specs.declared.event.Event.TheVariants.{Clock}
-use Rattle.server_top.specs.Law.{Following, Run, AtStart, AtClock, Goes, Halts, begun, started, latest}
+use Rattle.server_top.specs.Law.{Following, Run, AtStart, AtClock, Goes, Halts, begun, first_input, started, latest}
 use Rattle.server_top.specs.Said.{ready_line}
 use Rattle.server_top.specs.Stages.{IsAt, Keeps, Owes, Reaches, Says, SayFails}
 use Rattle.server_top.specs.Starts.{IsFirst, Starts, StartFails, standing}
@@ -17,13 +18,16 @@ use Rattle.server_top.specs.declared.status.Status.TheVariants.{NoMemory}
 use Rattle.server_top.specs.declared.words.Plan.{Plan}
 use Rattle.server_top.proofs.WalkLemmas.{goes_trans, goes_call, halts_after, halts_here}
 
+nothing_sound : IsSound empty_state
+nothing_sound = record { base = never; from = empty_sound }
+
 first_keeps : (definition : JailDef) (turns : ℕ) (answer : Reading) (kept : Follow) → IsFirst definition answer kept → Keeps (begun definition turns answer) kept
 first_keeps definition turns answer kept is = record {
   definition = is.definition_is;
   now = is.now;
   word = is.word;
-  core = is.core ∙ sym (first_shows (record { purge = 86400; jails = definition ∷ [] }));
-  sound = first_sound (record { purge = 86400; jails = definition ∷ [] }) (is.maxretry, tt) (refl, tt);
+  core = is.core ∙ sym (whole_shows empty_state (first_input definition answer) is.fit nothing_sound);
+  sound = whole_keeps empty_state (first_input definition answer) is.fit nothing_sound;
   watch = is.watch;
 }
 

@@ -7,6 +7,7 @@ pub mod TurnLemmas
 pub mod LookLemmas
 pub mod StartLemmas
 pub mod BuildLemmas
+pub mod FormLemmas
 pub mod FirstLemmas
 pub mod SaidLemmas
 pub mod ServeLemmas

@@ -2,17 +2,11 @@
 use Rattle.std.proofs.Common.{ℕ, ◌≡◌, ◌≤◌, ◌^◌, ◌-◌, List, [], length, map, refl, sym, ap, ◌∙◌, subst, arith}
 use Rattle.f2b_base.specs.declared.input.Input.{Input}
 use Rattle.f2b_base.specs.declared.input.What.{What}
-use Rattle.f2b_base.specs.declared.input.What.TheVariants.{Tick, Read, Ended, Config, Stop, Ban, Unban, Attempt, Ignore, Findtime, Bantime, Maxretry, Idle}
-use Rattle.f2b_model.specs.Nows.{JailsNow, jails_now_of}
-use Rattle.f2b_model.specs.Sound.{IsFit, IsFitWhat, AreSoundJails}
-use Rattle.f2b_model.specs.State.{JailsState}
-use Rattle.f2b_model.specs.Steps.{moves, moves_now, jails_step, jails_step_now}
-use Rattle.f2b_model.specs.Told.{jails_told}
+use Rattle.f2b_model.specs.Sound.{IsFit, IsFitWhat, IsSound}
+use Rattle.f2b_model.specs.Whole.{State, Now, now_of, step, step_now, told, told_now}
 use Rattle.f2b_model.specs.declared.happening.Happening.{Happening}
-use Rattle.f2b_model.proofs.LawLemmas.{now_step, sound_step}
-use Rattle.f2b_model.proofs.ToldLemmas.{told_by_now}
+use Rattle.f2b_model.proofs.WholeLemmas.{whole_shows, whole_keeps, whole_tells}
 use Rattle.f2b_world.specs.Told.{Standing}
-use Rattle.plain_core.specs.Kept.{IsTaken}
 use Rattle.log_follow.specs.Followed.{StandsFor}
 use Rattle.log_follow.specs.declared.follower.Follower.{Follower}
 use Rattle.server_top.specs.Law.{Following, Run, Goes, taken, told_lines}
@@ -23,46 +17,31 @@ use Rattle.server_top.specs.declared.status.Status.{Status}
 use Rattle.server_top.specs.declared.status.Status.TheVariants.{NoMemory}
 use Rattle.server_top.proofs.WalkLemmas.{halts_here}
 
-fit_what : (what : What) → IsTaken what → IsFitWhat what
-fit_what Tick is = tt
-fit_what (Read jail path place found) is = tt
-fit_what (Ended job outcome) is = absurd is
-fit_what (Config defs) is = absurd is
-fit_what Stop is = absurd is
-fit_what (Ban jail addrs) is = absurd is
-fit_what (Unban jail addrs) is = absurd is
-fit_what (Attempt jail addr) is = absurd is
-fit_what (Ignore jail cidr add) is = tt
-fit_what (Findtime jail secs) is = absurd is
-fit_what (Bantime jail secs) is = absurd is
-fit_what (Maxretry jail number) is = absurd is
-fit_what (Idle jail idle) is = absurd is
-
 -- the input that the code hands in
 abbrev input_of : Follow → What → Input
 input_of before what = record { secs = before.now; word = before.word; what = what }
 
-module _ (before after : Follow) (what : What) (news : List Happening) (steps : StepsTo before what after news) (is : IsTaken what) (early : before.now ≤ 250000000000) where
+module _ (before after : Follow) (what : What) (news : List Happening) (steps : StepsTo before what after news) (is : IsFitWhat what) (early : before.now ≤ 250000000000) where
   same_input : (f : Following) → Keeps f before → input_of before what ≡ record { secs = f.now; word = f.word; what = what }
   same_input f keeps = λ i. record { secs = keeps.now i; word = keeps.word i; what = what }
 
   fits : IsFit (input_of before what)
-  fits = record { secs = omega arith; what = fit_what what is }
+  fits = record { secs = omega arith; what = is }
 
   same_lines : (f : Following) → Keeps f before → map (line_of after.now) news ≡ told_lines what f
   same_lines f keeps =
       let input = input_of before what in
-      let now_told : news ≡ jails_told moves f.state input = steps.tells ∙ ap (λ (n : JailsNow). jails_told moves_now n input) keeps.core ∙ sym (told_by_now f.state input fits keeps.sound) in
+      let now_told : news ≡ told f.state input = steps.tells ∙ ap (λ (n : Now). told_now n input) keeps.core ∙ sym (whole_tells f.state input fits keeps.sound) in
       let now_is : after.now ≡ f.now = steps.now ∙ keeps.now in
-      rw now_is (ap (map (line_of f.now)) (now_told ∙ ap (jails_told moves f.state) (same_input f keeps)))
+      rw now_is (ap (map (line_of f.now)) (now_told ∙ ap (told f.state) (same_input f keeps)))
 
-  same_core : (f : Following) → Keeps f before → after.core ≡ jails_now_of (taken what f).state
+  same_core : (f : Following) → Keeps f before → after.core ≡ now_of (taken what f).state
   same_core f keeps =
       let input = input_of before what in
-      steps.core ∙ ap (λ (n : JailsNow). jails_step_now n input) keeps.core ∙ sym (now_step f.state input fits keeps.sound) ∙ ap (λ (i : Input). jails_now_of (jails_step f.state i)) (same_input f keeps)
+      steps.core ∙ ap (λ (n : Now). step_now n input) keeps.core ∙ sym (whole_shows f.state input fits keeps.sound) ∙ ap (λ (i : Input). now_of (step f.state i)) (same_input f keeps)
 
-  still_sound : (f : Following) → Keeps f before → AreSoundJails (taken what f).state
-  still_sound f keeps = let P : Input → Type 0 = λ i. AreSoundJails (jails_step f.state i) in subst P (same_input f keeps) (sound_step f.state (input_of before what) fits keeps.sound)
+  still_sound : (f : Following) → Keeps f before → IsSound (taken what f).state
+  still_sound f keeps = let P : Input → Type 0 = λ i. IsSound (step f.state i) in subst P (same_input f keeps) (whole_keeps f.state (input_of before what) fits keeps.sound)
 
   pub takes : (old new : Standing) → Says old new (map (line_of after.now) news) → Takes old new what before after
   takes old new says = record {

@@ -3,7 +3,7 @@ use Rattle.std.specs.Prelude.{ℕ, zero, suc, ◌≡◌, ◌+◌, ◌-◌, ◌^�
 use Rattle.f2b_base.specs.declared.ban.Failure.{Failure}
 use Rattle.f2b_base.specs.declared.input.Input.{Input}
 use Rattle.f2b_base.specs.declared.input.What.{What}
-use Rattle.f2b_base.specs.declared.input.What.TheVariants.{Tick, Read}
+use Rattle.f2b_base.specs.declared.input.What.TheVariants.{Tick, Read, Config as Configured}
 use Rattle.f2b_base.specs.declared.jail.JailDef.{JailDef}
 use Rattle.f2b_base.specs.declared.jail.Place.TheVariants.{Tail, Pos}
 use Rattle.f2b_base.specs.declared.jail.WatchDef.{WatchDef}
@@ -11,9 +11,8 @@ use Rattle.f2b_base.specs.declared.outside.FileLook.{FileLook}
 use Rattle.f2b_base.specs.declared.outside.Reading.{Reading}
 use Rattle.f2b_base.specs.declared.outside.TreeAnswer.{TreeAnswer}
 use Rattle.f2b_base.specs.declared.outside.TreeAnswer.TheVariants.{Tree, Failed as TreeFailed, TooLarge as TreeTooLarge, NoMemory as TreeNoMemory}
-use Rattle.f2b_model.specs.State.{JailsState}
-use Rattle.f2b_model.specs.Steps.{moves, jails_step, first_jails, is_ban_due}
-use Rattle.f2b_model.specs.Told.{jails_told}
+use Rattle.f2b_model.specs.Steps.{moves, is_ban_due}
+use Rattle.f2b_model.specs.Whole.{State, step, told, empty_state}
 use Rattle.f2b_world.specs.Told.{History}
 use Rattle.f2b_world.specs.Walks.{Walks}
 use Rattle.f2b_world.specs.declared.answer.Look.{Look}
@@ -46,7 +45,7 @@ use Rattle.server_top.specs.declared.words.Plan.{Plan}
 -- what a run that follows its log has come to
 pub record Following : Type 0 where
   pub definition : JailDef
-  pub state : JailsState
+  pub state : State
   -- the greatest reading so far, and the last reading's word
   pub now : ℕ
   pub word : ℕ
@@ -149,12 +148,16 @@ latest = 250000000000
 abbrev pub refused : Status → Run → Run
 refused status r = record r { point = Over status; lines = r.lines ++ refusal_line status ∷ [] }
 
+-- what happened, at the last reading
+abbrev pub input_at : Following → What → Input
+input_at f what = record { secs = f.now; word = f.word; what = what }
+
 -- an input is taken: its step, and the lines of what the step tells
 abbrev pub taken : What → Following → Following
-taken what f = record f { state = jails_step f.state (record { secs = f.now; word = f.word; what = what }) }
+taken what f = record f { state = step f.state (input_at f what) }
 
 abbrev pub told_lines : What → Following → List (List ℕ)
-told_lines what f = map (line_of f.now) (jails_told moves f.state (record { secs = f.now; word = f.word; what = what }))
+told_lines what f = map (line_of f.now) (told f.state (input_at f what))
 
 abbrev pub takes : What → (Following → Point) → Following → Run → Run
 takes what point f r = record r { point = point (taken what f); lines = r.lines ++ told_lines what f }
@@ -191,10 +194,19 @@ made definition k WasTooBig r = not_made definition (pattern_at definition k) To
 abbrev pub read_at : Reading → Following → Following
 read_at answer f = record f { now = max f.now (min answer.secs latest); word = answer.word }
 
+-- the configuration as an input: past bans count for a day
+abbrev pub first_input : JailDef → Reading → Input
+first_input definition answer = record {
+  secs = min answer.secs latest;
+  word = answer.word;
+  what = Configured (record { purge = 86400; jails = definition ∷ [] });
+}
+
+-- a run begins with nothing, and takes its configuration
 abbrev pub begun : JailDef → ℕ → Reading → Following
 begun definition turns answer = record {
   definition = definition;
-  state = first_jails (record { purge = 86400; jails = definition ∷ [] });
+  state = step empty_state (first_input definition answer);
   now = min answer.secs latest;
   word = answer.word;
   watch = watch_from (Pos 0 []);
@@ -210,7 +222,7 @@ ticked true f r = takes Tick AtLook f r
 ticked false f r = record r { point = AtLook f }
 
 abbrev pub clocked : Following → Run → Run
-clocked f r = ticked (is_ban_due moves f.now f.state) f r
+clocked f r = ticked (is_ban_due moves f.now f.state.world) f r
 
 -- the failures among the findings of the lines
 abbrev pub failure_in : Finding → List Failure

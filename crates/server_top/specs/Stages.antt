@@ -5,10 +5,8 @@ use Rattle.f2b_base.specs.declared.input.What.TheVariants.{Read}
 use Rattle.f2b_base.specs.declared.jail.Place.TheVariants.{Tail}
 use Rattle.f2b_base.specs.declared.outside.FileLook.{FileLook}
 use Rattle.f2b_base.specs.declared.outside.Reading.{Reading}
-use Rattle.f2b_model.specs.Nows.{jails_now_of}
-use Rattle.f2b_model.specs.Sound.{AreSoundJails}
-use Rattle.f2b_model.specs.Steps.{moves_now, jails_step_now}
-use Rattle.f2b_model.specs.Told.{jails_told}
+use Rattle.f2b_model.specs.Sound.{IsSound}
+use Rattle.f2b_model.specs.Whole.{now_of, step_now, told_now}
 use Rattle.f2b_model.specs.declared.happening.Happening.{Happening}
 use Rattle.f2b_world.specs.Told.{Fault, OfSink, OfConfiguration, OfPatterns, Standing, Rose, Called}
 use Rattle.f2b_world.specs.declared.answer.Look.{Look}
@@ -81,8 +79,8 @@ pub record Keeps (f : Following) (kept : Follow) : Type 0 where
   pub definition : kept.definition ≡ f.definition
   pub now : kept.now ≡ f.now
   pub word : kept.word ≡ f.word
-  pub core : kept.core ≡ jails_now_of f.state
-  pub sound : AreSoundJails f.state
+  pub core : kept.core ≡ now_of f.state
+  pub sound : IsSound f.state
   pub watch : StandsFor kept.follower f.watch
 
 -- the run goes from one point to another, of which the code knows all that it needs
@@ -124,8 +122,8 @@ pub record StepsTo (before : Follow) (what : What) (after : Follow) (news : List
   pub follower : after.follower ≡ before.follower
   pub now : after.now ≡ before.now
   pub word : after.word ≡ before.word
-  pub core : after.core ≡ jails_step_now before.core (record { secs = before.now; word = before.word; what = what })
-  pub tells : news ≡ jails_told moves_now before.core (record { secs = before.now; word = before.word; what = what })
+  pub core : after.core ≡ step_now before.core (record { secs = before.now; word = before.word; what = what })
+  pub tells : news ≡ told_now before.core (record { secs = before.now; word = before.word; what = what })
 
 -- an input was taken, and the lines that it tells were said
 pub record Takes (old new : Standing) (what : What) (before after : Follow) : Type 0 where

@@ -5,13 +5,15 @@ use Rattle.f2b_base.specs.declared.jail.Place.TheVariants.{Pos}
 use Rattle.f2b_base.specs.declared.outside.TreeAnswer.{TreeAnswer}
 use Rattle.f2b_base.specs.declared.outside.TreeAnswer.TheVariants.{Tree, Failed as TreeFailed, TooLarge as TreeTooLarge, NoMemory as TreeNoMemory}
 use Rattle.f2b_base.specs.declared.outside.Reading.{Reading}
-use Rattle.f2b_model.specs.Steps.{first_jails_now}
+use Rattle.f2b_model.specs.Sound.{IsFit}
+use Rattle.f2b_model.specs.Views.{gathered, empty_view}
+use Rattle.f2b_model.specs.Whole.{step_now}
 use Rattle.f2b_world.specs.Told.{Standing}
 use Rattle.flat_form.specs.Flat.{flat_jail}
 use Rattle.flat_form.specs.FlatText.{IsFlatJail}
 use Rattle.log_follow.specs.Followed.{StandsFor}
 use Rattle.log_follow.specs.Watches.{begun as watch_from}
-use Rattle.server_top.specs.Law.{Following, Point, AtConfig, AtStart, AtClock, Run, Goes, Halts, make_point, turned, latest}
+use Rattle.server_top.specs.Law.{Following, Point, AtConfig, AtStart, AtClock, Run, Goes, Halts, first_input, make_point, turned, latest}
 use Rattle.server_top.specs.Stages.{IsAt, Keeps, Reaches}
 use Rattle.server_top.specs.declared.follow.Follow.{Follow}
 use Rattle.server_top.specs.declared.status.Status.{Status}
@@ -69,6 +71,6 @@ pub record IsFirst (definition : JailDef) (answer : Reading) (kept : Follow) : T
   pub definition_is : kept.definition ≡ definition
   pub now : kept.now ≡ min answer.secs latest
   pub word : kept.word ≡ answer.word
-  pub core : kept.core ≡ first_jails_now (record { purge = 86400; jails = definition ∷ [] })
+  pub core : kept.core ≡ step_now (gathered empty_view) (first_input definition answer)
   pub watch : StandsFor kept.follower (watch_from (Pos 0 []))
-  pub maxretry : 1 ≤ definition.maxretry
+  pub fit : IsFit (first_input definition answer)

@@ -4,8 +4,8 @@ ghost use Rattle.filter_regex.specs.Rules.{rules_of};
 
 use f2b_base::JailDef;
 use filter_regex::Filter;
+use jail_core::Core;
 use log_follow::Follower;
-use plain_core::Core;
 
 /// What a run that follows its log keeps.
 #[derive(Drop)]

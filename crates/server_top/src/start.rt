@@ -2,7 +2,8 @@
 ghost use Rattle.std.specs.Prelude.{◌≡◌, IfErr, IfOk, OnOk};
 ghost use Rattle.filter_regex.specs.Rules.{rules_of};
 ghost use Rattle.flat_form.specs.FlatText.{IsFlatJail};
-ghost use Rattle.server_top.specs.Law.{Halts, opening};
+ghost use Rattle.jail_rooms.specs.Kept.{IsTaken};
+ghost use Rattle.server_top.specs.Law.{Halts, first_input, opening};
 ghost use Rattle.server_top.specs.Starts.{BuildsAll, BuildFails, Configures, IsDecided, IsFirst, Starts, StartFails};
 ghost use Rattle.server_top.specs.Stages.{HasCause, IsSteady};
 
@@ -12,12 +13,12 @@ use crate::say::{refuse, say_line};
 use crate::status::Status;
 use crate::turn::LATEST;
 use crate::words::Plan;
-use f2b_base::{Bytes, JailDef, NoMemory, Place, Plain, Reading, TreeAnswer};
+use f2b_base::{Bytes, Defs, Input, JailDef, NoMemory, Place, Plain, Reading, Seq, TreeAnswer, What};
 use f2b_world::World;
 use filter_regex::{Filter, PatternError};
 use flat_form::flat_jail;
+use jail_core::Core;
 use log_follow::Follower;
-use plain_core::Core;
 use std::alloc::Global;
 
 // The jail of a configuration, or why the run is refused.
@@ -71,6 +72,30 @@ pub fn build<W: World>(alloc: Global, world: &mut W, definition: &JailDef) -> Re
     }
 }
 
+// The configuration as an input: past bans count for a day.
+fn configuration(
+    alloc: Global,
+    definition: &JailDef,
+    reading: Reading,
+) -> Result<Input, NoMemory>
+    requires { IsFlatJail definition.now }
+    ensures value { IfOk result (λ input. input ≡ first_input definition.now reading) }
+    ensures taken { IfOk result IsTaken }
+{
+    let mut jails = Seq::new(alloc);
+    jails.push(definition.copy()?)?;
+    Ok(Input {
+        secs: reading.secs.min(LATEST),
+        word: reading.word,
+        what: What::Config {
+            defs: Defs {
+                purge: 86_400,
+                jails,
+            },
+        },
+    })
+}
+
 // What a run keeps that begins at a reading of the clock.
 fn first(
     alloc: Global,
@@ -82,7 +107,8 @@ fn first(
     requires built { filter ≡ rules_of definition }
     ensures { IfOk result (IsFirst definition reading) }
 {
-    let core = Core::start(alloc, definition.copy()?, 86_400)?;
+    let input = configuration(alloc, &definition, reading)?;
+    let (core, _) = Core::empty(alloc).take(&input)?;
     let place = Place::Pos {
         position: 0,
         head: Bytes::new(alloc),
@@ -93,8 +119,8 @@ fn first(
         filter,
         core,
         follower,
-        now: reading.secs.min(LATEST),
-        word: reading.word,
+        now: input.secs,
+        word: input.word,
     })
 }
 

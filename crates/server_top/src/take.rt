@@ -1,6 +1,7 @@
 //! Taking an input: its step, and the lines of what the step tells.
 ghost use Rattle.std.specs.Prelude.{◌≡◌, IfErr, IfOk};
-ghost use Rattle.plain_core.specs.Kept.{IsTaken};
+ghost use Rattle.f2b_model.specs.Sound.{IsFitWhat};
+ghost use Rattle.jail_rooms.specs.Kept.{IsBoundedWhat};
 ghost use Rattle.server_top.specs.Stages.{HasCause, IsSteady, StepsTo, Takes, TakeFails};
 
 use crate::follow::Follow;
@@ -12,8 +13,9 @@ use f2b_world::World;
 use std::alloc::Global;
 
 // The step alone, with what it tells.
-fn step(alloc: Global, follow: Follow, what: What) -> Result<(Follow, Seq<Happening>), NoMemory>
-    requires { IsTaken what }
+fn step(follow: Follow, what: What) -> Result<(Follow, Seq<Happening>), NoMemory>
+    requires fit { IsFitWhat what }
+    requires bounded { IsBoundedWhat what }
     ensures { IfOk result (λ r. StepsTo follow what r.0 r.1) }
 {
     let Follow {
@@ -29,7 +31,7 @@ fn step(alloc: Global, follow: Follow, what: What) -> Result<(Follow, Seq<Happen
         word,
         what,
     };
-    let (core, told) = core.take(alloc, &input)?;
+    let (core, told) = core.take(&input)?;
     let follow = Follow {
         definition,
         filter,
@@ -49,13 +51,14 @@ pub fn take<W: World>(
     follow: Follow,
     what: What,
 ) -> Result<Follow, Status>
-    requires { IsTaken what }
+    requires fit { IsFitWhat what }
+    requires bounded { IsBoundedWhat what }
     ensures ok { IfOk result (Takes (W.stands world.old) (W.stands world.new) what follow) }
     ensures err { IfErr result (TakeFails (W.stands world.old) (W.stands world.new) what follow) }
     ensures cause { IfErr result (HasCause (W.stands world.old) (W.stands world.new)) }
     ensures steady { IsSteady (W.stands world.old) (W.stands world.new) }
 {
-    let (follow, told) = step(alloc, follow, what)?;
+    let (follow, told) = step(follow, what)?;
     say_told(alloc, world, follow.now, &told)?;
     Ok(follow)
 }

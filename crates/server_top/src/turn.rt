@@ -2,7 +2,8 @@
 ghost use Rattle.std.specs.Prelude.{◌≡◌, ◌≢◌, IfErr, IfOk, IfSome, OnErr, OnOk};
 ghost use Rattle.server_top.specs.Law.{AtClock, AtLook, AtPause, path_of};
 ghost use Rattle.server_top.specs.Stages.{HasCause, IsSteady, Moves, MoveFails, ReadsAt, ReadsLines, Looked, brought, read_by, turn_end};
-ghost use Rattle.plain_core.specs.Kept.{IsTaken};
+ghost use Rattle.f2b_model.specs.Sound.{IsFitWhat};
+ghost use Rattle.jail_rooms.specs.Kept.{IsBoundedWhat};
 ghost use Rattle.log_follow.specs.Followed.{ask_of};
 ghost use Rattle.log_follow.specs.Watches.{Answers};
 ghost use Rattle.f2b_world.specs.declared.answer.Look.TheVariants.{NoMemory as LookNoMemory};
@@ -100,7 +101,8 @@ fn read_lines(
 ) -> Result<(Follow, Option<What>), NoMemory>
     requires { Answers (ask_of follow.follower) file.now }
     ensures reads { IfOk result (λ r. ReadsLines follow file.now r.0 r.1) }
-    ensures taken { IfOk result (λ r. IfSome r.1 IsTaken) }
+    ensures fit { IfOk result (λ r. IfSome r.1 IsFitWhat) }
+    ensures bounded { IfOk result (λ r. IfSome r.1 IsBoundedWhat) }
 {
     let mut follow = follow;
     let Step::Lines(lines) = follow.follower.take(alloc, file)? else {
