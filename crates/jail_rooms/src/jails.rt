@@ -5,7 +5,7 @@ ghost use Rattle.f2b_base.specs.declared.input.What.TheVariants.{Config};
 ghost use Rattle.f2b_model.specs.Active.{held, held_by};
 ghost use Rattle.f2b_model.specs.NowMoves.{dropped_now};
 ghost use Rattle.f2b_model.specs.Sound.{AreFitDefs, IsSoundView};
-ghost use Rattle.f2b_model.specs.Steps.{at_reading, done, each_jail, first_jails_now, is_ban_due, moves_now};
+ghost use Rattle.f2b_model.specs.Steps.{at_reading, done, each_jail, is_ban_due, moves_now};
 ghost use Rattle.f2b_model.specs.Told.{told_done, told_each, told_ends};
 ghost use Rattle.f2b_model.specs.Until.{last_moment};
 ghost use Rattle.f2b_model.specs.Views.{gathered, jail_view};
@@ -97,28 +97,6 @@ impl Jails {
             rooms: Vec::new(alloc),
             next_ban: 0,
         }
-    }
-
-    /// One jail in which nothing happened yet.
-    pub fn start(alloc: Global, definition: JailDef, purge: u64) -> Result<Jails, NoMemory>
-        requires { IsBounded definition }
-        ensures { IfOk result (λ jails. jails ≡ first_jails_now (record { purge = purge; jails = definition ∷ [] })) }
-    {
-        let room = Room::fresh(alloc, &definition)?;
-        let mut rooms = Vec::new(alloc);
-        rooms.push(room)?;
-        let mut definitions = Seq::new(alloc);
-        definitions.push(definition)?;
-        Ok(Jails {
-            alloc,
-            at: 0,
-            defs: Defs {
-                purge,
-                jails: definitions,
-            },
-            rooms,
-            next_ban: 0,
-        })
     }
 
     /// The jails of a view.

@@ -3,8 +3,7 @@
 //! A caller sees `Jails` as the model's middle state of the jails. Each call is a part of the model's step: the ends by time, what
 //! happened to the jails alone, a configuration, and the drops; what was done is told, in order. It takes time by the input and by what
 //! it changes, and not by what stands: a failure is one look into the windows of its jail, and a ban that ends costs nothing for those
-//! that stay. A ban that begins looks at each past ban of its jail. Nothing here knows a lane, opens a log or knows the clock: the caller
-//! says what was found, and what time it is.
+//! that stay. Nothing here knows a lane, opens a log or knows the clock: the caller says what was found, and what time it is.
 #![tactic(auto)]
 
 mod changes;
