@@ -7,7 +7,6 @@ pub mod TurnLemmas
 pub mod LookLemmas
 pub mod StartLemmas
 pub mod BuildLemmas
-pub mod FormLemmas
 pub mod FirstLemmas
 pub mod SaidLemmas
 pub mod ServeLemmas

@@ -10,6 +10,11 @@ returns-in_err-line-clause-err g c =
     let p = err_from_is_err_and c.from_residual-in_err-line.result c.from_residual-in_err-line.ensures.1 in
     rw (p.1, p.2) (start_memory (g.W.Outside.stands c.args.world.now) (g.W.Outside.stands c.clock-reading.new.self) c.args.definition c.clock-reading.result c.clock-reading.ensures)
 
+pub returns-in_err-line-clause-cause : goal.returns-in_err-line-clause-cause
+returns-in_err-line-clause-cause g c =
+    let p = err_from_is_err_and c.from_residual-in_err-line.result c.from_residual-in_err-line.ensures.1 in
+    rw (p.1, p.2) tt
+
 pub returns-in_err-say_line-clause-err : goal.returns-in_err-say_line-clause-err
 returns-in_err-say_line-clause-err g c =
     let p = err_from_is_err_and c.from_residual-in_err-say_line.result c.from_residual-in_err-say_line.ensures.1 in
