@@ -68,7 +68,7 @@ impl Core {
         }
     }
 
-    /// The state of a view. Where the view is not that of a sound state, some of its failures may be left out.
+    /// The state of a view. Where the view is not that of a sound state, some of its failures and past bans may be left out.
     pub fn of(alloc: Global, view: &View) -> Result<Core, NoMemory>
         requires { IsBoundedView view.now }
         ensures { IsSoundView view.now → IfOk result (λ core. core ≡ gathered view.now) }

@@ -1,4 +1,5 @@
 pub mod BanLemmas
+pub mod PastLemmas
 pub mod EndLemmas
 pub mod RoomLemmas
 pub mod WatchLemmas

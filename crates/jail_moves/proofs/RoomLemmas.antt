@@ -1,10 +1,9 @@
 -- What is kept of a jail, and the middle state that it stands for, through each move.
-use Rattle.std.proofs.Common.{◌≡◌, ◌≢◌, ℕ, suc, ◌+◌, ◌*◌, ◌<◌, ◌≤◌, min, Bool, true, false, cond, not, ◌&&◌, ◌==◌, nat_lt, nat_le, List, [], ◌∷◌, ◌++◌, length, drop, map, Option, Some, None, is_some, refl, sym, ◌∙◌, ap, ap₂, subst, arith}
+use Rattle.std.proofs.Common.{◌≡◌, ℕ, suc, ◌+◌, ◌*◌, ◌<◌, ◌≤◌, min, Bool, true, false, not, List, [], ◌∷◌, ◌++◌, length, drop, map, Option, Some, None, is_some, refl, sym, ◌∙◌, ap, ap₂, subst, arith}
 use Rattle.std.specs.List.{filter, find, list_any}
 use Rattle.std.specs.Option.{option_copied}
 use denote.Ref.{Bor}
 use Rattle.std.proofs.Math.Seq.{drop-append_seam, drop-length}
-use Rattle.std.proofs.lemmas.List.{append_assoc}
 use Rattle.ban_table.specs.declared.lists.BanLists.{BanLists}
 use Rattle.ban_table.specs.Tables.{ended}
 use Rattle.f2b_base.specs.declared.addr.Addr.{Addr}
@@ -16,20 +15,17 @@ use Rattle.f2b_model.specs.declared.happening.Happening.{Happening}
 use Rattle.f2b_model.specs.declared.happening.Happening.TheVariants.{Counts, Begins}
 use Rattle.f2b_model.specs.declared.jail_now.JailNow.{JailNow}
 use Rattle.f2b_model.specs.Full.{is_full, is_late, is_of}
-use Rattle.f2b_model.specs.Lists.{AllOf, in_order, placed}
-use Rattle.f2b_model.specs.Moves.{Out, counts, is_banned, is_near, is_timely, new_ban, up_64}
-use Rattle.f2b_model.specs.Nows.{comes_before}
-use Rattle.f2b_model.specs.NowMoves.{banned_now, begun_now, counted_now, ended_now, found_now, judged_now, kept_now, limited_now}
+use Rattle.f2b_model.specs.Lists.{AllOf}
+use Rattle.f2b_model.specs.Moves.{Out, counts, is_banned, is_near, new_ban, up_64}
+use Rattle.f2b_model.specs.NowMoves.{banned_now, begun_now, counted_now, ended_now, found_now}
 use Rattle.f2b_model.specs.Steps.{moves_now, end_all}
 use Rattle.f2b_model.specs.Told.{told_banned, told_found, told_new}
 use Rattle.f2b_model.specs.Views.{jail_of}
-use Rattle.f2b_model.specs.Watches.{watches_of}
 use Rattle.f2b_model.proofs.FullLemmas.{lt_true}
 use Rattle.f2b_model.proofs.ListLemmas.{by_test, filter_swap}
 use Rattle.f2b_model.proofs.OrderlyLemmas.{all_of-filter, all_of-push}
-use Rattle.f2b_model.proofs.StepLemmas.{all_of-map}
-use Rattle.fail_window.specs.Opened.{IsLate, KeepsLimits, Opened}
-use Rattle.jail_moves.specs.Added.{IsAdded, NoneFull, with_failure}
+use Rattle.fail_window.specs.Opened.{IsLate, Opened}
+use Rattle.jail_moves.specs.Added.{with_failure}
 use Rattle.jail_moves.specs.Rooms.{Contents, all_ended, jail_in, with_ban, with_count, IsBounded, IsCounted, IsKept, IsStored, IsStoredWell}
 
 -- ---- lists

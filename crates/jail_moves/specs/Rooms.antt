@@ -14,7 +14,7 @@ use Rattle.f2b_model.specs.Full.{is_late}
 use Rattle.f2b_model.specs.Lists.{AllOf, IsInOrder}
 use Rattle.f2b_model.specs.Moves.{new_ban, up_64}
 use Rattle.f2b_model.specs.Nows.{comes_before}
-use Rattle.f2b_model.specs.Sound.{IsOnceEach, IsRisingSerials}
+use Rattle.f2b_model.specs.Sound.{IsOnceEach, IsOver, IsRisingSerials}
 use Rattle.fail_window.specs.Opened.{KeepsLimits, Opened}
 use Rattle.jail_moves.specs.Added.{IsAdded, NoneFull}
 
@@ -92,9 +92,10 @@ pub record IsStored (at next : ℕ) (v : JailView) : Type 0 where
   pub serials : AllOf (λ (b : Ban). b.serial < next) v.bans
 
 -- what is stored is that of a sound jail, as far as code asks: the moment of the last counted failure is not to come, no failure is
--- later, all are late at it, and no address is full
+-- later, all are late at it, no address is full, and past bans ended, none after an active one will
 pub record IsStoredWell (at : ℕ) (d : JailDef) (v : JailView) : Type 0 where
   pub moment : v.moment ≤ at
   pub by_moment : AllOf (λ (f : Failure). f.time ≤ v.moment) v.failures
   pub late : AllOf (λ (f : Failure). is_late v.moment d.findtime f ≡ true) v.failures
   pub none_full : NoneFull d.findtime d.maxretry v.failures
+  pub over : AllOf (IsOver at v.bans) v.past

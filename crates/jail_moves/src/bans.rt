@@ -5,13 +5,12 @@ ghost use Rattle.f2b_base.specs.Span.{IsRule};
 ghost use Rattle.f2b_model.specs.Full.{same_addr};
 ghost use Rattle.f2b_model.specs.Lists.{AllOf};
 ghost use Rattle.f2b_model.specs.Moves.{is_banned, is_stale, new_ban};
-ghost use Rattle.f2b_model.specs.Sound.{IsOnceEach, IsRisingSerials};
 ghost use Rattle.f2b_model.specs.Until.{until_of};
 
 pub use crate::ends::end_due;
 pub use crate::unbans::unban;
-use ban_table::{BanLists, BanTable};
-use f2b_base::{Addr, Ban, BanRule, JailDef, NoMemory, Past, Plain, Seq, Span, Until, ban_span};
+use ban_table::BanTable;
+use f2b_base::{Addr, Ban, BanRule, JailDef, NoMemory, Span, Until, ban_span};
 use std::alloc::Global;
 
 /// The last second that a moment can be.
@@ -66,17 +65,6 @@ pub fn begin(
     };
     table.start(ban)?;
     Ok(ban)
-}
-
-/// A table of these bans.
-pub fn table_of(alloc: Global, active: &Seq<Ban>, past: &Seq<Past>) -> Result<BanTable, NoMemory>
-    requires rising { IsRisingSerials active.now }
-    requires once { IsOnceEach active.now }
-    ensures { IfOk result (λ table. table ≡ record { active = active.now; past = past.now }) }
-{
-    let active = active.copy()?;
-    let past = past.copy()?;
-    BanTable::of(alloc, &BanLists { active, past })
 }
 
 /// Drops the past entries that ended `purge` seconds before a moment, or earlier. Takes no memory.

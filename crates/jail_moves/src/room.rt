@@ -5,6 +5,7 @@ ghost use Rattle.f2b_base.specs.declared.ban.Ban.{Ban};
 ghost use Rattle.f2b_model.specs.Lists.{AllOf};
 ghost use Rattle.f2b_model.specs.Moves.{counts, is_banned, new_ban};
 ghost use Rattle.f2b_model.specs.NowMoves.{banned_now, dropped_now, found_now, fresh_now, kept_now, limited_now};
+ghost use Rattle.f2b_model.specs.Sound.{IsOver};
 ghost use Rattle.f2b_model.specs.Steps.{ended_by_time, is_due, is_meant, moves_now, unbanned};
 ghost use Rattle.f2b_model.specs.Told.{told_banned, told_ends, told_found};
 ghost use Rattle.f2b_model.specs.Until.{last_moment};
@@ -13,7 +14,8 @@ ghost use Rattle.f2b_model.specs.Watches.{is_watched, with_place};
 ghost use Rattle.f2b_model.specs.declared.happening.Happening.TheVariants.{Begins, Ends};
 ghost use Rattle.jail_moves.specs.Rooms.{jail_in, with_ban, IsBounded, IsCounted, IsKept, IsStored, IsStoredWell};
 
-use crate::bans::{begin, drop_past, end_due, table_of, unban};
+use crate::bans::{begin, drop_past, end_due, unban};
+use crate::stored::table_of;
 use crate::watches::{set_place, watches_of};
 use crate::windows::Windows;
 use ban_table::{BanLists, BanTable};
@@ -80,7 +82,7 @@ impl Room {
     }
 
     /// A jail as it was stored, at a moment in seconds since 1970. Where what was stored is not that of a sound jail, some of its
-    /// failures are left out.
+    /// failures are left out, and so is a past ban that is to end, or that ended after an active one will.
     pub fn of(
         alloc: Global,
         definition: &JailDef,
@@ -93,6 +95,7 @@ impl Room {
         ensures kept { IfOk result (λ room. (next : ℕ) → IsStored at next view.now → IsKept at next definition.now room) }
 
         // Sound or not.
+        ensures over { IfOk result (λ room. AllOf (IsOver at room.bans.active) room.bans.past) }
         ensures watches { IfOk result (λ room. room.watches ≡ view.now.watches) }
     {
         let windows = Windows::of(
@@ -109,7 +112,7 @@ impl Room {
             moment: view.moment.min(at),
             watches: view.watches.copy()?,
             windows,
-            bans: table_of(alloc, &view.bans, &view.past)?,
+            bans: table_of(alloc, &view.bans, &view.past, at)?,
         })
     }
 

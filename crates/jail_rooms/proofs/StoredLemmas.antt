@@ -3,6 +3,7 @@ use Rattle.std.proofs.Common.{◌≡◌, ℕ, zero, suc, ◌+◌, ◌<◌, ◌�
 use Rattle.f2b_base.specs.declared.addr.Addr.{Addr}
 use Rattle.f2b_base.specs.declared.ban.Ban.{Ban}
 use Rattle.f2b_base.specs.declared.ban.Failure.{Failure}
+use Rattle.f2b_base.specs.declared.ban.Past.{Past}
 use Rattle.f2b_base.specs.declared.jail.JailDef.{JailDef}
 use Rattle.f2b_base.specs.declared.job.Job.{Job}
 use Rattle.f2b_base.specs.declared.view.JailView.{JailView}
@@ -15,13 +16,14 @@ use Rattle.f2b_model.specs.Lanes.{lanes_now}
 use Rattle.f2b_model.specs.Laws.{AreNumbered, AreWatched, IsWatched}
 use Rattle.f2b_model.specs.Lists.{AllOf, IsInOrder}
 use Rattle.f2b_model.specs.Nows.{comes_before, jail_from, jail_now}
-use Rattle.f2b_model.specs.Sound.{IsGoodJail, IsNumbered, IsOnceEach, IsSoundView}
+use Rattle.f2b_model.specs.Sound.{IsGoodJail, IsNumbered, IsOnceEach, IsOver, IsSoundView}
+use Rattle.f2b_model.specs.State.{kept_of}
 use Rattle.f2b_model.specs.Steps.{moves}
 use Rattle.f2b_model.specs.Views.{back, gathered, jail_of, jail_view, jails_of}
 use Rattle.f2b_model.proofs.FullLemmas.{full_of_test}
 use Rattle.f2b_model.proofs.LaneBackLemmas.{pending_bounds}
 use Rattle.f2b_model.proofs.ListLemmas.{by_test}
-use Rattle.f2b_model.proofs.MarkLemmas.{active_of-all, open_of-all}
+use Rattle.f2b_model.proofs.MarkLemmas.{active_of-all, kept_of-all, open_of-all}
 use Rattle.f2b_model.proofs.StandLemmas.{shown_bounds}
 use Rattle.jail_moves.specs.Rooms.{Contents, jail_in, IsBounded, IsKept, IsStored, IsStoredWell}
 use Rattle.jail_rooms.specs.Kept.{jails_in, AreKept}
@@ -141,6 +143,8 @@ jail_well at d v good same =
       late = subst (λ (fs : List Failure). AllOf (λ (f : Failure). is_late v.moment d.findtime f ≡ true) fs) failures (shown_bounds at (jail_from (jail_of d v)) good).late;
       none_full = none_by_test d.findtime d.maxretry v.failures v.failures
           (λ addr full. good.sound.none_full addr (subst (λ (fs : List Failure). IsFull d.findtime d.maxretry addr fs) (sym opened) full));
+      over = subst (λ (ps : List Past). AllOf (IsOver at v.bans) ps) (kept_of-all v.past)
+          (subst (λ (bs : List Ban). AllOf (IsOver at bs) (kept_of (jail_from (jail_of d v)).endings)) (active_of-all v.bans) good.orderly.over);
     }
 
 -- and so of all jails

@@ -1,7 +1,6 @@
-use Rattle.std.proofs.Common.{◌≡◌, ◌+◌, false, List, [], ◌∷◌, ◌++◌, sym, ◌∙◌, ap, subst, rules}
+use Rattle.std.proofs.Common.{◌≡◌, ◌+◌, false, sym, ◌∙◌, ap, subst, rules}
 use Rattle.f2b_model.specs.declared.jail_now.JailNow.{JailNow}
 use Rattle.f2b_model.specs.Moves.{Out, is_banned}
-use Rattle.fail_window.specs.Opened.{Opened}
 use Rattle.jail_moves.specs.Rooms.{Contents, jail_in, with_ban, IsKept}
 use Rattle.jail_moves.proofs.RoomLemmas.{banned_anew, forgotten_kept, with_ban_kept}
 use Rattle.jail_moves.proofs.room.Room.ban.Goals as goal

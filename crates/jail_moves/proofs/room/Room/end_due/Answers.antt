@@ -1,4 +1,4 @@
-use Rattle.std.proofs.Common.{◌≡◌, ◌∙◌, ap, subst, sym}
+use Rattle.std.proofs.Common.{◌∙◌, ap, subst, sym}
 use Rattle.std.specs.List.{filter}
 use Rattle.f2b_model.specs.Lists.{in_order}
 use Rattle.f2b_model.specs.Steps.{ended_by_time, ends_before, is_due, moves_now, own_end}

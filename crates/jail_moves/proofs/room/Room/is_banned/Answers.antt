@@ -1,5 +1,4 @@
-use Rattle.std.proofs.Common.{◌≡◌, is_some, sym, ◌∙◌, ap}
-use Rattle.std.specs.Option.{option_copied}
+use Rattle.std.proofs.Common.{is_some, sym, ◌∙◌, ap}
 use Rattle.f2b_model.specs.Moves.{ban_of, is_banned}
 use Rattle.jail_moves.specs.Rooms.{Contents}
 use Rattle.jail_moves.proofs.RoomLemmas.{is_some-find, is_some-copied}
