@@ -7,16 +7,16 @@ use Rattle.ban_table.proofs.table.BanTable.end.Goals as goal
 
 pub returns-in_err-serial-clause-lists : goal.returns-in_err-serial-clause-lists
 returns-in_err-serial-clause-lists c =
-    ended_none c.args.addr c.args.at c.args.self.now (rw (← c.self.view_is) (not_banned c.args.addr _ (c.in_err-serial.ensures _ c.self.invariant.found)))
+    ended_none c.args.addr c.args.at c.args.self.now (rw (← c.self.view_is) (not_banned c.args.addr _ (c.in_err-serial.ensures _ c.self.invariant.0.found)))
 
 pub returns-in_err-ban-clause-ban : goal.returns-in_err-ban-clause-ban
 returns-in_err-ban-clause-ban c =
-    let table = c.self.invariant in
+    let table = c.self.invariant.0 in
     absurd (not_lost c.self.inside.bans.entries c.args.addr c.in_ok-serial.serial table.keyed table.rising (c.in_ok-serial.ensures _ table.found) c.in_err-ban.ensures.value)
 
 pub returns-in_err-ban-clause-lists : goal.returns-in_err-ban-clause-lists
 returns-in_err-ban-clause-lists c =
-    let table = c.self.invariant in
+    let table = c.self.invariant.0 in
     absurd (not_lost c.self.inside.bans.entries c.args.addr c.in_ok-serial.serial table.keyed table.rising (c.in_ok-serial.ensures _ table.found) c.in_err-ban.ensures.value)
 
 -- what the whole body does
@@ -24,7 +24,7 @@ all : (c : goal.After-push)
     → IsEnded c.self.inside.bans.entries c.remove.new.self.entries c.remove-2.new.self (length c.self.inside.past.items + 1) c.self.inside.past.room c.args.addr c.in_ok-ban.ban
 all c =
     let w = c.self.inside in
-    let table = c.self.invariant in
+    let table = c.self.invariant.0 in
     ended_so w.bans.entries c.remove.new.self.entries w.index c.remove-2.new.self (length w.past.items) w.past.room c.args.addr c.in_ok-serial.serial c.in_ok-ban.ban table
     (c.in_ok-serial.ensures _ table.found) c.in_ok-ban.ensures.value c.in_ok-ban.ensures.entries c.in_ok-ban.ensures.len c.remove-2.ensures
 

@@ -12,7 +12,7 @@ invariant_of-self-then-is_err c =
     let w = c.self.inside in
     rw (ap length c.make_room.ensures.items)
     (unbegun_so w.bans.entries c.insert.new.self.entries w.index c.add.new.self c.remove.new.self (length w.past.items) w.past.room c.make_room.new.self.room c.args.ban
-    c.self.invariant (rw (← c.self.view_is) at c.requires.free) (rw (← c.self.view_is) at c.requires.serial)
+    c.self.invariant.0 (rw (← c.self.view_is) at c.requires.free) (rw (← c.self.view_is) at c.requires.serial)
     (err_holds c.insert.result _ (sym c.is_err.ensures.value ∙ c.if-is_err.true) c.insert.ensures.err) (omega (arith, c.in_ok-make_room.ensures.ok, ap length c.make_room.ensures.items)) c.in_ok-add.ensures.ok c.remove.ensures)
 
 -- what the whole body does
@@ -22,7 +22,7 @@ all : (c : goal.Else-is_err)
 all c =
     let w = c.self.inside in
     begun_so w.bans.entries c.insert.new.self.entries w.index c.add.new.self (length w.past.items) w.past.room c.make_room.new.self.room c.args.ban
-    c.self.invariant (rw (← c.self.view_is) at c.requires.free) (rw (← c.self.view_is) at c.requires.serial)
+    c.self.invariant.0 (rw (← c.self.view_is) at c.requires.free) (rw (← c.self.view_is) at c.requires.serial)
     (ok_holds c.insert.result _ (sym c.is_err.ensures.value ∙ c.if-is_err.false) c.insert.ensures.entries) (omega (arith, c.in_ok-make_room.ensures.ok, ap length c.make_room.ensures.items)) c.in_ok-add.ensures.ok
 
 pub invariant_of-self-else-is_err : goal.invariant_of-self-else-is_err
