@@ -2,7 +2,7 @@
 use Rattle.std.proofs.Common.{◌≡◌, ℕ, ◌+◌, ◌-◌, ◌<◌, ◌≤◌, Bool, true, false, not, cond, ◌||◌, nat_lt, List, [], ◌∷◌, ◌++◌, length, length-append, get_or, take, drop, Option, Some, None, Result, Ok, Err, refl, sym, ◌∙◌, ap, ap₂, arith}
 use Rattle.std.specs.BTreeMap as tree
 use Rattle.std.specs.List.{filter, find, list_any}
-use Rattle.std.specs.Option.{unwrap_or}
+use Rattle.std.specs.Option.{is_some, option_map, unwrap_or}
 use Rattle.std.specs.Result.{OnOk, OnErr}
 use Rattle.std.specs.Ordering.{is_eq}
 use Rattle.std.proofs.lemmas.List.{drop_more}
@@ -97,13 +97,30 @@ count_turned counts bans p ps count addr =
     let last = past_count_last addr p ps in
     omega arith
 
--- one entry more is counted
-pub count_pushed : (old new : Counts) (p : Past) (ps : List Past) → IsOneMore p.addr old new → IsCountOf old [] ps → IsCountOf new [] (ps ++ p ∷ [])
-count_pushed old new p ps more count addr =
-    let now = more addr in
-    let was = count addr in
-    let last = past_count_last addr p ps in
+-- the same lists
+pub count_is : (counts : Counts) (bans bans' : List Ban) (past past' : List Past) → IsCountOf counts bans past → bans' ≡ bans → past' ≡ past → IsCountOf counts bans' past'
+count_is counts bans bans' past past' count bans_is past_is = rw (bans_is, past_is) count
+
+-- where no number changed
+pub count_stays : (old new : Counts) (bans : List Ban) (past : List Past) → IsAsMany old new → IsCountOf old bans past → IsCountOf new bans past
+count_stays old new bans past same count addr = same addr ∙ count addr
+
+-- a ban more, and fewer again
+pub as_many_back : (old mid new : Counts) (addr : Addr) → IsOneMore addr old mid → IsOneFewer addr mid new → IsAsMany old new
+as_many_back old mid new addr more fewer other =
+    let up = more other in
+    let down = fewer other in
     omega arith
+
+-- the index tells a serial of an address that is banned
+told_banned : (addr : Addr) (bans : List Ban) → is_some (option_map (λ (b : Ban). b.serial) (find (ban_of addr) bans)) ≡ is_banned addr bans
+told_banned addr [] = refl
+told_banned addr (b ∷ bs) = by_test (same_addr b.addr addr) _ (λ e. rw e refl) (λ e. rw e (told_banned addr bs))
+
+-- the past bans of an address are its bans without the active one
+pub past_left : (counts : Counts) (addr : Addr) (bans : List Ban) (past : List Past) (told : Option ℕ) → IsCountOf counts bans past
+    → told ≡ option_map (λ (b : Ban). b.serial) (find (ban_of addr) bans) → counted counts addr ≡ cond (is_some told) 1 0 + past_count addr past
+past_left counts addr bans past told count is = count addr ∙ sym (ap (λ t. cond t 1 0 + past_count addr past) (ap is_some is ∙ told_banned addr bans))
 
 -- a ban that began is counted
 pub count_begun : (old new : Counts) (ban : Ban) (bans : List Ban) (past : List Past) → is_banned ban.addr bans ≡ false → IsOneMore ban.addr old new → IsCountOf old bans past
