@@ -1,5 +1,6 @@
 -- How many bans each address has: one more, one that ends, and one that is dropped.
 use Rattle.std.proofs.Common.{◌≡◌, ℕ, ◌+◌, ◌-◌, ◌<◌, ◌≤◌, Bool, true, false, not, cond, ◌||◌, nat_lt, List, [], ◌∷◌, ◌++◌, length, length-append, get_or, take, drop, Option, Some, None, Result, Ok, Err, refl, sym, ◌∙◌, ap, ap₂, arith}
+use mir.Val.{bool_byte}
 use Rattle.std.specs.BTreeMap as tree
 use Rattle.std.specs.List.{filter, find, list_any}
 use Rattle.std.specs.Option.{is_some, option_map, unwrap_or}
@@ -117,10 +118,16 @@ told_banned : (addr : Addr) (bans : List Ban) → is_some (option_map (λ (b : B
 told_banned addr [] = refl
 told_banned addr (b ∷ bs) = by_test (same_addr b.addr addr) _ (λ e. rw e refl) (λ e. rw e (told_banned addr bs))
 
--- the past bans of an address are its bans without the active one
-pub past_left : (counts : Counts) (addr : Addr) (bans : List Ban) (past : List Past) (told : Option ℕ) → IsCountOf counts bans past
-    → told ≡ option_map (λ (b : Ban). b.serial) (find (ban_of addr) bans) → counted counts addr ≡ cond (is_some told) 1 0 + past_count addr past
-past_left counts addr bans past told count is = count addr ∙ sym (ap (λ t. cond t 1 0 + past_count addr past) (ap is_some is ∙ told_banned addr bans))
+-- one for the active ban
+one_active : (b : Bool) → bool_byte b ≡ cond b 1 0
+one_active true = refl
+one_active false = refl
+
+-- the bans of an address are the active one and its past ones
+pub active_and_past : (counts : Counts) (addr : Addr) (bans : List Ban) (past : List Past) (told : Option ℕ) (is_active : Bool) → IsCountOf counts bans past
+    → told ≡ option_map (λ (b : Ban). b.serial) (find (ban_of addr) bans) → is_active ≡ is_some told → counted counts addr ≡ bool_byte is_active + past_count addr past
+active_and_past counts addr bans past told is_active count is so =
+    count addr ∙ sym (ap (λ n. n + past_count addr past) (one_active is_active ∙ ap (λ t. cond t 1 0) (so ∙ ap is_some is ∙ told_banned addr bans)))
 
 -- a ban that began is counted
 pub count_begun : (old new : Counts) (ban : Ban) (bans : List Ban) (past : List Past) → is_banned ban.addr bans ≡ false → IsOneMore ban.addr old new → IsCountOf old bans past
