@@ -31,7 +31,7 @@ pub all_others_lower : (serial : ℕ) (bans : List Ban) → AllOf (λ (b : Ban).
 all_others_lower serial bans lower = all_of-more (λ (b : Ban). b.serial < serial) (λ (b : Ban). b.serial ≢ serial) (λ b lt e. absurd (omega arith)) bans lower
 
 -- what all are, the one at a place is
-all_at : {A : Type 0} (P : A → Type 0) (xs : List A) (i : ℕ) (d : A) → i < length xs → AllOf P xs → P (get_or xs i d)
+pub all_at : {A : Type 0} (P : A → Type 0) (xs : List A) (i : ℕ) (d : A) → i < length xs → AllOf P xs → P (get_or xs i d)
 all_at P [] i d within a = absurd (omega arith)
 all_at P (x ∷ xs) zero d within a = a.0
 all_at P (x ∷ xs) (suc i) d within a = all_at P xs i d (omega arith) a.1

@@ -3,5 +3,7 @@ pub mod IndexLemmas
 pub mod TableLemmas
 pub mod TestLemmas
 pub mod PastLemmas
+pub mod CountLemmas
+pub mod PurgeLemmas
 pub mod FillLemmas
 pub mod FoundLemmas

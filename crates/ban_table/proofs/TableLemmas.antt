@@ -146,6 +146,13 @@ purged_so es places before after p capacity room table left same =
     let enough = table.room in
     record { keyed = table.keyed; rising = table.rising; once = table.once; found = table.found; room = omega arith }
 
+-- a table of the same bans, where there is no less room
+pub as_before : (es : List (ℕ × Ban)) (before after : Index) (past capacity room : ℕ) → IsTable es before past capacity → IsIndexOf after (values_of es) → capacity ≤ room
+    → IsTable es after past room
+as_before es before after past capacity room table found more =
+    let enough = table.room in
+    record { keyed = table.keyed; rising = table.rising; once = table.once; found = found; room = omega arith }
+
 -- a table after a ban went
 pub record IsEnded (es fs : List (ℕ × Ban)) (after : Index) (past capacity : ℕ) (addr : Addr) (ban : Ban) : Type 0 where
   pub own : find (ban_of addr) (values_of es) ≡ Some ban

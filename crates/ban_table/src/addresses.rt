@@ -1,16 +1,15 @@
-//! Addresses.
+//! Addresses as keys of the maps.
 ghost use Rattle.std.specs.Prelude.{◌≡◌};
-ghost use Rattle.f2b_model.specs.Full.{same_addr};
+ghost use Rattle.ban_table.specs.Places.{key_of};
 
 use f2b_base::Addr;
 
-/// Whether two addresses are one.
-pub fn same_addr(a: Addr, b: Addr) -> bool
-    ensures { result ≡ same_addr a b }
+/// The IP version of an address, and its number.
+pub fn key_of(addr: Addr) -> (u8, u128)
+    ensures { result ≡ key_of addr }
 {
-    match (a, b) {
-        (Addr::V4(x), Addr::V4(y)) => x == y,
-        (Addr::V6(x), Addr::V6(y)) => x == y,
-        (Addr::V4(_), Addr::V6(_)) | (Addr::V6(_), Addr::V4(_)) => false,
+    match addr {
+        Addr::V4(number) => (4, u128::from(number)),
+        Addr::V6(number) => (6, number),
     }
 }

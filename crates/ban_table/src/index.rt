@@ -6,8 +6,9 @@ ghost use Rattle.f2b_model.specs.Lists.{placed};
 ghost use Rattle.f2b_model.specs.Moves.{ban_of, is_banned};
 ghost use Rattle.f2b_model.specs.Sound.{IsOnceEach, IsRisingSerials};
 ghost use Rattle.ban_table.specs.Tables.{by_serial};
-ghost use Rattle.ban_table.specs.Places.{key_of, IsIndexOf, IsLeastEnd};
+ghost use Rattle.ban_table.specs.Places.{IsIndexOf, IsLeastEnd};
 
+use crate::addresses::key_of;
 use f2b_base::{Addr, Ban, NoMemory, Until};
 use std::alloc::Global;
 use std::collections::{BTreeMap, BTreeSet};
@@ -19,16 +20,6 @@ pub struct Index {
     serials: BTreeMap<(u8, u128), u64>,
     /// The end and the serial of each ban that ends by time.
     ends: BTreeSet<(u64, u64)>,
-}
-
-/// The IP version of an address, and its number.
-fn key_of(addr: Addr) -> (u8, u128)
-    ensures { result ≡ key_of addr }
-{
-    match addr {
-        Addr::V4(number) => (4, u128::from(number)),
-        Addr::V6(number) => (6, number),
-    }
 }
 
 impl Index {

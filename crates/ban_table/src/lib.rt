@@ -7,9 +7,11 @@
 #![tactic(auto)]
 
 mod addresses;
+mod counts;
 mod index;
 mod lists;
 mod past;
+mod purge;
 mod table;
 #[cfg(test)]
 mod tests;

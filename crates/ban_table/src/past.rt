@@ -1,10 +1,9 @@
 //! Bans that are over.
-ghost use Rattle.std.specs.Prelude.{◌≡◌, ◌+◌, ◌^◌, ◌<◌, ◌≤◌, [], ◌∷◌, ◌++◌, nat_lt, length, filter, IfOk, OnOk};
-ghost use Rattle.std.specs.VecDeque.{deque_capacity};
-ghost use Rattle.f2b_model.specs.Moves.{past_of, up_to_32};
+ghost use Rattle.std.specs.Prelude.{◌≡◌, ◌+◌, ◌^◌, ◌<◌, ◌≤◌, [], ◌∷◌, ◌++◌, length, IsTrue, IfOk, IfSome, IfNone, OnOk};
+ghost use Rattle.f2b_model.specs.Sound.{IsRisingEnds};
+ghost use Rattle.ban_table.specs.Entries.{IsFirstAfter};
 
-use crate::addresses::same_addr;
-use f2b_base::{Addr, NoMemory, Past, Seq};
+use f2b_base::{NoMemory, Past, Seq};
 use std::alloc::Global;
 use std::collections::VecDeque;
 use std::marker::Model;
@@ -13,22 +12,21 @@ use std::marker::Model;
 #[derive(Drop)]
 pub struct PastBans {
     entries: VecDeque<Past>,
-    /// No entry ended before this moment, so that most calls to drop old entries need not look at them.
-    oldest: u64,
+    /// Only where no entry ended before one in front of it.
+    in_order: bool,
 }
 
 impl Model for PastBans {
-    ghost use Rattle.std.specs.Prelude.{◌≤◌};
+    ghost use Rattle.std.specs.Prelude.{IsTrue};
     ghost use Rattle.std.specs.VecDeque.{deque_capacity};
-    ghost use Rattle.f2b_base.specs.declared.ban.Past.{Past};
-    ghost use Rattle.f2b_model.specs.Lists.{AllOf};
+    ghost use Rattle.f2b_model.specs.Sound.{IsRisingEnds};
     ghost use Rattle.ban_table.specs.Entries.{Entries};
 
     ghost Value = { Entries };
 
     ghost view = { λ p. record { items = p.entries.items; room = deque_capacity p.entries } };
 
-    ghost invariant = { λ p. AllOf (λ (e : Past). p.oldest ≤ e.end) p.entries.items };
+    ghost invariant = { λ p. IsTrue p.in_order → IsRisingEnds p.entries.items };
 }
 
 impl PastBans {
@@ -38,7 +36,7 @@ impl PastBans {
     {
         PastBans {
             entries: VecDeque::new(alloc),
-            oldest: 0,
+            in_order: true,
         }
     }
 
@@ -55,11 +53,18 @@ impl PastBans {
         Ok(past)
     }
 
-    /// How many entries are the address's. Stays at the greatest u32.
-    pub fn count_of(&self, addr: Addr) -> u32
-        ensures { result ≡ up_to_32 (length (filter (past_of addr) self.now.items)) }
+    /// How many entries there are.
+    pub fn len(&self) -> usize
+        ensures { result ≡ length self.now.items }
     {
-        count_of(&self.entries, addr).min(u32::MAX as usize) as u32
+        self.entries.len()
+    }
+
+    /// Whether the entries are known to stand in the order of their ends.
+    pub fn is_in_order(&self) -> bool
+        ensures { IsTrue result → IsRisingEnds self.now.items }
+    {
+        self.in_order
     }
 
     /// Makes room for so many entries more, and in advance for as many again.
@@ -68,6 +73,7 @@ impl PastBans {
         ensures items { self.new.items ≡ self.old.items }
         ensures ok { OnOk result (length self.new.items + count ≤ self.new.room) }
         ensures room { self.old.room ≤ self.new.room }
+        ensures small { self.new.room < 2 ^ 63 }
     {
         if self.entries.capacity() - self.entries.len() < count {
             self.entries.reserve(count.saturating_mul(2))?;
@@ -81,20 +87,43 @@ impl PastBans {
         ensures items { self.new.items ≡ self.old.items ++ entry ∷ [] }
         ensures room { self.new.room ≡ self.old.room }
     {
-        self.oldest = self.oldest.min(entry.end);
+        self.in_order = self.stays_in_order(entry);
         self.entries.push_back_reserved(entry);
     }
 
-    /// Drops the entries that ended at a limit or before.
-    pub fn drop_until(&mut self, limit: u64)
-        ensures items { self.new.items ≡ filter (λ p. nat_lt limit p.end) self.old.items }
+    /// Whether the entries are known to stand in the order of their ends with one more behind.
+    fn stays_in_order(&self, entry: Past) -> bool
+        ensures { IsTrue result → IsRisingEnds (self.now.items ++ entry ∷ []) }
+    {
+        match self.entries.back() {
+            Some(last) => self.in_order && last.end <= entry.end,
+            None => true,
+        }
+    }
+
+    /// Takes out the first entry.
+    pub fn pop(&mut self) -> Past
+        requires { 0 < length self.old.items }
+        ensures items { self.old.items ≡ result ∷ self.new.items }
+        ensures fits { length self.new.items < self.new.room }
         ensures room { self.new.room ≡ self.old.room }
     {
-        if limit < self.oldest {
-            return;
+        self.entries.pop_front().unwrap()
+    }
+
+    /// Takes out the first entry if it ended at a limit or before.
+    pub fn pop_until(&mut self, limit: u64) -> Option<Past>
+        ensures some { IfSome result (λ first. self.old.items ≡ first ∷ self.new.items) }
+        ensures old { IfSome result (λ first. first.end ≤ limit) }
+        ensures none { IfNone result (self.new.items ≡ self.old.items) }
+        ensures late { IfNone result (IsFirstAfter limit self.old.items) }
+        ensures room { self.new.room ≡ self.old.room }
+    {
+        let first = self.entries.front()?;
+        if limit < first.end {
+            return None;
         }
-        keep_after(&mut self.entries, limit);
-        self.oldest = limit.saturating_add(1);
+        self.entries.pop_front()
     }
 
     /// A copy of the entries.
@@ -112,22 +141,4 @@ impl PastBans {
     pub fn allocator(&self) -> Global {
         *self.entries.allocator()
     }
-}
-
-/// How many entries are the address's.
-fn count_of(entries: &VecDeque<Past>, addr: Addr) -> usize
-    ensures { result ≡ length (filter (past_of addr) entries.now.items) }
-{
-    entries
-        .iter()
-        .filter(|entry| same_addr(entry.addr, addr))
-        .count()
-}
-
-/// Keeps the entries that ended after a limit.
-fn keep_after(entries: &mut VecDeque<Past>, limit: u64)
-    ensures items { entries.new.items ≡ filter (λ p. nat_lt limit p.end) entries.old.items }
-    ensures room { deque_capacity entries.new ≡ deque_capacity entries.old }
-{
-    entries.retain(|entry| limit < entry.end);
 }

@@ -9,9 +9,11 @@ ghost use Rattle.f2b_model.specs.Sound.{IsOnceEach, IsRisingSerials};
 ghost use Rattle.f2b_model.specs.Steps.{is_due, is_meant};
 ghost use Rattle.ban_table.specs.Tables.{begun, ended, purged, IsNextDue};
 
+use crate::counts::Counts;
 use crate::index::Index;
 use crate::lists::BanLists;
 use crate::past::PastBans;
+use crate::purge::purge;
 use f2b_base::{Addr, Ban, NoMemory, Past, Seq};
 use std::alloc::Global;
 use std::collections::BTreeMap;
@@ -25,11 +27,13 @@ pub struct BanTable {
     index: Index,
     /// In the order in which they ended, with room for one entry of each active ban.
     past: PastBans,
+    counts: Counts,
 }
 
 impl Model for BanTable {
     ghost use Rattle.ban_table.specs.declared.lists.BanLists.{BanLists};
     ghost use Rattle.ban_table.specs.Places.{IsTable};
+    ghost use Rattle.ban_table.specs.Counts.{IsCountOf};
     ghost use Rattle.std.specs.BTreeMap.{values};
     ghost use Rattle.std.specs.Prelude.{length};
 
@@ -37,7 +41,7 @@ impl Model for BanTable {
 
     ghost view = { λ t. record { active = values t.bans; past = t.past.items } };
 
-    ghost invariant = { λ t. IsTable t.bans.entries t.index (length t.past.items) t.past.room };
+    ghost invariant = { λ t. IsTable t.bans.entries t.index (length t.past.items) t.past.room × IsCountOf t.counts (values t.bans) t.past.items };
 }
 
 /// A copy of the active bans.
@@ -60,6 +64,7 @@ impl BanTable {
             bans: BTreeMap::new(alloc),
             index: Index::new(alloc),
             past: PastBans::new(alloc),
+            counts: Counts::new(alloc),
         }
     }
 
@@ -71,6 +76,7 @@ impl BanTable {
             bans: BTreeMap::new(alloc),
             index: Index::new(alloc),
             past: PastBans::of(alloc, past)?,
+            counts: Counts::of_past(alloc, past)?,
         })
     }
 
@@ -95,9 +101,14 @@ impl BanTable {
         ensures err { OnErr result (self.new ≡ self.old) }
     {
         self.past.make_room(self.bans.len() + 1)?;
-        self.index.add(&ban)?;
+        self.counts.more(ban.addr)?;
+        if self.index.add(&ban).is_err() {
+            self.counts.fewer(ban.addr);
+            return Err(NoMemory);
+        }
         if self.bans.insert(ban.serial, ban).is_err() {
             self.index.remove(&ban);
+            self.counts.fewer(ban.addr);
             return Err(NoMemory);
         }
         Ok(())
@@ -171,14 +182,15 @@ impl BanTable {
     pub fn past(&self, addr: Addr) -> u32
         ensures { result ≡ up_to_32 (length (filter (past_of addr) self.now.past)) }
     {
-        self.past.count_of(addr)
+        let active = u64::from(self.index.serial_of(addr).is_some());
+        (self.counts.of(addr) - active).min(u64::from(u32::MAX)) as u32
     }
 
     /// Drops the past entries that ended at a limit, in seconds since 1970, or before.
     pub fn purge(&mut self, limit: u64)
         ensures { self.new ≡ purged limit self.old }
     {
-        self.past.drop_until(limit);
+        purge(&mut self.past, &mut self.counts, limit);
     }
 
     /// A copy of the lists.

@@ -25,6 +25,42 @@ fn table_of(alloc: Global, bans: &[(Addr, Until)]) -> Result<BanTable, NoMemory>
     Ok(table)
 }
 
+/// A call that changes a table.
+#[derive(Clone, Copy)]
+enum Step {
+    /// A ban without an end, unless the address is banned.
+    Start(Addr),
+    End(Addr, u32),
+    Purge(u64),
+}
+
+/// The table after these steps. The serial of a ban is the place of its step.
+fn table_after(alloc: Global, steps: &[Step]) -> Result<BanTable, NoMemory> {
+    let mut table = BanTable::new(alloc);
+    for (index, step) in steps.iter().enumerate() {
+        match step {
+            Step::Start(addr) => {
+                let count = table.past(*addr);
+                if table.active(*addr).is_none() {
+                    table.start(Ban {
+                        serial: index as u64,
+                        addr: *addr,
+                        begin: 0,
+                        until: Until::Never,
+                        count,
+                        failures: 0,
+                    })?;
+                }
+            }
+            Step::End(addr, at) => {
+                let _ = table.end(*addr, u64::from(*at));
+            }
+            Step::Purge(limit) => table.purge(*limit),
+        }
+    }
+    Ok(table)
+}
+
 /// The serials of the bans that are due at a moment, each of which is ended at it before the next one is asked for.
 fn ended_at(alloc: Global, table: &mut BanTable, now: u64) -> Result<Vec<u64>, NoMemory>
     requires { now < 2 ^ 40 }
@@ -93,6 +129,83 @@ fn past_entries_count_until_they_are_purged(rt: HostRuntime) -> Result<(), Fail>
             (table.past(Addr::V4(1)), table.past(Addr::V4(2))),
             (first, second),
             "at {now}"
+        );
+    }
+    Ok(())
+}
+
+#[test]
+fn each_address_has_its_own_past_bans(rt: HostRuntime) -> Result<(), Fail> {
+    // Each address is banned one to four times, by its number, and each third one once more, which does not end.
+    let mut steps = Vec::new(rt.alloc());
+    for round in 0..4_u32 {
+        for number in 0..200_u32 {
+            if round <= number % 4 {
+                steps.push(Step::Start(Addr::V4(number)))?;
+            }
+        }
+        for number in 0..200_u32 {
+            steps.push(Step::End(Addr::V4(number), round * 10))?;
+        }
+    }
+    for number in 0..200_u32 {
+        if number % 3 == 0 {
+            steps.push(Step::Start(Addr::V4(number)))?;
+        }
+    }
+    let mut table = table_after(rt.alloc(), steps.as_slice())?;
+    let rows: [(u64, u32); 5] = [(0, 1), (9, 1), (10, 2), (29, 3), (30, 4)];
+    for (limit, gone) in rows {
+        table.purge(limit);
+        for number in 0..200_u32 {
+            assert_eq!(rt;
+                table.past(Addr::V4(number)),
+                (number % 4 + 1).saturating_sub(gone),
+                "of {number} at {limit}"
+            );
+        }
+        assert_eq!(rt; table.past(Addr::V6(3)), 0);
+    }
+    assert_eq!(rt; table.bans()?.len(), 67);
+    Ok(())
+}
+
+#[test]
+fn entries_in_another_order_are_purged_too(rt: HostRuntime) -> Result<(), Fail> {
+    let mut past = Seq::new(rt.alloc());
+    for (number, end) in [(1, 7), (2, 3), (1, 9), (2, 4), (3, 5), (2, 8)] {
+        past.push(Past {
+            addr: Addr::V4(number),
+            end,
+        })?;
+    }
+    let lists = BanLists {
+        active: Seq::new(rt.alloc()),
+        past,
+    };
+    let mut table = BanTable::of(rt.alloc(), &lists)?;
+    let rows: [(u64, &[u64], [u32; 3]); 5] = [
+        (2, &[7, 3, 9, 4, 5, 8], [2, 3, 1]),
+        (4, &[7, 9, 5, 8], [2, 1, 1]),
+        (7, &[9, 8], [1, 1, 0]),
+        (8, &[9], [1, 0, 0]),
+        (9, &[], [0, 0, 0]),
+    ];
+    for (limit, left, counts) in rows {
+        table.purge(limit);
+        let mut ends = Vec::new(rt.alloc());
+        for entry in table.lists()?.past.as_slice() {
+            ends.push(entry.end)?;
+        }
+        assert_eq!(rt; ends.as_slice(), left, "at {limit}");
+        assert_eq!(rt;
+            [
+                table.past(Addr::V4(1)),
+                table.past(Addr::V4(2)),
+                table.past(Addr::V4(3))
+            ],
+            counts,
+            "at {limit}"
         );
     }
     Ok(())

@@ -10,22 +10,22 @@ use Rattle.ban_table.proofs.table.BanTable.due.Goals as goal
 
 pub returns-in_err-end-clause-some : goal.returns-in_err-end-clause-some
 returns-in_err-end-clause-some c =
-    rw (← c.self.view_is) (ap is_some c.from_residual.ensures ∙ sym (below_none c.args.now _ (c.in_err-end.ensures _ c.self.invariant.found)))
+    rw (← c.self.view_is) (ap is_some c.from_residual.ensures ∙ sym (below_none c.args.now _ (c.in_err-end.ensures _ c.self.invariant.0.found)))
 
 pub returns-then-now-end-clause-some : goal.returns-then-now-end-clause-some
 returns-then-now-end-clause-some c =
-    rw (← c.self.view_is) (sym (none_yet c.args.now c.in_ok-end.end c.in_ok-end.serial _ c.if-now-end.true (c.in_ok-end.ensures _ c.self.invariant.found).1))
+    rw (← c.self.view_is) (sym (none_yet c.args.now c.in_ok-end.end c.in_ok-end.serial _ c.if-now-end.true (c.in_ok-end.ensures _ c.self.invariant.0.found).1))
 
 -- the ban of the least end
 next : (c : goal.After-get) → IsDueBan c.args.now c.in_ok-end.end c.in_ok-end.serial (values_of c.self.inside.bans.entries)
 next c =
-    let least = c.in_ok-end.ensures (values_of c.self.inside.bans.entries) c.self.invariant.found in
+    let least = c.in_ok-end.ensures (values_of c.self.inside.bans.entries) c.self.invariant.0.found in
     due_ban c.args.now c.in_ok-end.end c.in_ok-end.serial (values_of c.self.inside.bans.entries) c.if-now-end.false least.0 least.1
 
 -- is the one that is lent
 lent : (c : goal.After-get) → option_copied c.get.result ≡ Some (next c).ban
 lent c =
-    let table = c.self.invariant in
+    let table = c.self.invariant.0 in
     let n = next c in
     c.get.ensures.value ∙ ap (λ s. lookup (is_at (nat_cmp s)) c.self.inside.bans.entries) (sym n.serial_is)
     ∙ lookup_active c.self.inside.bans.entries n.ban table.keyed table.rising n.within

@@ -14,7 +14,7 @@ loop-addr-preserved c =
       | in-Some+in_ok-insert w ↦
           ap (λ m. m.entries) w.found-is ∙ w.in_ok-insert.ensures.entries
           ∙ ap (λ es. insert_entry nat_cmp es w.in-Some.ban.now.serial w.in-Some.ban.now) c.loop-addr.invariant
-          ∙ found_next c.args.addrs.now c.loop-addr.addr-index _ w.in-Some.ban.now c.args.self.now.active c.loop-addr-test.true (rw (← c.self.view_is) c.self.invariant.rising) (rw (← c.self.view_is) c.self.invariant.once) w.in-Some.ensures
+          ∙ found_next c.args.addrs.now c.loop-addr.addr-index _ w.in-Some.ban.now c.args.self.now.active c.loop-addr-test.true (rw (← c.self.view_is) c.self.invariant.0.rising) (rw (← c.self.view_is) c.self.invariant.0.once) w.in-Some.ensures
       | in_default w ↦
           ap (λ m. m.entries) w.found-is ∙ c.loop-addr.invariant
           ∙ found_none c.args.addrs.now c.loop-addr.addr-index _ c.args.self.now.active c.loop-addr-test.true w.in_default.ensures
