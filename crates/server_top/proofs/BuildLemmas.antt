@@ -1,21 +1,21 @@
 -- The patterns of a filter are built, one call after another.
-use Rattle.std.proofs.Common.{ℕ, ◌≡◌, ◌+◌, ◌++◌, List, [], ◌∷◌, length, map, take, drop, Option, Some, None, IfSome, Result, Ok, Err, refl, sym, ap, ap₂, ◌∙◌, append-nil, append_assoc, length-append, subst, arith}
+use Rattle.std.proofs.Common.{ℕ, ◌≡◌, ◌+◌, ◌++◌, List, [], ◌∷◌, length, take, drop, Option, Some, None, Result, Ok, Err, refl, sym, ap, ◌∙◌, append-nil, append_assoc, length-append, subst, arith}
 use Rattle.std.specs.Prelude.{slice_get}
 use Rattle.std.proofs.lemmas.List.{take-append-drop}
 use Rattle.f2b_base.specs.declared.jail.JailDef.{JailDef}
 use Rattle.f2b_world.specs.Told.{History, Standing, Adds, grown}
 use Rattle.f2b_world.specs.Walks.{after, Along}
-use Rattle.f2b_world.specs.declared.answer.MakeAnswer.TheVariants.{Built as WasBuilt, Syntax as WasSyntax, TooBig as WasTooBig}
+use Rattle.f2b_world.specs.declared.answer.MakeAnswer.TheVariants.{Built as WasBuilt}
 use Rattle.f2b_world.specs.declared.event.Event.{Event}
 use Rattle.f2b_world.specs.declared.event.Event.TheVariants.{Make}
-use Rattle.filter_regex.specs.Builds.{AreCalls, Builds, Refuses, answer, built}
+use Rattle.filter_regex.specs.Builds.{Builds, Refuses, answer, built}
 use Rattle.filter_regex.specs.Rules.{Rules, rules_of, patterns}
 use Rattle.filter_regex.specs.declared.error.BuildKind.{BuildKind}
 use Rattle.filter_regex.specs.declared.error.BuildKind.TheVariants.{Syntax, TooBig}
 use Rattle.filter_regex.specs.declared.error.PatternError.{PatternError}
 use Rattle.filter_regex.specs.declared.error.PatternError.TheVariants.{Refused, NoMemory as MemoryError}
 use Rattle.filter_regex.specs.declared.error.PatternPlace.{PatternPlace}
-use Rattle.server_top.specs.Law.{Run, Point, AtStart, AtMake, Call, AskMake, IsNext, MayCome, Free, Goes, Halts, call_of, feed, make_call, make_point, after_make, pattern_at, refused, not_made, opening}
+use Rattle.server_top.specs.Law.{Run, AtStart, AtMake, AskMake, IsNext, MayCome, Free, Goes, Halts, feed, make_call, make_point, after_make, pattern_at, refused, not_made, opening}
 use Rattle.server_top.specs.declared.status.Status.{Status}
 use Rattle.server_top.specs.declared.status.Status.TheVariants.{PatternRefused, NoMemory}
 use Rattle.server_top.specs.declared.words.Plan.{Plan}

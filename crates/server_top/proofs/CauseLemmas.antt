@@ -1,6 +1,6 @@
 -- Counts of faults over several calls.
-use Rattle.std.proofs.Common.{ℕ, ◌≡◌, ◌<◌, ◌≤◌, ◌⊎◌, Result, Ok, Err, IfOk, IfErr, OnOk, inl, inr, arith}
-use Rattle.f2b_world.specs.Told.{Fault, OfSink, OfConfiguration, OfPatterns, Standing, Rose, Called}
+use Rattle.std.proofs.Common.{ℕ, ◌≤◌, Result, Ok, Err, IfOk, IfErr, OnOk, inl, inr, arith}
+use Rattle.f2b_world.specs.Told.{OfSink, OfConfiguration, OfPatterns, Standing, Rose, Called}
 use Rattle.f2b_world.specs.declared.event.Event.{Event}
 use Rattle.filter_regex.specs.declared.error.BuildKind.TheVariants.{Syntax, TooBig}
 use Rattle.server_top.specs.Stages.{HasCause, IsSteady}

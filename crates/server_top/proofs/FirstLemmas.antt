@@ -1,5 +1,5 @@
 -- The first reading of the clock.
-use Rattle.std.proofs.Common.{ℕ, ◌≡◌, ◌+◌, ◌++◌, ◌≤◌, List, [], ◌∷◌, length, min, refl, sym, ap, ◌∙◌, subst, arith}
+use Rattle.std.proofs.Common.{ℕ, ◌≡◌, List, [], ◌∷◌, min, refl, sym, ap, ◌∙◌}
 use Rattle.f2b_base.specs.declared.jail.JailDef.{JailDef}
 use Rattle.f2b_base.specs.declared.outside.Reading.{Reading}
 use Rattle.f2b_model.specs.LaneSound.{never}
@@ -8,9 +8,9 @@ use Rattle.f2b_model.specs.Whole.{empty_state}
 use Rattle.f2b_model.proofs.WholeLemmas.{empty_sound, whole_shows, whole_keeps}
 use Rattle.f2b_world.specs.Told.{Standing, Called}
 use Rattle.f2b_world.specs.declared.event.Event.TheVariants.{Clock}
-use Rattle.server_top.specs.Law.{Following, Run, AtStart, AtClock, Goes, Halts, begun, first_input, started, latest}
+use Rattle.server_top.specs.Law.{Run, AtStart, Goes, begun, first_input, started, latest}
 use Rattle.server_top.specs.Said.{ready_line}
-use Rattle.server_top.specs.Stages.{IsAt, Keeps, Owes, Reaches, Says, SayFails}
+use Rattle.server_top.specs.Stages.{Keeps, Owes, Says, SayFails}
 use Rattle.server_top.specs.Starts.{IsFirst, Starts, StartFails, standing}
 use Rattle.server_top.specs.declared.follow.Follow.{Follow}
 use Rattle.server_top.specs.declared.status.Status.{Status}

@@ -1,5 +1,5 @@
 -- The look of a turn, and its pause.
-use Rattle.std.proofs.Common.{ℕ, suc, ◌≡◌, ◌==◌, true, false, ◌+◌, ◌-◌, ◌++◌, ◌<◌, ◌^◌, List, [], ◌∷◌, length, Option, Some, None, IfSome, refl, sym, ap, ap₂, ◌∙◌, subst, arith, eqb-true}
+use Rattle.std.proofs.Common.{ℕ, ◌≡◌, List, Option, Some, None, IfSome, refl, sym, ap, ◌∙◌, subst}
 use Rattle.f2b_base.specs.declared.input.What.{What}
 use Rattle.f2b_base.specs.declared.input.What.TheVariants.{Read}
 use Rattle.f2b_base.specs.declared.jail.Place.TheVariants.{Tail}
@@ -15,15 +15,15 @@ use Rattle.log_follow.specs.declared.follower.Follower.{Follower}
 use Rattle.log_follow.specs.declared.line.Line.{Line}
 use Rattle.log_follow.specs.declared.step.Step.{Step}
 use Rattle.log_follow.specs.declared.step.Step.TheVariants.{Placed, Rotated, Lines, Nothing}
-use Rattle.server_top.specs.Law.{Following, Point, AtClock, AtLook, AtPause, Run, IsNext, call_of, Halts, takes, looked, step_read, watched, read_of, path_of, turned, failures_in}
-use Rattle.server_top.specs.Stages.{IsAt, Keeps, Looked, Moves, MoveFails, Reaches, ReadsLines, Takes, TakeFails, brought, read_by, read_what, turn_end}
+use Rattle.server_top.specs.Law.{Following, Point, AtClock, AtLook, AtPause, Run, IsNext, call_of, Halts, takes, looked, step_read, watched, read_of, path_of, failures_in}
+use Rattle.server_top.specs.Stages.{Keeps, Looked, Moves, MoveFails, Reaches, ReadsLines, Takes, TakeFails, brought, read_by, read_what, turn_end}
 use Rattle.server_top.specs.declared.follow.Follow.{Follow}
 use Rattle.server_top.specs.declared.status.Status.{Status}
 use Rattle.server_top.specs.declared.status.Status.TheVariants.{NoMemory}
 use Rattle.server_top.specs.declared.words.Plan.{Plan}
-use Rattle.server_top.proofs.WalkLemmas.{goes_trans, goes_call, halts_after, halts_here}
+use Rattle.server_top.proofs.WalkLemmas.{goes_trans, halts_after, halts_here}
 use Rattle.server_top.specs.Starts.{standing}
-use Rattle.server_top.proofs.TurnLemmas.{at_standing, may_come, reaches_taken, halts_taking, reaches_next, halts_next}
+use Rattle.server_top.proofs.TurnLemmas.{at_standing, reaches_taken, halts_taking, reaches_next, halts_next}
 
 -- A look is handed to the follower, and its lines are searched.
 

@@ -1,8 +1,7 @@
 -- From the law: at every point what was said is a beginning of the lines.
-use Rattle.std.proofs.Common.{ℕ, Bool, true, false, ◌⊎◌, inl, inr, zero, suc, ◌≡◌, ◌+◌, ◌≤◌, ◌<◌, ◌++◌, List, [], ◌∷◌, length, take, drop, Option, Some, None, refl, sym, ap, ap₂, ◌∙◌, append-nil, append_assoc, length-append, subst, arith}
+use Rattle.std.proofs.Common.{ℕ, Bool, true, false, ◌⊎◌, inl, inr, zero, suc, ◌≡◌, ◌+◌, ◌≤◌, ◌<◌, ◌++◌, List, [], ◌∷◌, length, take, drop, Option, Some, None, refl, sym, ap, ◌∙◌, append-nil, append_assoc, length-append, subst, arith}
 use Rattle.std.specs.Prelude.{slice_get}
 use Rattle.std.proofs.lemmas.List.{take-append-drop, take-append-le}
-use Rattle.f2b_base.specs.declared.outside.Reading.{Reading}
 use Rattle.f2b_base.specs.declared.outside.TreeAnswer.{TreeAnswer}
 use Rattle.f2b_base.specs.declared.outside.TreeAnswer.TheVariants.{Tree, Failed as TreeFailed, TooLarge as TreeTooLarge, NoMemory as TreeNoMemory}
 use Rattle.f2b_base.specs.declared.jail.JailDef.{JailDef}
@@ -15,18 +14,18 @@ use Rattle.f2b_world.specs.declared.answer.MakeAnswer.TheVariants.{Built, Syntax
 use Rattle.f2b_world.specs.declared.answer.Said.{Said}
 use Rattle.f2b_world.specs.declared.answer.Said.TheVariants.{Done, Failed as SayFailed}
 use Rattle.f2b_world.specs.declared.event.Event.{Event}
-use Rattle.f2b_world.specs.declared.event.Event.TheVariants.{Say, DiskLen, DiskRead, DiskWrite, DiskSync, Make, Clock, Config, StoreAt, Names, Look as LookAt, ChildStart, ChildPoll, ChildKill, GateListen, GateAccept, GateRead, GateWrite, GateClose, Pause}
+use Rattle.f2b_world.specs.declared.event.Event.TheVariants.{Say, Make, Clock, Config, Look as LookAt, Pause}
 use Rattle.filter_regex.specs.declared.error.BuildKind.{BuildKind}
 use Rattle.filter_regex.specs.declared.error.PatternPlace.{PatternPlace}
 use Rattle.log_follow.specs.declared.step.Step.{Step}
 use Rattle.log_follow.specs.declared.step.Step.TheVariants.{Placed, Rotated, Lines, Nothing}
-use Rattle.server_top.specs.Law.{Following, Point, AtConfig, AtMake, AtStart, AtClock, AtLook, AtPause, Over, Run, call_of, next_call, IsNext, IsOver, Ends, MayCome, Free, feed, moved, config_read, configured, made, not_made, pattern_at, clocked, ticked, looked, step_read, watched, read_at, begin, begin_with, call_at, call_for, make_call, Call}
+use Rattle.server_top.specs.Law.{Following, Point, AtConfig, AtMake, AtStart, AtClock, AtLook, AtPause, Over, Run, call_of, IsNext, IsOver, Ends, MayCome, Free, feed, moved, config_read, configured, made, not_made, pattern_at, ticked, looked, step_read, watched, read_at, begin, begin_with, call_at, call_for, make_call, Call}
 use Rattle.f2b_model.specs.Steps.{moves, is_ban_due}
 use Rattle.filter_regex.specs.declared.error.BuildKind.TheVariants.{Syntax, TooBig}
 use Rattle.flat_form.specs.Flat.{flat_jail}
 use Rattle.log_follow.specs.Watches.{looked as watch_looked}
 use Rattle.server_top.specs.Words.{plan_of}
-use Rattle.server_top.specs.Served.{Obeys, SaysAll, SaysInOrder, said_by, joined, lines_by, run_after, IsBeginning}
+use Rattle.server_top.specs.Served.{SaysAll, SaysInOrder, said_by, joined, lines_by, run_after}
 use Rattle.server_top.specs.declared.status.Status.{Status}
 use Rattle.server_top.specs.declared.status.Status.TheVariants.{TurnsSpent, Usage, ConfFault, SinkFault, NotBuilt, PatternRefused, NoMemory}
 use Rattle.server_top.specs.declared.words.Plan.{Plan}

@@ -1,15 +1,14 @@
 -- All turns of a run.
-use Rattle.std.proofs.Common.{ℕ, zero, suc, ◌≡◌, ◌+◌, ◌-◌, ◌<◌, ◌≤◌, List, [], length, Option, Some, None, refl, sym, ap, ◌∙◌, subst, inl, inr, arith}
-use Rattle.std.specs.Prelude.{slice_get}
+use Rattle.std.proofs.Common.{ℕ, zero, suc, ◌≡◌, ◌+◌, ◌-◌, ◌<◌, ◌≤◌, List, [], Option, Some, None, refl, sym, ap, ◌∙◌, subst, inl, inr, arith}
 use Rattle.f2b_base.specs.declared.jail.JailDef.{JailDef}
 use Rattle.f2b_world.specs.Told.{History, Standing, Adds}
 use Rattle.f2b_world.specs.Walks.{after, Along}
 use Rattle.filter_regex.specs.declared.error.BuildKind.TheVariants.{Syntax, TooBig}
-use Rattle.server_top.specs.Law.{Following, Point, AtClock, Over, Run, Goes, Halts, Ends, IsOver, MayCome, Free, feed, begin, begin_with, opening, call_of, next_call, turned}
+use Rattle.server_top.specs.Law.{Following, AtClock, Run, Halts, Ends, IsOver, MayCome, Free, feed, begin, begin_with, opening, turned}
 use Rattle.server_top.specs.Served.{IsCaused, IsOfUsage, IsRun, SaysInOrder}
 use Rattle.server_top.specs.Words.{plan_of}
 use Rattle.server_top.specs.declared.words.Plan.{Plan}
-use Rattle.server_top.specs.Stages.{HasCause, IsAt, IsRefusedAs, Keeps, Moves, MoveFails, Reaches, Refuses, turn_end}
+use Rattle.server_top.specs.Stages.{HasCause, IsAt, IsRefusedAs, Keeps, Moves, MoveFails, Refuses, turn_end}
 use Rattle.server_top.specs.Starts.{After, BuildFails, BuildsAll, Configures, Finishes, Starts, StartFails, Turned}
 use Rattle.server_top.specs.declared.follow.Follow.{Follow}
 use Rattle.server_top.specs.declared.status.Status.{Status}

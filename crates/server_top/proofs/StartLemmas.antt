@@ -1,22 +1,20 @@
 -- The start of a run.
-use Rattle.std.proofs.Common.{ℕ, ◌≡◌, ◌+◌, ◌-◌, ◌++◌, ◌≤◌, ◌<◌, ◌⊎◌, inl, inr, List, [], ◌∷◌, length, Option, Some, None, Result, Ok, Err, refl, sym, ap, ap₂, ◌∙◌, subst, arith}
+use Rattle.std.proofs.Common.{ℕ, ◌≡◌, ◌≤◌, inl, inr, Option, Some, None, Ok, Err, refl, sym, ◌∙◌, subst, arith}
 use Rattle.std.proofs.lemmas.Bool.{cases_lt}
 use Rattle.f2b_base.specs.declared.jail.JailDef.{JailDef}
 use Rattle.f2b_base.specs.declared.outside.TreeAnswer.{TreeAnswer}
 use Rattle.f2b_base.specs.declared.outside.TreeAnswer.TheVariants.{Tree, Failed as TreeFailed, TooLarge as TreeTooLarge, NoMemory as TreeNoMemory}
-use Rattle.f2b_world.specs.Told.{Standing, Called, Asked, Rose, OfSink, OfConfiguration, OfPatterns, config_event}
+use Rattle.f2b_world.specs.Told.{Standing, Asked, Rose, OfConfiguration, config_event}
 use Rattle.f2b_world.specs.declared.event.Event.{Event}
 use Rattle.f2b_world.specs.declared.event.Event.TheVariants.{Config}
-use Rattle.flat_form.specs.Flat.{flat_jail}
-use Rattle.flat_form.specs.FlatText.{IsFlatJail}
-use Rattle.server_top.specs.Law.{Run, AtConfig, Goes, Halts, configured, feed, opening, make_point, refused}
+use Rattle.server_top.specs.Law.{Goes, Halts, configured, opening, refused}
 use Rattle.server_top.specs.Stages.{HasCause, IsRefusal, IsRefusedAs, IsSteady, Refuses}
-use Rattle.server_top.specs.Starts.{Configures, IsDecided, standing}
+use Rattle.server_top.specs.Starts.{Configures, IsDecided}
 use Rattle.server_top.specs.declared.status.Status.{Status}
-use Rattle.server_top.specs.declared.status.Status.TheVariants.{TurnsSpent, Usage, ConfFault, SinkFault, NotBuilt, PatternRefused, NoMemory}
+use Rattle.server_top.specs.declared.status.Status.TheVariants.{ConfFault, SinkFault, NotBuilt, NoMemory}
 use Rattle.server_top.specs.declared.words.Plan.{Plan}
 use Rattle.server_top.proofs.CauseLemmas.{cause_later, steady_call, steady_refl}
-use Rattle.server_top.proofs.WalkLemmas.{goes_refl, goes_trans, goes_call, halts_after, halts_here}
+use Rattle.server_top.proofs.WalkLemmas.{goes_call, halts_after, halts_here}
 
 -- what was counted up to a moment was counted up to a later one
 pub rose_by_then : (a b c : ℕ) → a ≤ b → b ≤ c → Rose a b → Rose a c

@@ -1,17 +1,17 @@
 -- An input is taken.
-use Rattle.std.proofs.Common.{ℕ, ◌≡◌, ◌≤◌, ◌^◌, ◌-◌, List, [], length, map, refl, sym, ap, ◌∙◌, subst, arith}
+use Rattle.std.proofs.Common.{ℕ, ◌≡◌, ◌≤◌, List, [], map, sym, ap, ◌∙◌, subst, arith}
 use Rattle.f2b_base.specs.declared.input.Input.{Input}
 use Rattle.f2b_base.specs.declared.input.What.{What}
 use Rattle.f2b_model.specs.Sound.{IsFit, IsFitWhat, IsSound}
-use Rattle.f2b_model.specs.Whole.{State, Now, now_of, step, step_now, told, told_now}
+use Rattle.f2b_model.specs.Whole.{Now, now_of, step, step_now, told, told_now}
 use Rattle.f2b_model.specs.declared.happening.Happening.{Happening}
 use Rattle.f2b_model.proofs.WholeLemmas.{whole_shows, whole_keeps, whole_tells}
 use Rattle.f2b_world.specs.Told.{Standing}
 use Rattle.log_follow.specs.Followed.{StandsFor}
 use Rattle.log_follow.specs.declared.follower.Follower.{Follower}
-use Rattle.server_top.specs.Law.{Following, Run, Goes, taken, told_lines}
+use Rattle.server_top.specs.Law.{Following, taken, told_lines}
 use Rattle.server_top.specs.Said.{line_of}
-use Rattle.server_top.specs.Stages.{Keeps, Owes, Says, SayFails, StepsTo, Takes, TakeFails}
+use Rattle.server_top.specs.Stages.{Keeps, Says, SayFails, StepsTo, Takes, TakeFails}
 use Rattle.server_top.specs.declared.follow.Follow.{Follow}
 use Rattle.server_top.specs.declared.status.Status.{Status}
 use Rattle.server_top.specs.declared.status.Status.TheVariants.{NoMemory}

@@ -1,7 +1,6 @@
 -- The stages of a turn.
-use Rattle.std.proofs.Common.{ℕ, ◌≡◌, ◌+◌, ◌++◌, ◌≤◌, ◌||◌, Bool, true, false, List, [], ◌∷◌, length, map, max, min, Option, Some, None, refl, sym, ap, ap₂, ◌∙◌, append-nil, length-append, subst, arith}
+use Rattle.std.proofs.Common.{ℕ, ◌≡◌, ◌+◌, ◌++◌, ◌||◌, Bool, true, false, List, [], ◌∷◌, length, map, max, min, Option, None, refl, sym, ap, ap₂, ◌∙◌, append-nil, length-append, subst}
 use Rattle.std.specs.List.{list_any}
-use Rattle.f2b_base.specs.declared.ban.Ban.{Ban}
 use Rattle.f2b_base.specs.declared.input.What.{What}
 use Rattle.f2b_base.specs.declared.input.What.TheVariants.{Tick}
 use Rattle.f2b_base.specs.declared.outside.Reading.{Reading}
@@ -15,14 +14,14 @@ use Rattle.f2b_world.specs.declared.event.Event.{Event}
 use Rattle.f2b_world.specs.declared.event.Event.TheVariants.{Clock}
 use Rattle.log_follow.specs.Followed.{StandsFor}
 use Rattle.log_follow.specs.declared.follower.Follower.{Follower}
-use Rattle.server_top.specs.Law.{Following, Point, AtClock, AtLook, AtPause, Run, Call, call_of, next_call, IsNext, MayCome, feed, Goes, Halts, taken, told_lines, takes, read_at, clocked, ticked, latest}
-use Rattle.server_top.specs.Stages.{HasCause, IsAt, IsSaying, Keeps, Moves, MoveFails, Owes, Reaches, ReadsAt, Takes, TakeFails}
+use Rattle.server_top.specs.Law.{Following, Point, AtClock, AtLook, Run, Call, call_of, next_call, IsNext, MayCome, feed, Goes, Halts, taken, told_lines, takes, read_at, clocked, ticked, latest}
+use Rattle.server_top.specs.Stages.{IsAt, IsSaying, Keeps, Moves, MoveFails, Owes, Reaches, ReadsAt, Takes, TakeFails}
 use Rattle.server_top.specs.Starts.{standing}
 use Rattle.server_top.specs.declared.follow.Follow.{Follow}
 use Rattle.server_top.specs.declared.status.Status.{Status}
 use Rattle.server_top.specs.declared.status.Status.TheVariants.{NoMemory}
 use Rattle.server_top.specs.declared.words.Plan.{Plan}
-use Rattle.server_top.proofs.WalkLemmas.{goes_refl, goes_trans, goes_call, get_past, halts_after, halts_here}
+use Rattle.server_top.proofs.WalkLemmas.{goes_trans, goes_call, get_past, halts_after, halts_here}
 
 -- a run that stands at a point is such a run
 pub at_standing : (P : Run → Type 0) (r : Run) (point : Point) → IsAt r point → P (standing r.plan point r.lines) → P r

@@ -1,12 +1,12 @@
 -- How a run goes on.
-use Rattle.std.proofs.Common.{ℕ, ◌≡◌, ◌+◌, ◌++◌, List, [], ◌∷◌, length, Option, Some, None, refl, sym, ap, ◌∙◌, append-nil, append_assoc, length-append, subst, arith, zero, suc}
+use Rattle.std.proofs.Common.{ℕ, ◌≡◌, ◌+◌, ◌++◌, List, [], ◌∷◌, length, Option, Some, None, refl, sym, ap, ◌∙◌, append_assoc, length-append, subst, arith}
 use Rattle.std.specs.Prelude.{slice_get}
 use Rattle.f2b_world.specs.declared.event.Event.{Event}
 use Rattle.f2b_world.specs.declared.event.Event.TheVariants.{Say}
 use Rattle.f2b_world.specs.declared.answer.Said.TheVariants.{Done as SayDone, Failed as SayFailed}
 use Rattle.f2b_world.specs.Told.{History, Standing, Called}
 use Rattle.f2b_world.proofs.WalkLemmas.{walks_refl, walks_trans, walks_call}
-use Rattle.server_top.specs.Law.{Run, Point, AtConfig, AtMake, AtStart, AtClock, AtLook, AtPause, Over, Call, AskSay, call_of, call_for, next_call, IsNext, MayCome, feed, Free, Goes, Halts, Ends, IsOver, refused}
+use Rattle.server_top.specs.Law.{Run, Point, AtConfig, AtMake, AtStart, AtClock, AtLook, AtPause, Over, Call, AskSay, call_of, next_call, IsNext, MayCome, feed, Free, Goes, Halts, Ends, IsOver, refused}
 use Rattle.server_top.specs.Refusals.{refusal_line}
 use Rattle.server_top.specs.Stages.{IsRefusal, IsSaying, Owes, Refuses, Says, SayFails}
 use Rattle.server_top.specs.declared.status.Status.{Status}

@@ -1,5 +1,5 @@
 -- What a run does: the one call that comes next, and where each event leaves the run.
-use Rattle.std.specs.Prelude.{ℕ, zero, suc, ◌≡◌, ◌+◌, ◌-◌, ◌^◌, ◌++◌, max, min, length, map, slice_get, Bool, true, false, List, [], ◌∷◌, Option, Some, None, if◌then◌else◌}
+use Rattle.std.specs.Prelude.{ℕ, zero, suc, ◌≡◌, ◌+◌, ◌-◌, ◌++◌, max, min, map, slice_get, Bool, true, false, List, [], ◌∷◌, Option, Some, None}
 use Rattle.f2b_base.specs.declared.ban.Failure.{Failure}
 use Rattle.f2b_base.specs.declared.input.Input.{Input}
 use Rattle.f2b_base.specs.declared.input.What.{What}
@@ -16,7 +16,7 @@ use Rattle.f2b_model.specs.Whole.{State, step, told, empty_state}
 use Rattle.f2b_world.specs.Told.{History}
 use Rattle.f2b_world.specs.Walks.{Walks}
 use Rattle.f2b_world.specs.declared.answer.Look.{Look}
-use Rattle.f2b_world.specs.declared.answer.Look.TheVariants.{File, Absent, Failed as LookFailed, NoMemory as LookNoMemory}
+use Rattle.f2b_world.specs.declared.answer.Look.TheVariants.{File}
 use Rattle.f2b_world.specs.declared.answer.MakeAnswer.{MakeAnswer}
 use Rattle.f2b_world.specs.declared.answer.MakeAnswer.TheVariants.{Built, Syntax as WasSyntax, TooBig as WasTooBig}
 use Rattle.f2b_world.specs.declared.answer.Said.TheVariants.{Done, Failed as SayFailed}

@@ -6,7 +6,7 @@ use Rattle.filter_regex.specs.declared.error.BuildKind.TheVariants.{Syntax, TooB
 use Rattle.filter_regex.specs.declared.error.PatternPlace.{PatternPlace}
 use Rattle.filter_regex.specs.declared.error.PatternPlace.TheVariants.{Date, Pref, Fail, Ignore}
 use Rattle.server_top.specs.declared.status.Status.{Status}
-use Rattle.server_top.specs.declared.status.Status.TheVariants.{TurnsSpent, Usage, ConfFault, SinkFault, NotBuilt, PatternRefused, NoMemory}
+use Rattle.server_top.specs.declared.status.Status.TheVariants.{Usage, ConfFault, NotBuilt, PatternRefused}
 use Rattle.server_top.specs.Said.{stamped}
 
 abbrev pub place_text : PatternPlace → List ℕ

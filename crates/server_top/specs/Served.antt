@@ -10,7 +10,7 @@ use Rattle.server_top.specs.Stages.{IsNoPattern}
 use Rattle.server_top.specs.Law.{Run, MayCome, Free, Ends, feed, begin}
 use Rattle.server_top.specs.Words.{plan_of}
 use Rattle.server_top.specs.declared.status.Status.{Status}
-use Rattle.server_top.specs.declared.status.Status.TheVariants.{TurnsSpent, Usage, ConfFault, SinkFault, NotBuilt, PatternRefused, NoMemory}
+use Rattle.server_top.specs.declared.status.Status.TheVariants.{Usage, ConfFault, SinkFault, PatternRefused, NoMemory}
 
 -- each event is the call that comes next after those before it
 abbrev pub Obeys : Run → History → List Event → Type 0

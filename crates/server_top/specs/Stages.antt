@@ -1,5 +1,5 @@
 -- The stages of a run: what a function of the server has done when it returns.
-use Rattle.std.specs.Prelude.{ℕ, max, min, ◌^◌, ◌<◌, Option, Some, None, IfSome, ◌≡◌, ◌⊎◌, ◌+◌, ◌-◌, ◌≤◌, ◌++◌, length, Contains, List, [], ◌∷◌}
+use Rattle.std.specs.Prelude.{ℕ, max, min, Option, Some, None, IfSome, ◌≡◌, ◌⊎◌, ◌+◌, ◌-◌, ◌≤◌, ◌++◌, length, Contains, List, []}
 use Rattle.f2b_base.specs.declared.input.What.{What}
 use Rattle.f2b_base.specs.declared.input.What.TheVariants.{Read}
 use Rattle.f2b_base.specs.declared.jail.Place.TheVariants.{Tail}

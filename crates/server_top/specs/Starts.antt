@@ -1,5 +1,5 @@
 -- The start of a run, and all its turns.
-use Rattle.std.specs.Prelude.{ℕ, min, ◌≡◌, ◌≤◌, ◌-◌, List, [], ◌∷◌, Option, Some, None, Result, Ok, Err, length}
+use Rattle.std.specs.Prelude.{ℕ, min, ◌≡◌, ◌≤◌, ◌-◌, List, [], Some, None, Result, Ok, Err, length}
 use Rattle.f2b_base.specs.declared.jail.JailDef.{JailDef}
 use Rattle.f2b_base.specs.declared.jail.Place.TheVariants.{Pos}
 use Rattle.f2b_base.specs.declared.outside.TreeAnswer.{TreeAnswer}

@@ -13,7 +13,9 @@ use crate::say::{refuse, say_line};
 use crate::status::Status;
 use crate::turn::LATEST;
 use crate::words::Plan;
-use f2b_base::{Bytes, Defs, Input, JailDef, NoMemory, Place, Plain, Reading, Seq, TreeAnswer, What};
+use f2b_base::{
+    Bytes, Defs, Input, JailDef, NoMemory, Place, Plain, Reading, Seq, TreeAnswer, What,
+};
 use f2b_world::World;
 use filter_regex::{Filter, PatternError};
 use flat_form::flat_jail;
@@ -73,11 +75,7 @@ pub fn build<W: World>(alloc: Global, world: &mut W, definition: &JailDef) -> Re
 }
 
 // The configuration as an input: past bans count for a day.
-fn configuration(
-    alloc: Global,
-    definition: &JailDef,
-    reading: Reading,
-) -> Result<Input, NoMemory>
+fn configuration(alloc: Global, definition: &JailDef, reading: Reading) -> Result<Input, NoMemory>
     requires { IsFlatJail definition.now }
     ensures value { IfOk result (λ input. input ≡ first_input definition.now reading) }
     ensures taken { IfOk result IsTaken }

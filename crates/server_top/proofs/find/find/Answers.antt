@@ -1,4 +1,4 @@
-use Rattle.std.proofs.Common.{◌≡◌, ◌++◌, ◌∙◌, ap, ap₂, sym, List}
+use Rattle.std.proofs.Common.{◌++◌, ◌∙◌, ap, ap₂, sym, List}
 use Rattle.filter_regex.specs.Rules.{Rules}
 use Rattle.f2b_base.specs.declared.ban.Failure.{Failure}
 use Rattle.server_top.specs.Law.{failures_of}

@@ -1,4 +1,4 @@
-use Rattle.std.proofs.Common.{◌≡◌, ◌∙◌, ap, sym, subst, refl, List, ℕ, map, string_bytes, Some, None, Option, IsSome, is_some, true, false, true≢false}
+use Rattle.std.proofs.Common.{◌≡◌, ◌∙◌, sym, subst, refl, List, ℕ, map, string_bytes, Some, None, Option, IsSome}
 use Rattle.server_top.specs.Words.{plan_of}
 use Rattle.server_top.specs.declared.status.Status.TheVariants.{TurnsSpent}
 use Rattle.server_top.specs.declared.words.Plan.{Plan}

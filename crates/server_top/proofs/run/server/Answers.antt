@@ -1,4 +1,4 @@
-use Rattle.std.proofs.Common.{◌≡◌, ◌∙◌, ap, sym, is_some, true, false, true≢false}
+use Rattle.std.proofs.Common.{◌∙◌, ap, sym, is_some, true≢false}
 use Rattle.server_top.proofs.run.server.Goals as goal
 
 pub returns-in-Ok-clause-usage : goal.returns-in-Ok-clause-usage
