@@ -1,20 +1,17 @@
 -- How many bans each address has: one more, one that ends, and one that is dropped.
-use Rattle.std.proofs.Common.{◌≡◌, ℕ, ◌+◌, ◌-◌, ◌<◌, ◌≤◌, Bool, true, false, not, cond, ◌||◌, nat_lt, List, [], ◌∷◌, ◌++◌, length, length-append, get_or, take, drop, Option, Some, None, Result, Ok, Err, refl, sym, ◌∙◌, ap, ap₂, arith}
+use Rattle.std.proofs.Common.{◌≡◌, ℕ, ◌+◌, ◌-◌, ◌<◌, Bool, true, false, not, cond, ◌||◌, List, [], ◌∷◌, ◌++◌, length, length-append, Option, None, Result, Ok, Err, refl, sym, ◌∙◌, ap, arith}
 use mir.Val.{bool_byte}
 use Rattle.std.specs.BTreeMap as tree
-use Rattle.std.specs.List.{filter, find, list_any}
+use Rattle.std.specs.List.{filter, find}
 use Rattle.std.specs.Option.{is_some, option_map, unwrap_or}
 use Rattle.std.specs.Result.{OnOk, OnErr}
 use Rattle.std.specs.Ordering.{is_eq}
-use Rattle.std.proofs.lemmas.List.{drop_more}
-use Rattle.std.proofs.lemmas.List.Elements.{filter_more}
 use Rattle.f2b_base.specs.declared.addr.Addr.{Addr}
 use Rattle.f2b_base.specs.declared.ban.Ban.{Ban}
 use Rattle.f2b_base.specs.declared.ban.Past.{Past}
 use Rattle.f2b_model.specs.Full.{same_addr}
 use Rattle.f2b_model.specs.Lists.{placed}
 use Rattle.f2b_model.specs.Moves.{ban_of, is_banned, past_of}
-use Rattle.f2b_model.proofs.EndLemmas.{same_addr_same}
 use Rattle.f2b_model.proofs.FullLemmas.{filter_le}
 use Rattle.f2b_model.proofs.ListLemmas.{by_test, filter-append}
 use Rattle.f2b_model.proofs.SoundLemmas.{same_addr_true}

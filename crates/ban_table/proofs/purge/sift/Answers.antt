@@ -1,4 +1,4 @@
-use Rattle.std.proofs.Common.{◌+◌, ◌<◌, ◌≤◌, [], ◌++◌, length, take, drop, length-append, length-drop, refl, sym, ◌∙◌, ap, arith}
+use Rattle.std.proofs.Common.{◌<◌, length, ◌∙◌, arith}
 use Rattle.ban_table.proofs.PurgeLemmas.{sifted_kept, sifted_gone, sifted_all, sifted_none}
 use Rattle.ban_table.proofs.purge.sift.Goals as goal
 use Rattle.ban_table.proofs.purge.sift.Goals.{then-limit-entry, else-limit-entry}

@@ -1,4 +1,4 @@
-use Rattle.std.proofs.Common.{◌≡◌, ◌+◌, Some, cond, ap, ◌∙◌}
+use Rattle.std.proofs.Common.{◌+◌, Some, cond, ap, ◌∙◌}
 use Rattle.f2b_model.specs.Full.{same_addr}
 use Rattle.ban_table.specs.Counts.{counted}
 use Rattle.ban_table.proofs.CountLemmas.{counted_put, one_more}

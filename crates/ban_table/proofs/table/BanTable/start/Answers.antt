@@ -1,8 +1,6 @@
-use Rattle.std.proofs.Common.{◌≡◌, false, length, sym, ◌∙◌, ap, arith}
+use Rattle.std.proofs.Common.{◌≡◌, length, sym, ◌∙◌, ap, arith}
 use Rattle.std.specs.Map.{values_of}
 use Rattle.f2b_model.specs.Lists.{placed}
-use Rattle.f2b_model.specs.Moves.{is_banned}
-use Rattle.ban_table.specs.Counts.{IsAsMany, IsCountOf}
 use Rattle.ban_table.specs.Places.{IsTable}
 use Rattle.ban_table.specs.Tables.{by_serial}
 use Rattle.ban_table.proofs.CountLemmas.{as_many_back, count_begun, count_is, count_stays, counted_below}
