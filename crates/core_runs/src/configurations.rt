@@ -1,9 +1,10 @@
 //! The configurations of the runs: three jails with five lanes in all, of which a number says what is other.
-ghost use Rattle.std.specs.Prelude.{◌≡◌, ◌≤◌, ◌<◌, ◌^◌, map, bytes_eq, IfOk};
+ghost use Rattle.std.specs.Prelude.{map, bytes_eq, IfOk, ◌≤◌, ◌<◌, ◌^◌, ◌≡◌, ◌≤ℤ◌, pos};
 ghost use Rattle.f2b_base.specs.Span.{IsRule};
 ghost use Rattle.f2b_base.specs.declared.jail.WatchDef.{WatchDef};
 ghost use Rattle.f2b_model.specs.Lists.{AllOf, AreDistinct};
 ghost use Rattle.f2b_model.specs.Sound.{AreFitDefs, same_kind};
+ghost use Rattle.core_runs.specs.Fits.{IsFitJail};
 ghost use Rattle.jail_moves.specs.Rooms.{IsBounded};
 
 use f2b_base::{
@@ -73,7 +74,7 @@ fn two_names(alloc: Global, number: u64) -> Result<Seq<ActionDef>, NoMemory>
 
 /// A rule of one span, or of a negative one, which never ends.
 fn plain_rule(alloc: Global, base: i64) -> BanRule
-    requires { base ≤ 1000 }
+    requires { base ≤ℤ pos 1000 }
     ensures { IsRule result }
 {
     BanRule {
@@ -156,8 +157,8 @@ fn limits(number: u64) -> (u64, u64)
 {
     match number % 12 {
         0 => (600, 4),
-        1 => (50, 2),
-        2 => (100, 1),
+        1 | 2 => (50, 2),
+        3 => (100, 1),
         _ => (300, 3),
     }
 }
@@ -170,10 +171,7 @@ fn jail(
     actions: Seq<ActionDef>,
 ) -> Result<JailDef, NoMemory>
     requires { AreDistinct same_kind actions }
-    ensures name { IfOk result (λ d. d.name ≡ name.now) }
-    ensures bounded { IfOk result IsBounded }
-    ensures paths { IfOk result (λ d. AreDistinct bytes_eq (map (λ (w : WatchDef). w.path) d.watches)) }
-    ensures actions { IfOk result (λ d. AreDistinct same_kind d.actions) }
+    ensures { IfOk result IsFitJail }
 {
     let (findtime, maxretry) = limits(number / 64);
     let watches = watches(alloc, number / 32)?;
@@ -205,36 +203,67 @@ fn purge(number: u64) -> u64 {
     }
 }
 
+/// A configuration of two jails. Those of one name would make none.
+fn two(alloc: Global, purge: u64, one: JailDef, other: JailDef) -> Result<Defs, NoMemory>
+    requires one { IsFitJail one }
+    requires other { IsFitJail other }
+    ensures fit { IfOk result AreFitDefs }
+    ensures bounded { IfOk result (λ defs. AllOf IsBounded defs.jails) }
+{
+    let mut jails = Seq::new(alloc);
+    if one.name == other.name {
+        return Ok(Defs { purge, jails });
+    }
+    jails.push(one)?;
+    jails.push(other)?;
+    Ok(Defs { purge, jails })
+}
+
+/// A configuration of three jails. Those of one name would make none.
+fn three(
+    alloc: Global,
+    purge: u64,
+    one: JailDef,
+    second: JailDef,
+    third: JailDef,
+) -> Result<Defs, NoMemory>
+    requires one { IsFitJail one }
+    requires second { IsFitJail second }
+    requires third { IsFitJail third }
+    ensures fit { IfOk result AreFitDefs }
+    ensures bounded { IfOk result (λ defs. AllOf IsBounded defs.jails) }
+{
+    let mut jails = Seq::new(alloc);
+    if one.name == second.name || one.name == third.name || second.name == third.name {
+        return Ok(Defs { purge, jails });
+    }
+    jails.push(one)?;
+    jails.push(second)?;
+    jails.push(third)?;
+    Ok(Defs { purge, jails })
+}
+
 /// Three jails, or two of them, in one of two orders.
-fn jails(
+fn arranged(
     alloc: Global,
     number: u64,
     ssh: JailDef,
     mail: JailDef,
     web: JailDef,
-) -> Result<Seq<JailDef>, NoMemory> {
-    let mut jails = Seq::new(alloc);
-    match number % 5 {
-        0 => {
-            jails.push(ssh)?;
-            jails.push(mail)?;
-        }
-        1 => {
-            jails.push(web)?;
-            jails.push(ssh)?;
-        }
-        2 => {
-            jails.push(web)?;
-            jails.push(mail)?;
-            jails.push(ssh)?;
-        }
-        _ => {
-            jails.push(ssh)?;
-            jails.push(mail)?;
-            jails.push(web)?;
-        }
+) -> Result<Defs, NoMemory>
+    requires ssh { IsFitJail ssh }
+    requires mail { IsFitJail mail }
+    requires web { IsFitJail web }
+    ensures fit { IfOk result AreFitDefs }
+    ensures bounded { IfOk result (λ defs. AllOf IsBounded defs.jails) }
+{
+    let purge = purge(number);
+    match number / 4 % 5 {
+        0 => two(alloc, purge, ssh, mail),
+        1 => two(alloc, purge, web, ssh),
+        2 => three(alloc, purge, web, mail, ssh),
+        _ => three(alloc, purge, ssh, mail, web),
     }
-    Ok(jails)
 }
 
 /// The configuration of three numbers, one for each jail, of which the first also says which jails there are.
@@ -246,8 +275,5 @@ pub fn defs(alloc: Global, numbers: (u64, u64, u64)) -> Result<Defs, NoMemory>
     let ssh = jail(alloc, "ssh", first, two_families(alloc, first)?)?;
     let mail = jail(alloc, "mail", second, one_action(alloc, second)?)?;
     let web = jail(alloc, "web", third, two_names(alloc, third)?)?;
-    Ok(Defs {
-        purge: purge(first / 8192),
-        jails: jails(alloc, first / 32_768, ssh, mail, web)?,
-    })
+    arranged(alloc, first / 8192, ssh, mail, web)
 }

@@ -49,8 +49,8 @@ fn age(number: u64) -> u64 {
     match number % 24 {
         0..=9 => 0,
         10 | 11 => 10,
-        12 | 13 => 40,
-        14 => 49,
+        12 => 20,
+        13 | 14 => 40,
         15 => 50,
         16 => 150,
         17 => 299,
@@ -95,18 +95,19 @@ impl Source {
         (self.number >> 32) % limit
     }
 
-    /// The next reading of the clock: up to 20 seconds later, at times one of before.
+    /// The next reading of the clock: up to 20 seconds later, mostly whole tens, so that ends and spans are met to the second. At times
+    /// it is one of before.
     fn secs(&mut self) -> u64
         ensures { result ≤ last_moment }
     {
-        let forward = if self.below(2) == 0 {
+        let forward = if self.below(40) == 0 {
             self.below(21)
         } else {
             self.below(3) * 10
         };
         self.clock = self.clock.saturating_add(forward);
         let back = if self.below(12) == 0 {
-            self.below(400)
+            self.below(40) * 10
         } else {
             0
         };
@@ -118,8 +119,11 @@ impl Source {
         }
     }
 
-    /// One of the addresses, the first ones more often.
+    /// One of the addresses: at times the one of these ten minutes, and else the first ones more often.
     fn addr(&mut self) -> Addr {
+        if self.below(4) == 0 {
+            return address(self.clock / 600);
+        }
         let one = self.below(40);
         let other = self.below(40);
         address(one.min(other))
@@ -149,13 +153,24 @@ impl Source {
         })
     }
 
-    /// A failure of an address, mostly a little before now, at times just outside of a `findtime` or after now.
-    fn failure(&mut self, addr: Addr, secs: u64) -> Result<Failure, NoMemory> {
+    /// The time of a failure: mostly a little before now, at times just outside of a `findtime` or after now. Most times are whole
+    /// fifties, as each `findtime` is, so that failures often stand just one `findtime` apart.
+    fn time(&mut self, secs: u64) -> u64 {
         let time = if self.below(25) == 0 {
             secs.saturating_add(self.below(50))
         } else {
             secs.saturating_sub(age(self.below(24)))
         };
+        if self.below(3) == 0 {
+            time
+        } else {
+            time - time % 50
+        }
+    }
+
+    /// A failure of an address.
+    fn failure(&mut self, addr: Addr, secs: u64) -> Result<Failure, NoMemory> {
+        let time = self.time(secs);
         let line = if self.below(2) == 0 { "odd" } else { "even" };
         Ok(Failure {
             addr,
