@@ -28,7 +28,7 @@ pub fn is_banned(jail: &SlowJail, addr: Addr) -> bool {
 }
 
 /// Whether the numbers of a rule are within their bounds. Those of each input that is taken are.
-fn is_rule(rule: &BanRule) -> bool
+pub fn is_rule(rule: &BanRule) -> bool
     ensures { result ≡ true → IsRule rule.now }
 {
     rule.base <= MAX_SECS as i64

@@ -8,6 +8,8 @@
 
 mod bans;
 #[cfg(test)]
+mod bounded;
+#[cfg(test)]
 mod configurations;
 mod failures;
 #[cfg(test)]

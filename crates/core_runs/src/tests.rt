@@ -3,6 +3,7 @@ ghost use Rattle.std.specs.Prelude.{◌<◌};
 
 use crate::Slow;
 use crate::bans::LAST_MOMENT;
+use crate::bounded::is_bounded_view;
 use crate::inputs::Source;
 use f2b_base::{Job, JobKind, NoMemory, What};
 use f2b_model::Happening;
@@ -150,13 +151,35 @@ fn compare(rt: &impl Abort, run: &Run, number: u64) -> Result<(), NoMemory> {
     Ok(())
 }
 
-/// So many inputs, with a look at the views each so many.
+/// The core is made anew from what is stored of it.
+fn made_anew(rt: &impl Abort, alloc: Global, run: Run, number: u64) -> Result<Run, NoMemory> {
+    let Run {
+        core,
+        slow,
+        source,
+        tally,
+    } = run;
+    let view = core.view()?;
+    assert!(rt;
+        is_bounded_view(&view),
+        "the bounds of the view after input {number}"
+    );
+    Ok(Run {
+        core: Core::of(alloc, &view)?,
+        slow,
+        source,
+        tally,
+    })
+}
+
+/// So many inputs, with a look at the views each so many; and each so many the core is made anew.
 fn run_of(
     rt: &impl Abort,
     alloc: Global,
     source: Source,
     inputs: u64,
     pace: u64,
+    stay: u64,
 ) -> Result<Run, NoMemory> {
     let mut run = Run {
         core: Core::empty(alloc),
@@ -168,6 +191,9 @@ fn run_of(
         run = step(rt, alloc, run, number)?;
         if number % pace.max(1) == 0 {
             compare(rt, &run, number)?;
+        }
+        if number % stay.max(1) == 0 {
+            run = made_anew(rt, alloc, run, number)?;
         }
     }
     Ok(run)
@@ -185,7 +211,7 @@ fn least(kinds: &[u64]) -> u64 {
 fn ten_thousand_inputs_do_what_the_slow_step_does(rt: HostRuntime) -> Result<(), Fail> {
     let alloc = rt.alloc();
     let source = Source::new(alloc, 1, 1_700_000_000);
-    let run = run_of(&rt, alloc, source, 10_000, 100)?;
+    let run = run_of(&rt, alloc, source, 10_000, 20, u64::MAX)?;
     let tally = &run.tally;
     assert!(rt; tally.counted > 2500, "{tally:?}");
     assert!(rt; tally.begun > 600, "{tally:?}");
@@ -199,10 +225,19 @@ fn ten_thousand_inputs_do_what_the_slow_step_does(rt: HostRuntime) -> Result<(),
 }
 
 #[test]
+fn a_core_that_is_made_anew_goes_on(rt: HostRuntime) -> Result<(), Fail> {
+    let alloc = rt.alloc();
+    let source = Source::new(alloc, 3, 1_700_000_000);
+    let run = run_of(&rt, alloc, source, 5_000, 20, 500)?;
+    assert!(rt; run.tally.begun > 300);
+    Ok(())
+}
+
+#[test]
 fn the_last_moment_is_reached(rt: HostRuntime) -> Result<(), Fail> {
     let alloc = rt.alloc();
     let source = Source::new(alloc, 2, LAST_MOMENT - 6000);
-    let run = run_of(&rt, alloc, source, 1_000, 10)?;
+    let run = run_of(&rt, alloc, source, 1_000, 10, 100)?;
     assert!(rt; run.tally.begun > 50);
     assert!(rt; run.core.now() == LAST_MOMENT);
     Ok(())
