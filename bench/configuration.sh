@@ -1,16 +1,8 @@
 #!/bin/sh
 # Measures how fast a configuration at its limits is merged, 4,096 files of 16 MiB in all, and how long 10,000 values of it take, each
 # ten references deep. Makes a program of its own over the crate ini_interp in a folder that it removes. Needs the kit's command rt.
-set -eu
-cd "$(dirname "$0")/.."
-room=$(mktemp -d)
-trap 'rm -rf "$room"' EXIT
-mkdir -p "$room/crates/configuration_bench/src"
-cp -R crates/f2b_base crates/ini_interp "$room/crates/"
-git -C "$room" init -q
-grep -E '^(f2b_base|ini_interp):' crates.txt >"$room/crates.txt"
-echo 'configuration_bench: f2b_base ini_interp' >>"$room/crates.txt"
-cat >"$room/crates/configuration_bench/src/main.rt" <<'PROGRAM'
+. "$(dirname "$0")/program.sh"
+program_over configuration_bench f2b_base ini_interp <<'PROGRAM'
 //! Merges a configuration at its limits, and asks for values of it.
 #![tactic(auto)]
 
@@ -88,6 +80,4 @@ fn main(rt: HostRuntime) -> io::Result<()> {
     println!(rt; "{found} values, each ten references deep: {asked} ms")
 }
 PROGRAM
-cd "$room/crates/configuration_bench"
-rt run >"$room/said" 2>"$room/log" || { cat "$room/log" "$room/said"; exit 1; }
 cat "$room/said"

@@ -2,19 +2,8 @@
 # Measures the step of the server in code: how many inputs of a busy day the core takes, on one core, and how much memory it has for
 # active bans and open failures. Makes a program of its own over the crate jail_core in a folder that it removes. Needs the kit's
 # command rt, and python3.
-set -eu
-cd "$(dirname "$0")/.."
-room=$(mktemp -d)
-trap 'rm -rf "$room"' EXIT
-below='f2b_base f2b_model action_queue fail_window ban_table jail_moves ini_interp tag_subst lane_moves jail_rooms jail_core'
-mkdir -p "$room/crates/core_bench/src"
-for crate in $below; do
-    cp -R "crates/$crate" "$room/crates/"
-    grep "^$crate:" crates.txt >>"$room/crates.txt"
-done
-git -C "$room" init -q
-echo "core_bench: $below" >>"$room/crates.txt"
-cat >"$room/crates/core_bench/src/main.rt" <<'PROGRAM'
+. "$(dirname "$0")/program.sh"
+program_over core_bench f2b_base f2b_model action_queue fail_window ban_table jail_moves ini_interp tag_subst lane_moves jail_rooms jail_core <<'PROGRAM'
 //! Takes the inputs of days by the core, and prints what they did, what that took, and what stands at the end.
 #![tactic(auto)]
 
@@ -370,7 +359,4 @@ fn main(rt: HostRuntime) -> io::Result<()> {
     Ok(())
 }
 PROGRAM
-cd "$room/crates/core_bench"
-rt run >"$room/log" 2>&1 || { cat "$room/log"; exit 1; }
-cd - >/dev/null
-python3 -B bench/core.py "$room/crates/core_bench/out/core_bench"
+python3 -B bench/core.py "$program"

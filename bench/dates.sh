@@ -1,16 +1,8 @@
 #!/bin/sh
 # Measures how fast dates of lines are found, beside Python's re with the same six patterns in the same order, on one core. Makes a
 # program of its own over the crate date_detect in a folder that it removes. Needs the kit's command rt, and python3.
-set -eu
-cd "$(dirname "$0")/.."
-room=$(mktemp -d)
-trap 'rm -rf "$room"' EXIT
-mkdir -p "$room/crates/dates_bench/src"
-cp -R crates/f2b_base crates/f2b_world crates/date_detect "$room/crates/"
-git -C "$room" init -q
-grep -E '^(f2b_base|f2b_world|date_detect):' crates.txt >"$room/crates.txt"
-echo 'dates_bench: f2b_base f2b_world date_detect' >>"$room/crates.txt"
-cat >"$room/crates/dates_bench/src/main.rt" <<'PROGRAM'
+. "$(dirname "$0")/program.sh"
+program_over dates_bench f2b_base f2b_world date_detect <<'PROGRAM'
 //! Finds the dates of the lines of a file, and prints how many lines have one and what that took.
 #![tactic(auto)]
 ghost use Rattle.date_detect.specs.Forms.{HasDatePattern};
@@ -97,7 +89,4 @@ fn main(rt: HostRuntime) -> io::Result<()> {
     Ok(())
 }
 PROGRAM
-cd "$room/crates/dates_bench"
-rt run >"$room/log" 2>&1 || { cat "$room/log"; exit 1; }
-cd - >/dev/null
-python3 -B bench/dates.py "$room/crates/dates_bench/out/dates_bench"
+python3 -B bench/dates.py "$program"

@@ -1,19 +1,8 @@
 #!/bin/sh
 # Measures how fast the findings of lines are made by a filter of sshd, beside Python's re with the same patterns in the same order, on
 # one core. Makes a program of its own over the crate filter_regex in a folder that it removes. Needs the kit's command rt, and python3.
-set -eu
-cd "$(dirname "$0")/.."
-room=$(mktemp -d)
-trap 'rm -rf "$room"' EXIT
-below='f2b_base f2b_world host_ident ignore_set date_detect filter_regex'
-mkdir -p "$room/crates/findings_bench/src"
-for crate in $below; do
-    cp -R "crates/$crate" "$room/crates/"
-    grep "^$crate:" crates.txt >>"$room/crates.txt"
-done
-git -C "$room" init -q
-echo "findings_bench: $below" >>"$room/crates.txt"
-cat >"$room/crates/findings_bench/src/main.rt" <<'PROGRAM'
+. "$(dirname "$0")/program.sh"
+program_over findings_bench f2b_base f2b_world host_ident ignore_set date_detect filter_regex <<'PROGRAM'
 //! Makes the findings of the lines of a file, and prints how many of them are failures and what that took.
 #![tactic(auto)]
 ghost use Rattle.std.specs.Prelude.{IfOk};
@@ -156,7 +145,4 @@ fn main(rt: HostRuntime) -> io::Result<()> {
     Ok(())
 }
 PROGRAM
-cd "$room/crates/findings_bench"
-rt run >"$room/log" 2>&1 || { cat "$room/log"; exit 1; }
-cd - >/dev/null
-python3 -B bench/findings.py "$room/crates/findings_bench/out/findings_bench"
+python3 -B bench/findings.py "$program"
