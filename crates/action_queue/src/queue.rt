@@ -1,6 +1,7 @@
 //! The queues of lanes: the ids of each lane's jobs, in order. No job is looked at here.
 ghost use Rattle.std.specs.Prelude.{◌≡◌, position, slice_get, OnOk, OnErr};
-ghost use Rattle.f2b_model.specs.Families.{same_family, same_lane};
+ghost use Rattle.f2b_base.specs.Families.{same_family};
+ghost use Rattle.f2b_model.specs.Families.{same_lane};
 ghost use Rattle.action_queue.specs.Queues.{is_queue, ids_of, AreQueues, Added, Dropped, SameIds};
 
 use f2b_base::{Family, LaneId, NoMemory, Plain};

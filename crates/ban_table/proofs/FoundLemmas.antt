@@ -8,7 +8,7 @@ use Rattle.std.proofs.lemmas.Bool.Decides.{nat_tests}
 use Rattle.std.proofs.lemmas.List.{take_more, take_all}
 use Rattle.f2b_base.specs.declared.addr.Addr.{Addr}
 use Rattle.f2b_base.specs.declared.ban.Ban.{Ban}
-use Rattle.f2b_model.specs.Full.{same_addr}
+use Rattle.f2b_base.specs.Addresses.{same_addr}
 use Rattle.f2b_model.specs.Lists.{AllOf}
 use Rattle.f2b_model.specs.Moves.{ban_of, is_banned}
 use Rattle.f2b_model.specs.Sound.{IsOnceEach, IsRisingSerials}

@@ -14,7 +14,7 @@ use Rattle.f2b_base.specs.declared.addr.Addr.TheVariants.{V4, V6}
 use Rattle.f2b_base.specs.declared.ban.Ban.{Ban}
 use Rattle.f2b_base.specs.declared.ban.Until.{Until}
 use Rattle.f2b_base.specs.declared.ban.Until.TheVariants.{Never, At}
-use Rattle.f2b_model.specs.Full.{same_addr}
+use Rattle.f2b_base.specs.Addresses.{same_addr}
 use Rattle.f2b_model.specs.Lists.{AllOf, IsIn, placed}
 use Rattle.f2b_model.specs.Moves.{ban_of, is_banned}
 use Rattle.f2b_model.specs.Sound.{IsOnceEach, IsRisingSerials}

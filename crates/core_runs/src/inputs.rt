@@ -1,7 +1,7 @@
 //! A seeded source of pseudo-random inputs for three jails.
 ghost use Rattle.std.specs.Prelude.{◌≡◌, ◌≤◌, ◌<◌, IfOk};
 ghost use Rattle.f2b_model.specs.Sound.{IsFitWhat};
-ghost use Rattle.f2b_model.specs.Until.{last_moment};
+ghost use Rattle.f2b_base.specs.Limits.{last_moment};
 ghost use Rattle.jail_rooms.specs.Kept.{IsBoundedWhat, IsTaken};
 
 use crate::bans::LAST_MOMENT;

@@ -1,5 +1,5 @@
 -- Addresses, and the texts that spell them (RFC 4291, section 2.2; RFC 5952, section 4).
-use Rattle.std.specs.Prelude.{◌≡◌, ◌≢◌, ℕ, ◌/◌, ◌%◌, ◌^◌, ◌<◌, Bool, ◌==◌, List, Option, option_map, if◌then◌else◌}
+use Rattle.std.specs.Prelude.{◌≡◌, ◌≢◌, ℕ, ◌/◌, ◌%◌, ◌^◌, ◌<◌, Bool, false, ◌==◌, List, Option, option_map, if◌then◌else◌}
 use Rattle.std.specs.Option.{option_or}
 use Rattle.std.specs.Int.{w32, w128, to_be_bytes, from_be_bytes}
 use Rattle.std.specs.Net.Addr.{segments_of, octets_of}
@@ -10,6 +10,13 @@ use Rattle.f2b_base.specs.declared.addr.Addr.{Addr}
 use Rattle.f2b_base.specs.declared.addr.Addr.TheVariants.{V4, V6}
 
 -- ---- values
+
+-- whether two addresses are one
+abbrev pub same_addr : Addr → Addr → Bool
+same_addr (V4 a) (V4 b) = a == b
+same_addr (V6 a) (V6 b) = a == b
+same_addr (V4 a) (V6 b) = false
+same_addr (V6 a) (V4 b) = false
 
 -- the number is in ::ffff:0:0/96, whose addresses stand for IPv4 ones
 abbrev pub is_mapped : ℕ → Bool

@@ -1,4 +1,7 @@
 //! Addresses of hosts, and masks over them.
+ghost use Rattle.std.specs.Prelude.{◌≡◌};
+ghost use Rattle.f2b_base.specs.Addresses.{same_addr};
+ghost use Rattle.f2b_base.specs.Families.{same_family};
 
 mod mask;
 mod print;
@@ -32,6 +35,33 @@ pub enum Family {
     Both,
     Inet4,
     Inet6,
+}
+
+impl Addr {
+    /// Whether the two addresses are one.
+    pub fn same(self, other: Addr) -> bool
+        ensures { result ≡ same_addr self other }
+    {
+        match (self, other) {
+            (Addr::V4(one), Addr::V4(two)) => one == two,
+            (Addr::V6(one), Addr::V6(two)) => one == two,
+            (Addr::V4(_), Addr::V6(_)) | (Addr::V6(_), Addr::V4(_)) => false,
+        }
+    }
+}
+
+impl Family {
+    /// Whether the two families are one.
+    pub fn same(self, other: Family) -> bool
+        ensures { result ≡ same_family self other }
+    {
+        match (self, other) {
+            (Family::Both, Family::Both) => true,
+            (Family::Inet4, Family::Inet4) => true,
+            (Family::Inet6, Family::Inet6) => true,
+            _ => false,
+        }
+    }
 }
 
 impl Plain for Addr {

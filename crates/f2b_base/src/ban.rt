@@ -20,7 +20,8 @@ pub struct Failure {
     pub addr: Addr,
     /// In seconds since 1970, below 2^40.
     pub time: u64,
-    /// The line that was matched. It is empty until lines are kept.
+    /// The line that was matched, with its date, as far as it is kept: `kept_line` of it. It is empty where no line was matched,
+    /// and where no command of the jail shows lines.
     pub line: Text,
 }
 

@@ -69,6 +69,11 @@ pub enum What {
         jail: Text,
         idle: bool,
     },
+    /// The check of a job's lane failed, before a try of the job.
+    CheckFailed {
+        job: u64,
+        outcome: Outcome,
+    },
 }
 
 /// What happened, and when.
@@ -134,6 +139,10 @@ impl Plain for What {
             What::Idle { jail, idle } => Ok(What::Idle {
                 jail: jail.copy()?,
                 idle: *idle,
+            }),
+            What::CheckFailed { job, outcome } => Ok(What::CheckFailed {
+                job: *job,
+                outcome: *outcome,
             }),
         }
     }

@@ -28,6 +28,8 @@ pub enum JobKind {
     Stop,
     Ban,
     Unban,
+    /// Bans once more, with the command of `Ban`, after its lane was started again.
+    Reban,
 }
 
 /// A job that is not settled.

@@ -11,6 +11,8 @@ mod bytes;
 mod input;
 mod jail;
 mod job;
+mod limits;
+mod line;
 mod memory;
 mod outside;
 mod plain;
@@ -27,6 +29,10 @@ pub use bytes::Bytes;
 pub use input::{Input, What};
 pub use jail::{ActionDef, DateSpec, Defs, JailDef, Place, WatchDef};
 pub use job::{Job, JobKind, LaneId, Outcome, Settled, UpLane};
+pub use limits::{
+    DEFAULT_PURGE, HEAD_BYTES, KEPT_LINE_BYTES, LAST_MOMENT, LATEST_READING, LOOK_BYTES,
+};
+pub use line::kept_line;
 pub use memory::NoMemory;
 pub use outside::{FileLook, Reading, Tree, TreeAnswer, TreeFile};
 pub use plain::Plain;

@@ -10,7 +10,7 @@ use Rattle.std.specs.Prelude.{is_some}
 use Rattle.std.proofs.Common.{subst}
 use Rattle.f2b_base.specs.declared.job.LaneId.{LaneId}
 use Rattle.f2b_model.specs.LaneSound.{AreBelow, AreMade, AllStand, AreInOrder, IsOrdered}
-use Rattle.f2b_model.specs.Until.{last_moment}
+use Rattle.f2b_base.specs.Limits.{last_moment}
 use Rattle.f2b_model.proofs.JobLemmas.{none_of, AreBelow_more}
 use Rattle.f2b_model.proofs.OrderLemmas.{rises}
 

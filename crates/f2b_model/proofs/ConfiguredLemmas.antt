@@ -9,7 +9,8 @@ use Rattle.f2b_base.specs.declared.jail.ActionDef.{ActionDef}
 use Rattle.f2b_base.specs.declared.jail.Defs.{Defs}
 use Rattle.f2b_base.specs.declared.job.UpLane.{UpLane}
 use Rattle.f2b_model.specs.declared.happening.Happening.{Happening}
-use Rattle.f2b_model.specs.Families.{same_action, same_family, same_up}
+use Rattle.f2b_base.specs.Families.{same_family}
+use Rattle.f2b_model.specs.Families.{same_action, same_up}
 use Rattle.f2b_model.specs.LaneSound.{AreApart}
 use Rattle.f2b_model.specs.Lanes.{Books, Lanes, issue, lane_up, all_up, others_down, missing_up, lanes_step, lanes_of}
 use Rattle.f2b_model.specs.Lists.{IsIn}

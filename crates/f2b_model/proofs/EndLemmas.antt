@@ -9,7 +9,7 @@ use Rattle.f2b_base.specs.declared.ban.Past.{Past}
 use Rattle.f2b_base.specs.declared.ban.Until.{Until}
 use Rattle.f2b_base.specs.declared.ban.Until.TheVariants.{Never, At}
 use Rattle.f2b_model.specs.Lists.{AllOf, in_order, placed, placed_all, IsIn, IsInOrder, NoneBefore, IsOrder}
-use Rattle.f2b_model.specs.Full.{same_addr}
+use Rattle.f2b_base.specs.Addresses.{same_addr}
 use Rattle.f2b_model.specs.State.{Jail, open_of, active_of, kept_of}
 use Rattle.f2b_model.specs.Moves.{ban_of, is_banned, ended}
 use Rattle.f2b_model.specs.Steps.{moves, is_due, is_due_by, end_of, own_end, ends_before, end_all, ended_by_time}

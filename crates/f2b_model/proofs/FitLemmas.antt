@@ -12,7 +12,7 @@ use Rattle.f2b_base.specs.declared.jail.Defs.{Defs}
 use Rattle.f2b_base.specs.declared.jail.JailDef.{JailDef}
 use Rattle.f2b_base.specs.declared.job.LaneId.{LaneId}
 use Rattle.f2b_base.specs.declared.job.UpLane.{UpLane}
-use Rattle.f2b_model.specs.Families.{same_family}
+use Rattle.f2b_base.specs.Families.{same_family}
 use Rattle.f2b_model.specs.LaneSound.{AreApart, AtMostOne, IsFitForLanes}
 use Rattle.f2b_model.specs.Lanes.{lanes_of, lanes_of_jail}
 use Rattle.f2b_model.specs.Lists.{AllOf, AreDistinct}

@@ -6,7 +6,7 @@ use Rattle.f2b_base.specs.declared.addr.Addr.{Addr}
 use Rattle.f2b_base.specs.declared.ban.Ban.{Ban as Banned}
 use Rattle.f2b_model.specs.declared.happening.Happening.{Happening}
 use Rattle.f2b_model.specs.declared.happening.Happening.TheVariants.{Counts, Begins, Ends}
-use Rattle.f2b_model.specs.Full.{same_addr}
+use Rattle.f2b_base.specs.Addresses.{same_addr}
 use Rattle.f2b_model.specs.LaneSound.{Follows, follow_one, follow_told}
 use Rattle.f2b_model.specs.Orders.{Held, is_held_of, is_active}
 use Rattle.f2b_model.proofs.SameLemmas.{bytes_eq-true, same_addr-true}

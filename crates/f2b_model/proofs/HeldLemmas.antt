@@ -16,7 +16,7 @@ use Rattle.f2b_base.specs.declared.jail.JailDef.{JailDef}
 use Rattle.f2b_model.specs.declared.happening.Happening.{Happening}
 use Rattle.f2b_model.specs.declared.jail_now.JailNow.{JailNow}
 use Rattle.f2b_model.specs.Active.{held_in, held_by, held}
-use Rattle.f2b_model.specs.Full.{same_addr}
+use Rattle.f2b_base.specs.Addresses.{same_addr}
 use Rattle.f2b_model.specs.LaneSound.{AtMostOne, IsBanStep, Follows, AreAlike, NonePasses, follow_told, led_to}
 use Rattle.f2b_model.specs.Lists.{AllOf, AreDistinct, in_order}
 use Rattle.f2b_model.specs.Moves.{Out, is_banned}

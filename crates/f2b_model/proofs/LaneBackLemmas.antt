@@ -14,7 +14,7 @@ use Rattle.f2b_model.specs.LaneSound.{AllStand, AreInOrder, IsOrdered, AreSoundL
 use Rattle.f2b_model.specs.Lanes.{Lanes, books, books_now, lanes_step, lanes_now, lanes_from}
 use Rattle.f2b_model.specs.Orders.{Held}
 use Rattle.f2b_model.specs.Turns.{Order, order_of, touches, turn, follow}
-use Rattle.f2b_model.specs.Until.{last_moment}
+use Rattle.f2b_base.specs.Limits.{last_moment}
 use Rattle.f2b_model.proofs.AlternateLemmas.{order_stands}
 use Rattle.f2b_model.proofs.BackLemmas.{pending-back_from, back_ordered}
 use Rattle.f2b_model.proofs.LaneNowLemmas.{lanes_now_step}

@@ -12,7 +12,7 @@ use Rattle.f2b_base.specs.declared.job.JobKind.TheVariants.{Start, Stop, Ban, Un
 use Rattle.f2b_base.specs.declared.job.LaneId.{LaneId}
 use Rattle.f2b_base.specs.declared.job.UpLane.{UpLane}
 use Rattle.f2b_model.specs.Families.{in_family, same_lane}
-use Rattle.f2b_model.specs.Full.{same_addr}
+use Rattle.f2b_base.specs.Addresses.{same_addr}
 use Rattle.f2b_model.specs.Jobs.{Ledger}
 use Rattle.f2b_model.specs.LaneSound.{AtMostOne, IsHeldOnce, IsInTurn, is_banned_in}
 use Rattle.f2b_model.specs.Lanes.{Lanes, books, issue, lane_down, lane_up}

@@ -14,7 +14,7 @@ use Rattle.f2b_model.specs.LaneSound.{IsBanStep, IsFitForLanes, IsOrdered, AreSo
 use Rattle.f2b_model.specs.Lanes.{Books, Lanes, books, issue, lane_down, lane_up, all_down, all_up, try_ended, others_down, lanes_configured, lanes_done, lanes_step, lanes_of, is_among, first_lanes}
 use Rattle.f2b_model.specs.Orders.{Held, lane_id, is_lane, is_up, down_orders, up_orders, told_orders}
 use Rattle.f2b_model.specs.Turns.{Order}
-use Rattle.f2b_model.specs.Until.{last_moment}
+use Rattle.f2b_base.specs.Limits.{last_moment}
 use Rattle.f2b_model.proofs.InLemmas.{in_any, no_elements}
 use Rattle.f2b_model.proofs.LaneStepLemmas.{up_after_down, turn_kept}
 use Rattle.f2b_model.proofs.OrderLemmas.{jobs_keep, ending_keeps}

@@ -9,7 +9,8 @@ use Rattle.f2b_base.specs.declared.ban.Failure.{Failure}
 use Rattle.f2b_model.specs.declared.happening.Happening.{Happening}
 use Rattle.f2b_model.specs.declared.happening.Happening.TheVariants.{Counts, Begins, Ends}
 use Rattle.f2b_model.specs.declared.jail_now.JailNow.{JailNow}
-use Rattle.f2b_model.specs.Full.{same_addr, is_full}
+use Rattle.f2b_base.specs.Addresses.{same_addr}
+use Rattle.f2b_model.specs.Full.{is_full}
 use Rattle.f2b_model.specs.LaneSound.{follow_told}
 use Rattle.f2b_model.specs.Lists.{AllOf, in_order, placed, placed_all}
 use Rattle.f2b_model.specs.Moves.{counts, ban_of, is_banned, is_near, new_ban}

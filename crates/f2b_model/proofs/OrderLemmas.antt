@@ -10,7 +10,7 @@ use Rattle.f2b_model.specs.Families.{same_lane}
 use Rattle.f2b_model.specs.Jobs.{Ending, Ledger, endings_of, is_settled, due_after, stands_by, stands, pending, head, has_id, after_ending, with_jobs, with_ending, IsPendingJob, ArePending}
 use Rattle.f2b_model.specs.Turns.{Order, numbered}
 use Rattle.f2b_model.specs.LaneSound.{AreBelow, AreMade, AllStand, AreInOrder, IsOrdered}
-use Rattle.f2b_model.specs.Until.{last_moment}
+use Rattle.f2b_base.specs.Limits.{last_moment}
 use Rattle.f2b_model.proofs.JobLemmas.{three, stands_more, none_of, AreBelow_more}
 use Rattle.f2b_model.proofs.SameLemmas.{same_lane-true}
 

@@ -10,7 +10,8 @@ use Rattle.f2b_base.specs.declared.ban.Past.{Past}
 use Rattle.f2b_base.specs.declared.ban.Until.{Until}
 use Rattle.f2b_base.specs.declared.ban.Until.TheVariants.{Never, At}
 use Rattle.f2b_model.specs.Lists.{AllOf}
-use Rattle.f2b_model.specs.Full.{same_addr, is_of}
+use Rattle.f2b_base.specs.Addresses.{same_addr}
+use Rattle.f2b_model.specs.Full.{is_of}
 use Rattle.f2b_model.specs.Moves.{ban_of, is_banned}
 use Rattle.f2b_model.specs.Sound.{IsNotBefore, IsOnceEach, IsRisingEnds, IsOver, IsOrderly}
 use Rattle.f2b_model.proofs.ListLemmas.{by_test}

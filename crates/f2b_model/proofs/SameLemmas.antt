@@ -8,8 +8,9 @@ use Rattle.f2b_base.specs.declared.addr.Addr.TheVariants.{V4, V6}
 use Rattle.f2b_base.specs.declared.addr.Family.{Family}
 use Rattle.f2b_base.specs.declared.addr.Family.TheVariants.{Both, Inet4, Inet6}
 use Rattle.f2b_base.specs.declared.job.LaneId.{LaneId}
-use Rattle.f2b_model.specs.Families.{same_family, same_lane}
-use Rattle.f2b_model.specs.Full.{same_addr}
+use Rattle.f2b_base.specs.Families.{same_family}
+use Rattle.f2b_model.specs.Families.{same_lane}
+use Rattle.f2b_base.specs.Addresses.{same_addr}
 
 pub bytes_eq-true : (xs ys : List ℕ) → bytes_eq xs ys ≡ true → xs ≡ ys
 bytes_eq-true xs ys h = (bytes_decides xs ys).0 h

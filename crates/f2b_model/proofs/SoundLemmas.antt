@@ -9,14 +9,16 @@ use Rattle.f2b_base.specs.declared.addr.Cidr.{Cidr}
 use Rattle.f2b_base.specs.declared.ban.BanRule.{BanRule}
 use Rattle.f2b_base.specs.declared.ban.Failure.{Failure}
 use Rattle.f2b_base.specs.declared.jail.JailDef.{JailDef}
-use Rattle.f2b_model.specs.Full.{same_addr, is_of, in_span, IsFull, is_full}
+use Rattle.f2b_base.specs.Addresses.{same_addr}
+use Rattle.f2b_model.specs.Full.{is_of, in_span, IsFull, is_full}
 use Rattle.f2b_model.specs.State.{Counted, Jail, open_of, active_of, kept_of, forget}
 use Rattle.f2b_model.specs.Nows.{jail_now}
 use Rattle.f2b_model.specs.Moves.{counts, counted, begun, found, banned, limited, is_banned, is_near, is_stale, new_ban, kept}
 use Rattle.f2b_base.specs.declared.ban.Span.{Span}
 use Rattle.f2b_base.specs.declared.ban.Span.TheVariants.{Secs, Never as Endless}
 use Rattle.f2b_base.specs.Span.{span_of}
-use Rattle.f2b_model.specs.Until.{last_moment, until_after, until_of}
+use Rattle.f2b_base.specs.Limits.{last_moment}
+use Rattle.f2b_model.specs.Until.{until_after, until_of}
 use Rattle.f2b_model.specs.Lists.{in_order}
 use Rattle.f2b_model.specs.Steps.{moves, moves_now, is_due, own_end, ends_before, is_meant}
 use Rattle.f2b_model.specs.Sound.{IsSoundJail, IsGoodJail, IsNotBefore}

@@ -15,7 +15,7 @@ use Rattle.f2b_model.specs.Lists.{AllOf, in_order}
 use Rattle.f2b_model.specs.State.{World, world_map}
 use Rattle.f2b_model.specs.Moves.{Out}
 use Rattle.f2b_model.specs.Steps.{Moves, Outs, with_outs, is_spent, is_due, own_end, ends_before, is_meant, is_meant_jail, end_all, ended_by_time, unbanned, in_jail, find_jail, kept_or_fresh, configured, at_jail, alone, watches_path, is_followed, followed_to, found_all, read_all, ban_all, done, each_jail, raised, step_by}
-use Rattle.f2b_model.specs.Until.{last_moment}
+use Rattle.f2b_base.specs.Limits.{last_moment}
 use Rattle.f2b_model.specs.Watches.{is_watched}
 use Rattle.f2b_model.specs.Sound.{IsFitWhat, IsFit}
 use Rattle.f2b_model.proofs.ListLemmas.{by_test}

@@ -4,16 +4,10 @@ use Rattle.f2b_base.specs.declared.addr.Addr.{Addr}
 use Rattle.f2b_base.specs.declared.addr.Addr.TheVariants.{V4, V6}
 use Rattle.f2b_base.specs.declared.addr.Family.{Family}
 use Rattle.f2b_base.specs.declared.addr.Family.TheVariants.{Both, Inet4, Inet6}
+use Rattle.f2b_base.specs.Families.{same_family}
 use Rattle.f2b_base.specs.declared.jail.ActionDef.{ActionDef}
 use Rattle.f2b_base.specs.declared.job.LaneId.{LaneId}
 use Rattle.f2b_base.specs.declared.job.UpLane.{UpLane}
-
--- whether two families are one
-abbrev pub same_family : Family → Family → Bool
-same_family Both Both = true
-same_family Inet4 Inet4 = true
-same_family Inet6 Inet6 = true
-same_family _ _ = false
 
 -- whether an address is of a family: each is of Both
 abbrev pub in_family : Family → Addr → Bool

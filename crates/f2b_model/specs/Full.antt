@@ -1,17 +1,10 @@
 -- When an address has failed too often.
-use Rattle.std.specs.Prelude.{◌≡◌, ℕ, ◌+◌, ◌*◌, ◌<◌, ◌≤◌, Bool, false, ◌&&◌, ◌==◌, nat_lt, nat_le, List, [], ◌∷◌, length, filter}
+use Rattle.std.specs.Prelude.{◌≡◌, ℕ, ◌+◌, ◌*◌, ◌<◌, ◌≤◌, Bool, ◌&&◌, nat_lt, nat_le, List, [], ◌∷◌, length, filter}
 use Rattle.std.specs.List.{list_any}
 use Rattle.f2b_base.specs.declared.addr.Addr.{Addr}
-use Rattle.f2b_base.specs.declared.addr.Addr.TheVariants.{V4, V6}
+use Rattle.f2b_base.specs.Addresses.{same_addr}
 use Rattle.f2b_base.specs.declared.ban.Failure.{Failure}
 use Rattle.f2b_model.specs.Lists.{IsIn}
-
--- whether two addresses are one
-abbrev pub same_addr : Addr → Addr → Bool
-same_addr (V4 a) (V4 b) = a == b
-same_addr (V6 a) (V6 b) = a == b
-same_addr (V4 a) (V6 b) = false
-same_addr (V6 a) (V4 b) = false
 
 -- whether a failure is the address's
 abbrev pub is_of : Addr → Failure → Bool

@@ -15,7 +15,7 @@ use Rattle.f2b_model.specs.Lanes.{Lanes, books, books_now, lanes_step, first_lan
 use Rattle.f2b_model.specs.Lists.{IsIn}
 use Rattle.f2b_model.specs.Orders.{Held}
 use Rattle.f2b_model.specs.Turns.{Order, numbered, bans_and_unbans, Alternate, last_is_ban}
-use Rattle.f2b_model.specs.Until.{last_moment}
+use Rattle.f2b_base.specs.Limits.{last_moment}
 
 -- a job may be tried: it is the first pending job of its lane, due, and not running
 pub record MayStart (now : ℕ) (running : List ℕ) (jobs : List Job) (job : Job) : Type 0 where

@@ -9,7 +9,7 @@ use Rattle.f2b_base.specs.declared.job.Outcome.TheVariants.{Status, NotStarted, 
 use Rattle.f2b_base.specs.declared.job.Settled.{Settled}
 use Rattle.f2b_base.specs.declared.job.Settled.TheVariants.{Done, GivenUp, Again}
 use Rattle.f2b_model.specs.Families.{same_lane}
-use Rattle.f2b_model.specs.Until.{last_moment}
+use Rattle.f2b_base.specs.Limits.{last_moment}
 
 -- ---- jobs and their endings
 

@@ -17,7 +17,7 @@ use Rattle.f2b_model.specs.Jobs.{Ending, Ledger, stands}
 use Rattle.f2b_model.specs.Lanes.{Lanes, lanes_of}
 use Rattle.f2b_model.specs.Orders.{Held, is_held_of, is_active, is_lane, is_up}
 use Rattle.f2b_model.specs.Turns.{order_of, turn, follow}
-use Rattle.f2b_model.specs.Until.{last_moment}
+use Rattle.f2b_base.specs.Limits.{last_moment}
 
 -- ---- at most one
 

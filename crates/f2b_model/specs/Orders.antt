@@ -11,14 +11,14 @@ use Rattle.f2b_base.specs.declared.ban.Until.{Until}
 use Rattle.f2b_base.specs.declared.ban.Until.TheVariants.{Never, At}
 use Rattle.f2b_base.specs.declared.jail.ActionDef.{ActionDef}
 use Rattle.f2b_base.specs.declared.job.JobKind.{JobKind}
-use Rattle.f2b_base.specs.declared.job.JobKind.TheVariants.{Start, Stop, Ban, Unban}
+use Rattle.f2b_base.specs.declared.job.JobKind.TheVariants.{Start, Stop, Ban, Unban, Reban}
 use Rattle.f2b_base.specs.declared.job.LaneId.{LaneId}
 use Rattle.f2b_base.specs.declared.job.UpLane.{UpLane}
 use Rattle.f2b_model.specs.declared.fill.Fill.{Fill}
 use Rattle.f2b_model.specs.declared.happening.Happening.{Happening}
 use Rattle.f2b_model.specs.declared.happening.Happening.TheVariants.{Counts, Begins, Ends}
 use Rattle.f2b_model.specs.Families.{in_family, same_lane}
-use Rattle.f2b_model.specs.Full.{same_addr}
+use Rattle.f2b_base.specs.Addresses.{same_addr}
 use Rattle.f2b_model.specs.Render.{rendered}
 use Rattle.f2b_model.specs.Turns.{Order}
 
@@ -61,6 +61,7 @@ template Start action = action.start
 template Stop action = action.stop
 template Ban action = action.ban
 template Unban action = action.unban
+template Reban action = action.ban
 
 -- the address of a ban, if there is one
 abbrev pub addr_in : Option Held → Option Addr

@@ -15,11 +15,11 @@ use Rattle.f2b_base.specs.declared.ban.Until.{Until}
 use Rattle.f2b_base.specs.declared.ban.Until.TheVariants.{Never, At}
 use Rattle.f2b_base.specs.declared.input.What.{What}
 use Rattle.f2b_base.specs.declared.input.What.TheVariants.{Maxretry, Config}
-use Rattle.f2b_model.specs.Families.{same_family}
+use Rattle.f2b_base.specs.Families.{same_family}
 use Rattle.f2b_model.specs.Lists.{AllOf, AreDistinct}
 use Rattle.f2b_model.specs.Full.{IsFull}
 use Rattle.f2b_model.specs.State.{Jail, JailsState, open_of, active_of, kept_of}
-use Rattle.f2b_model.specs.Until.{last_moment}
+use Rattle.f2b_base.specs.Limits.{last_moment}
 use Rattle.f2b_model.specs.Moves.{is_banned}
 use Rattle.f2b_model.specs.Steps.{moves, names}
 use Rattle.f2b_model.specs.Active.{held}

@@ -13,9 +13,9 @@ use Rattle.f2b_base.specs.declared.ban.Until.{Until}
 use Rattle.f2b_base.specs.declared.ban.Until.TheVariants.{Never, At}
 use Rattle.f2b_base.specs.declared.input.What.{What}
 use Rattle.f2b_base.specs.declared.view.WatchView.{WatchView}
-use Rattle.f2b_base.specs.declared.input.What.TheVariants.{Tick, Read, Ended, Config, Stop, Ban as BanThese, Unban, Attempt, Ignore, Findtime, Bantime, Maxretry, Idle}
+use Rattle.f2b_base.specs.declared.input.What.TheVariants.{Tick, Read, Ended, Config, Stop, Ban as BanThese, Unban, Attempt, Ignore, Findtime, Bantime, Maxretry, Idle, CheckFailed}
 use Rattle.f2b_model.specs.Lists.{in_order}
-use Rattle.f2b_model.specs.Full.{same_addr}
+use Rattle.f2b_base.specs.Addresses.{same_addr}
 use Rattle.f2b_model.specs.Watches.{is_watched}
 use Rattle.f2b_model.specs.State.{Jail, World, JailsState, active_of}
 use Rattle.f2b_model.specs.declared.jail_now.JailNow.{JailNow}
@@ -209,8 +209,8 @@ module _ {J : Type 0} (m : Moves J) where
   abbrev pub configured : List JailDef → List J → List J
   configured ds js = map (λ (d : JailDef). kept_or_fresh d (find_jail d.name js)) ds
 
-  -- What happened is done. An attempt is one failure now. The two inputs at the end speak of jobs and of stopping, which are no
-  -- part of the jails.
+  -- What happened is done. An attempt is one failure now. The three inputs at the end speak of jobs and of stopping, which are
+  -- no part of the jails.
   abbrev pub done : ℕ → What → World J → World J
   done word Tick w = w
   done word (Read jail path place fs) w = read_all word jail path place fs w
@@ -225,6 +225,7 @@ module _ {J : Type 0} (m : Moves J) where
   done word (Config defs) w = record w { purge = defs.purge; jails = configured defs.jails w.jails }
   done word (Ended job outcome) w = w
   done word Stop w = w
+  done word (CheckFailed job outcome) w = w
 
   -- a world with each jail changed
   abbrev pub each_jail : (J → J) → World J → World J

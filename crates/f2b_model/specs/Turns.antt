@@ -1,12 +1,12 @@
--- How the Ban and Unban jobs of an address follow one another in a lane.
+-- How the Ban, Reban and Unban jobs of an address follow one another in a lane.
 use Rattle.std.specs.Prelude.{ℕ, ◌+◌, Bool, true, false, ◌&&◌, if◌then◌else◌, Option, Some, None, option_and_then, List, [], ◌∷◌, map, filter}
 use Rattle.f2b_base.specs.declared.addr.Addr.{Addr}
 use Rattle.f2b_base.specs.declared.job.Job.{Job}
 use Rattle.f2b_base.specs.declared.job.JobKind.{JobKind}
-use Rattle.f2b_base.specs.declared.job.JobKind.TheVariants.{Start, Stop, Ban, Unban}
+use Rattle.f2b_base.specs.declared.job.JobKind.TheVariants.{Start, Stop, Ban, Unban, Reban}
 use Rattle.f2b_base.specs.declared.job.LaneId.{LaneId}
 use Rattle.f2b_model.specs.Families.{same_lane}
-use Rattle.f2b_model.specs.Full.{same_addr}
+use Rattle.f2b_base.specs.Addresses.{same_addr}
 
 -- a job without its id, its tries and its due moment
 pub record Order : Type 0 where
@@ -35,11 +35,13 @@ concerns (Some of) addr = same_addr of addr
 abbrev pub touches : LaneId → Addr → Order → Bool
 touches lane addr o = same_lane o.lane lane && concerns o.addr addr
 
--- whether the address is banned in the lane after a job of that kind, or none where such a job may not come: Ban comes where the
--- address is not banned, Unban where it is, Start and Stop where it is not
+-- whether the address is banned in the lane after a job of that kind, or none where such a job may not come: Ban and Reban come
+-- where the address is not banned, Unban where it is, Start and Stop where it is not
 abbrev pub turn : JobKind → Bool → Option Bool
 turn Ban false = Some true
 turn Ban true = None
+turn Reban false = Some true
+turn Reban true = None
 turn Unban true = Some false
 turn Unban false = None
 turn Start false = Some false
@@ -55,29 +57,32 @@ follow lane addr b (o ∷ os) = if touches lane addr o then option_and_then (λ 
 -- whether a job bans or takes a ban back
 abbrev pub is_ban_or_unban : JobKind → Bool
 is_ban_or_unban Ban = true
+is_ban_or_unban Reban = true
 is_ban_or_unban Unban = true
 is_ban_or_unban Start = false
 is_ban_or_unban Stop = false
 
--- the Ban and Unban jobs of an address in a lane, in order
+-- the Ban, Reban and Unban jobs of an address in a lane, in order
 abbrev pub bans_and_unbans : LaneId → Addr → List Job → List JobKind
 bans_and_unbans lane addr jobs = map (λ job. job.kind) (filter (λ job. touches lane addr (order_of job) && is_ban_or_unban job.kind) jobs)
 
--- Ban and Unban in turn, beginning with Ban where the address is not banned before
+-- Ban or Reban and Unban in turn, beginning with Ban or Reban where the address is not banned before
 abbrev pub Alternate : Bool → List JobKind → Type 0
 Alternate b [] = Unit {0}
 Alternate false (Ban ∷ kinds) = Alternate true kinds
+Alternate false (Reban ∷ kinds) = Alternate true kinds
 Alternate true (Unban ∷ kinds) = Alternate false kinds
 Alternate _ _ = ⊥
 
 -- whether a job bans
 abbrev pub is_ban : JobKind → Bool
 is_ban Ban = true
+is_ban Reban = true
 is_ban Unban = false
 is_ban Start = false
 is_ban Stop = false
 
--- whether the last is a Ban, or what was before where there is none
+-- whether the last one bans, or what was before where there is none
 abbrev pub last_is_ban : Bool → List JobKind → Bool
 last_is_ban b [] = b
 last_is_ban b (kind ∷ kinds) = last_is_ban (is_ban kind) kinds

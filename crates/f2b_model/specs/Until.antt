@@ -1,15 +1,12 @@
 -- When a ban ends.
-use Rattle.std.specs.Prelude.{ℕ, ◌+◌, ◌-◌, ◌^◌, min}
+use Rattle.std.specs.Prelude.{ℕ, ◌+◌, min}
 use Rattle.f2b_base.specs.declared.ban.BanRule.{BanRule}
 use Rattle.f2b_base.specs.declared.ban.Span.{Span}
 use Rattle.f2b_base.specs.declared.ban.Span.TheVariants.{Secs, Never as Endless}
 use Rattle.f2b_base.specs.declared.ban.Until.{Until}
 use Rattle.f2b_base.specs.declared.ban.Until.TheVariants.{Never, At}
+use Rattle.f2b_base.specs.Limits.{last_moment}
 use Rattle.f2b_base.specs.Span.{span_of}
-
--- the last second that a moment can be
-abbrev pub last_moment : ℕ
-last_moment = 2 ^ 40 - 1
 
 -- the end of what begins at a moment and lasts a span
 abbrev pub until_after : ℕ → Span → Until

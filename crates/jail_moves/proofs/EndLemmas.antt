@@ -9,7 +9,7 @@ use Rattle.ban_table.proofs.BanLemmas.{all_are, all_others, each_is, is_some_of,
 use Rattle.f2b_base.specs.declared.ban.Ban.{Ban}
 use Rattle.f2b_model.specs.declared.happening.Happening.{Happening}
 use Rattle.f2b_model.specs.declared.happening.Happening.TheVariants.{Ends}
-use Rattle.f2b_model.specs.Full.{same_addr}
+use Rattle.f2b_base.specs.Addresses.{same_addr}
 use Rattle.f2b_model.specs.Lists.{AllOf, IsIn, NoneBefore, in_order, placed, placed_all}
 use Rattle.f2b_model.specs.Moves.{ban_of, is_banned}
 use Rattle.f2b_model.specs.Sound.{IsOnceEach, IsRisingSerials}

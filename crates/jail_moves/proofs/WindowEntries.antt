@@ -13,7 +13,8 @@ use Rattle.ban_table.proofs.IndexLemmas.{key_same}
 use Rattle.f2b_base.specs.declared.addr.Addr.{Addr}
 use Rattle.f2b_base.specs.declared.addr.Addr.TheVariants.{V4, V6}
 use Rattle.f2b_base.specs.declared.ban.Failure.{Failure}
-use Rattle.f2b_model.specs.Full.{same_addr, is_of}
+use Rattle.f2b_base.specs.Addresses.{same_addr}
+use Rattle.f2b_model.specs.Full.{is_of}
 use Rattle.f2b_model.specs.Lists.{AllOf, IsInOrder, NoneBefore}
 use Rattle.f2b_model.specs.Nows.{addr_before, comes_before}
 use Rattle.f2b_model.proofs.EndLemmas.{same_addr_same}

@@ -3,7 +3,8 @@ use Rattle.std.proofs.Common.{◌≡◌, ℕ, ◌+◌, ◌*◌, ◌<◌, ◌≤�
 use Rattle.std.specs.List.{filter}
 use Rattle.f2b_base.specs.declared.addr.Addr.{Addr}
 use Rattle.f2b_base.specs.declared.ban.Failure.{Failure}
-use Rattle.f2b_model.specs.Full.{same_addr, is_of, in_span, IsFull, is_full, is_late}
+use Rattle.f2b_base.specs.Addresses.{same_addr}
+use Rattle.f2b_model.specs.Full.{is_of, in_span, IsFull, is_full, is_late}
 use Rattle.f2b_model.specs.Lists.{AllOf, IsInOrder, placed}
 use Rattle.f2b_model.specs.Moves.{is_near}
 use Rattle.f2b_model.specs.Nows.{comes_before}

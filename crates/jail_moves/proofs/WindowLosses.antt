@@ -8,7 +8,8 @@ use Rattle.std.proofs.lemmas.Bool.Decides.{nat_tests}
 use Rattle.ban_table.specs.Places.{pair_cmp, key_of}
 use Rattle.f2b_base.specs.declared.addr.Addr.{Addr}
 use Rattle.f2b_base.specs.declared.ban.Failure.{Failure}
-use Rattle.f2b_model.specs.Full.{same_addr, is_of, in_span, how_many, IsFull, is_full, is_late}
+use Rattle.f2b_base.specs.Addresses.{same_addr}
+use Rattle.f2b_model.specs.Full.{is_of, in_span, how_many, IsFull, is_full, is_late}
 use Rattle.f2b_model.specs.Lists.{AllOf}
 use Rattle.f2b_model.specs.Moves.{is_near, is_near_to}
 use Rattle.f2b_model.proofs.FullLemmas.{full_of_part, full_of_test, not_true_both, same_test, test_of_full}

@@ -9,7 +9,8 @@ use Rattle.std.proofs.lemmas.List.{drop_more, take_all, take_more}
 use Rattle.ban_table.specs.Places.{pair_cmp}
 use Rattle.f2b_base.specs.declared.addr.Addr.{Addr}
 use Rattle.f2b_base.specs.declared.ban.Failure.{Failure}
-use Rattle.f2b_model.specs.Full.{same_addr, is_of, in_span, how_many, IsFull, is_full, is_late}
+use Rattle.f2b_base.specs.Addresses.{same_addr}
+use Rattle.f2b_model.specs.Full.{is_of, in_span, how_many, IsFull, is_full, is_late}
 use Rattle.f2b_model.specs.Lists.{AllOf, IsInOrder, NoneBefore, in_order, placed}
 use Rattle.f2b_model.specs.Nows.{addr_before, comes_before}
 use Rattle.f2b_model.proofs.EndLemmas.{same_addr_same}

@@ -6,7 +6,8 @@ use Rattle.std.specs.Map.{keys_of, lookup}
 use Rattle.ban_table.specs.Places.{pair_cmp, key_of}
 use Rattle.f2b_base.specs.declared.addr.Addr.{Addr}
 use Rattle.f2b_base.specs.declared.ban.Failure.{Failure}
-use Rattle.f2b_model.specs.Full.{IsFull, is_full, is_late, is_of, same_addr}
+use Rattle.f2b_base.specs.Addresses.{same_addr}
+use Rattle.f2b_model.specs.Full.{IsFull, is_full, is_late, is_of}
 use Rattle.f2b_model.specs.Lists.{AllOf, IsInOrder, placed}
 use Rattle.f2b_model.specs.Moves.{is_near}
 use Rattle.f2b_model.specs.Nows.{comes_before}

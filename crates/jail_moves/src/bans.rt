@@ -2,7 +2,7 @@
 ghost use Rattle.std.specs.Prelude.{◌≡◌, ◌<◌, [], ◌∷◌, ◌++◌, not, false, filter, IfOk};
 ghost use Rattle.f2b_base.specs.declared.ban.Ban.{Ban};
 ghost use Rattle.f2b_base.specs.Span.{IsRule};
-ghost use Rattle.f2b_model.specs.Full.{same_addr};
+ghost use Rattle.f2b_base.specs.Addresses.{same_addr};
 ghost use Rattle.f2b_model.specs.Lists.{AllOf};
 ghost use Rattle.f2b_model.specs.Moves.{is_banned, is_stale, new_ban};
 ghost use Rattle.f2b_model.specs.Until.{until_of};

@@ -4,7 +4,7 @@ ghost use Rattle.ban_table.specs.Tables.{ended};
 ghost use Rattle.f2b_base.specs.declared.ban.Ban.{Ban};
 ghost use Rattle.f2b_model.specs.Lists.{in_order};
 ghost use Rattle.f2b_model.specs.Steps.{ends_before, is_due, own_end};
-ghost use Rattle.f2b_model.specs.Until.{last_moment};
+ghost use Rattle.f2b_base.specs.Limits.{last_moment};
 ghost use Rattle.f2b_model.specs.declared.happening.Happening.TheVariants.{Ends};
 ghost use Rattle.jail_moves.specs.Rooms.{all_ended};
 

@@ -8,7 +8,7 @@ ghost use Rattle.f2b_model.specs.NowMoves.{banned_now, dropped_now, found_now, f
 ghost use Rattle.f2b_model.specs.Sound.{IsOver};
 ghost use Rattle.f2b_model.specs.Steps.{ended_by_time, is_due, is_meant, moves_now, unbanned};
 ghost use Rattle.f2b_model.specs.Told.{told_banned, told_ends, told_found};
-ghost use Rattle.f2b_model.specs.Until.{last_moment};
+ghost use Rattle.f2b_base.specs.Limits.{last_moment};
 ghost use Rattle.f2b_model.specs.Views.{jail_of, jail_view};
 ghost use Rattle.f2b_model.specs.Watches.{is_watched, with_place};
 ghost use Rattle.f2b_model.specs.declared.happening.Happening.TheVariants.{Begins, Ends};

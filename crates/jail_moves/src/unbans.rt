@@ -2,7 +2,7 @@
 ghost use Rattle.std.specs.Prelude.{◌≡◌, ◌≤◌, ◌++◌, filter, map, OnOk, IfOk};
 ghost use Rattle.f2b_base.specs.declared.ban.Ban.{Ban};
 ghost use Rattle.f2b_model.specs.Steps.{is_meant};
-ghost use Rattle.f2b_model.specs.Until.{last_moment};
+ghost use Rattle.f2b_base.specs.Limits.{last_moment};
 ghost use Rattle.f2b_model.specs.declared.happening.Happening.TheVariants.{Ends};
 ghost use Rattle.jail_moves.specs.Rooms.{all_ended};
 

@@ -4,7 +4,7 @@ use Rattle.f2b_base.specs.declared.jail.JailDef.{JailDef}
 use Rattle.f2b_base.specs.declared.view.JailView.{JailView}
 use Rattle.f2b_base.specs.declared.view.View.{View}
 use Rattle.f2b_model.specs.Laws.{AreWatched}
-use Rattle.f2b_model.specs.Until.{last_moment}
+use Rattle.f2b_base.specs.Limits.{last_moment}
 use Rattle.f2b_model.specs.Views.{gathered}
 use Rattle.jail_moves.specs.Rooms.{IsBounded, IsStored, IsStoredWell}
 use Rattle.lane_moves.specs.Held.{AreById}

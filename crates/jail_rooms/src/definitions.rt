@@ -2,7 +2,7 @@
 ghost use Rattle.std.specs.Prelude.{◌≡◌, ◌≤◌, not, length, filter, OnOk};
 ghost use Rattle.std.specs.List.{list_any};
 ghost use Rattle.f2b_base.specs.declared.addr.Cidr.{Cidr};
-ghost use Rattle.f2b_model.specs.Full.{same_addr};
+ghost use Rattle.f2b_base.specs.Addresses.{same_addr};
 ghost use Rattle.f2b_model.specs.Moves.{ignored, same_cidr};
 ghost use Rattle.jail_rooms.specs.Reading.{jail_place};
 

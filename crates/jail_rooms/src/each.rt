@@ -4,7 +4,7 @@ ghost use Rattle.std.specs.List.{list_any};
 ghost use Rattle.f2b_model.specs.NowMoves.{dropped_now};
 ghost use Rattle.f2b_model.specs.Steps.{ended_by_time, is_due, is_meant_jail, moves_now, unbanned};
 ghost use Rattle.f2b_model.specs.Told.{told_each, told_ends, told_unbanned};
-ghost use Rattle.f2b_model.specs.Until.{last_moment};
+ghost use Rattle.f2b_base.specs.Limits.{last_moment};
 ghost use Rattle.f2b_model.specs.declared.jail_now.JailNow.{JailNow};
 ghost use Rattle.jail_moves.specs.Rooms.{Contents, jail_in};
 ghost use Rattle.jail_rooms.specs.Each.{AreMoved, IsMoved};

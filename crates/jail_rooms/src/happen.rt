@@ -1,6 +1,6 @@
 //! What an input of the jails alone does.
 ghost use Rattle.std.specs.Prelude.{◌≡◌, ◌≤◌, ◌^◌, ◌++◌, true, OnOk, IfOk};
-ghost use Rattle.f2b_model.specs.Until.{last_moment};
+ghost use Rattle.f2b_base.specs.Limits.{last_moment};
 ghost use Rattle.jail_rooms.specs.Happened.{happened, told_happened};
 ghost use Rattle.jail_rooms.specs.Jails.{is_of_jails};
 ghost use Rattle.jail_rooms.specs.Kept.{jails_in, AreKept, IsBoundedWhat};

@@ -7,7 +7,7 @@ ghost use Rattle.f2b_model.specs.NowMoves.{dropped_now};
 ghost use Rattle.f2b_model.specs.Sound.{AreFitDefs, IsSoundView};
 ghost use Rattle.f2b_model.specs.Steps.{at_reading, done, each_jail, is_ban_due, moves_now};
 ghost use Rattle.f2b_model.specs.Told.{told_done, told_each, told_ends};
-ghost use Rattle.f2b_model.specs.Until.{last_moment};
+ghost use Rattle.f2b_base.specs.Limits.{last_moment};
 ghost use Rattle.f2b_model.specs.Views.{gathered, jail_view};
 ghost use Rattle.f2b_model.specs.Laws.{AreWatched};
 ghost use Rattle.f2b_model.specs.Lists.{AllOf};
@@ -46,7 +46,7 @@ pub struct Jails {
 impl Model for Jails {
     ghost use Rattle.std.specs.Prelude.{◌≤◌};
     ghost use Rattle.f2b_model.specs.Nows.{JailsNow};
-    ghost use Rattle.f2b_model.specs.Until.{last_moment};
+    ghost use Rattle.f2b_base.specs.Limits.{last_moment};
     ghost use Rattle.jail_rooms.specs.Kept.{jails_in, AreKept};
 
     ghost Value = { JailsNow };

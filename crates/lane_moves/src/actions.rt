@@ -2,7 +2,7 @@
 ghost use Rattle.std.specs.Prelude.{◌≡◌, ◌≤◌, false, [], OnOk, IfOk};
 ghost use Rattle.f2b_model.specs.Lanes.{all_down, all_up, books_now, issue, lane_down, lane_up, lanes_of, missing_up, others_down, stopped, try_ended};
 ghost use Rattle.f2b_model.specs.Orders.{told_orders};
-ghost use Rattle.f2b_model.specs.Until.{last_moment};
+ghost use Rattle.f2b_base.specs.Limits.{last_moment};
 ghost use Rattle.lane_moves.specs.Held.{are_just, held_of, AreById};
 
 use crate::book::JobBook;

@@ -3,7 +3,7 @@ ghost use Rattle.std.specs.Prelude.{◌≡◌, ◌≤◌, true, [], ◌∷◌, O
 ghost use Rattle.action_queue.specs.Tries.{ending_of};
 ghost use Rattle.f2b_model.specs.Jobs.{is_head_id, settle_in};
 ghost use Rattle.f2b_model.specs.Orders.{lane_id};
-ghost use Rattle.f2b_model.specs.Until.{last_moment};
+ghost use Rattle.f2b_base.specs.Limits.{last_moment};
 ghost use Rattle.lane_moves.specs.Held.{AreById};
 ghost use Rattle.lane_moves.specs.Pending.{filled_order, ordered};
 

@@ -1,6 +1,7 @@
 //! When two families, actions or lanes are one, and whether a lane takes an address.
 ghost use Rattle.std.specs.Prelude.{◌≡◌};
-ghost use Rattle.f2b_model.specs.Families.{in_family, same_action, same_family, same_up};
+ghost use Rattle.f2b_base.specs.Families.{same_family};
+ghost use Rattle.f2b_model.specs.Families.{in_family, same_action, same_up};
 ghost use Rattle.f2b_model.specs.Orders.{is_lane, lane_id};
 
 use f2b_base::{ActionDef, Addr, Family, Text, UpLane};

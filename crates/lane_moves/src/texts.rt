@@ -11,7 +11,7 @@ pub(crate) fn template(kind: JobKind, action: &ActionDef) -> &str
     match kind {
         JobKind::Start => action.start.as_str(),
         JobKind::Stop => action.stop.as_str(),
-        JobKind::Ban => action.ban.as_str(),
+        JobKind::Ban | JobKind::Reban => action.ban.as_str(),
         JobKind::Unban => action.unban.as_str(),
     }
 }

@@ -1,7 +1,6 @@
 pub mod DoneLemmas
 pub mod EscapeLemmas
 pub mod FillLemmas
-pub mod PartLemmas
 pub mod ReadLemmas
 pub mod TagRows
 pub mod ValueLemmas

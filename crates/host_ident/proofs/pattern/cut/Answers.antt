@@ -1,5 +1,5 @@
 use Rattle.std.proofs.Common.{lit<}
-use Rattle.host_ident.proofs.PartLemmas.{parts_at_first, one_part}
+use Rattle.f2b_base.proofs.PartLemmas.{parts_at_first, one_part}
 use Rattle.host_ident.proofs.pattern.cut.Goals as goal
 
 pub returns-in-Some-clause-parts : goal.returns-in-Some-clause-parts

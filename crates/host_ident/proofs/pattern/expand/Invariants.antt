@@ -2,7 +2,7 @@ use Rattle.std.proofs.Common.{◌≡◌, ◌++◌, option_copied}
 use denote.Text.{Utf8}
 use denote.Shadow.{shadow}
 use Rattle.host_ident.specs.Expanded.{written_after, expanded, parts_of}
-use Rattle.host_ident.proofs.PartLemmas.{left_of}
+use Rattle.f2b_base.proofs.PartLemmas.{left_of}
 use Rattle.host_ident.proofs.pattern.expand.Given as goal
 
 abbrev pub invariant-parts : goal.invariant-parts

@@ -2,7 +2,7 @@ use Rattle.std.proofs.Common.{◌≡◌, ◌+◌, ◌-◌, ◌^◌, ◌<◌, min
 use denote.Text.{Utf8}
 use denote.Shadow.{shadow}
 use Rattle.host_ident.specs.Expanded.{hosts_after, hosts_in, parts_of}
-use Rattle.host_ident.proofs.PartLemmas.{left_of}
+use Rattle.f2b_base.proofs.PartLemmas.{left_of}
 use Rattle.host_ident.proofs.pattern.hosts.Given as goal
 
 abbrev pub invariant-parts : goal.invariant-parts

@@ -1,5 +1,5 @@
 use Rattle.std.proofs.Common.{lit<}
-use Rattle.tag_subst.proofs.PartLemmas.{parts_at_first, one_part}
+use Rattle.f2b_base.proofs.PartLemmas.{parts_at_first, one_part}
 use Rattle.tag_subst.proofs.renders.cut.Goals as goal
 
 pub returns-in-Some-clause-parts : goal.returns-in-Some-clause-parts

@@ -3,7 +3,7 @@ use denote.Text.{Utf8}
 use denote.Shadow.{shadow}
 use Rattle.f2b_model.specs.Render.{filled_after, rendered}
 use Rattle.tag_subst.specs.Parts.{parts_of}
-use Rattle.tag_subst.proofs.PartLemmas.{left_of}
+use Rattle.f2b_base.proofs.PartLemmas.{left_of}
 use Rattle.tag_subst.proofs.renders.render.Given as goal
 
 abbrev pub invariant-parts : goal.invariant-parts

@@ -1,5 +1,5 @@
 use Rattle.std.proofs.Common.{◌≡◌, Some, None, ◌-◌, cond, ◌∙◌, ap, arith}
-use Rattle.f2b_model.specs.Full.{same_addr}
+use Rattle.f2b_base.specs.Addresses.{same_addr}
 use Rattle.ban_table.specs.Counts.{counted}
 use Rattle.ban_table.proofs.CountLemmas.{counted_put, counted_there, not_failed, one_fewer}
 use Rattle.ban_table.proofs.counts.Counts.fewer.Goals as goal

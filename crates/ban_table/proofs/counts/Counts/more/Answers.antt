@@ -1,5 +1,5 @@
 use Rattle.std.proofs.Common.{◌+◌, Some, cond, ap, ◌∙◌}
-use Rattle.f2b_model.specs.Full.{same_addr}
+use Rattle.f2b_base.specs.Addresses.{same_addr}
 use Rattle.ban_table.specs.Counts.{counted}
 use Rattle.ban_table.proofs.CountLemmas.{counted_put, one_more}
 use Rattle.ban_table.proofs.counts.Counts.more.Goals as goal

@@ -8,7 +8,7 @@ use Rattle.f2b_model.specs.declared.jail_now.JailNow.{JailNow}
 use Rattle.f2b_model.specs.Nows.{JailsNow}
 use Rattle.f2b_model.specs.Steps.{Outs, done, is_ban_due, is_due, moves_now, with_outs}
 use Rattle.f2b_model.specs.Told.{told_done}
-use Rattle.f2b_model.specs.Until.{last_moment}
+use Rattle.f2b_base.specs.Limits.{last_moment}
 use Rattle.f2b_model.specs.Views.{gathered, jails_of}
 use Rattle.jail_moves.specs.Rooms.{Contents, IsKept}
 use Rattle.jail_rooms.specs.Happened.{happened, told_happened}
