@@ -15,7 +15,7 @@ use Rattle.date_detect.specs.Builds.{Makes, built, AreCalls, HasCause, Builds}
 use Rattle.std.specs.List.{Contains}
 use Rattle.date_detect.specs.declared.error.BuildError.{BuildError}
 use Rattle.date_detect.specs.declared.error.BuildError.TheVariants.{Syntax, TooBig, NoMemory}
-use Rattle.date_detect.proofs.AddsLemmas.{adds_weaker, adds_then, adds_none}
+use Rattle.f2b_world.proofs.AddsLemmas.{adds_weaker, adds_then, adds_none}
 
 -- the texts were built, one after the other
 pub record HaveBuilt (texts : List (List ℕ)) (old new : Standing) : Type 0 where

@@ -2,7 +2,6 @@ pub mod OptionLemmas
 pub mod CharLemmas
 pub mod YearLemmas
 pub mod DateLemmas
-pub mod AddsLemmas
 pub mod BuildLemmas
 pub mod NameLemmas
 pub mod Literals

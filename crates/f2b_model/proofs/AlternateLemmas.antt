@@ -8,7 +8,7 @@ use Rattle.f2b_base.specs.declared.addr.Addr.{Addr}
 use Rattle.f2b_base.specs.declared.job.LaneId.{LaneId}
 use Rattle.f2b_base.specs.declared.job.Job.{Job}
 use Rattle.f2b_base.specs.declared.job.JobKind.{JobKind}
-use Rattle.f2b_base.specs.declared.job.JobKind.TheVariants.{Start, Stop, Ban, Unban}
+use Rattle.f2b_base.specs.declared.job.JobKind.TheVariants.{Start, Stop, Ban, Unban, Reban}
 use Rattle.f2b_model.specs.Families.{same_lane}
 use Rattle.f2b_model.specs.Jobs.{Ending, endings_of, is_settled, due_after, stands, head}
 use Rattle.f2b_model.specs.Turns.{order_of, touches, concerns, turn, follow, is_ban_or_unban, bans_and_unbans, Alternate, last_is_ban}
@@ -17,6 +17,8 @@ step_alternates : (kind : JobKind) (b c : Bool) (after : Bool → Option Bool) (
     → Alternate b (cond (is_ban_or_unban kind) (kind ∷ kinds) kinds)
 step_alternates Ban false c after kinds each h = each true h
 step_alternates Ban true c after kinds each h = cc
+step_alternates Reban false c after kinds each h = each true h
+step_alternates Reban true c after kinds each h = cc
 step_alternates Unban false c after kinds each h = cc
 step_alternates Unban true c after kinds each h = each false h
 step_alternates Start false c after kinds each h = each false h
@@ -28,6 +30,8 @@ step_last : (kind : JobKind) (b c : Bool) (after : Bool → Option Bool) (kinds 
     → last_is_ban b (cond (is_ban_or_unban kind) (kind ∷ kinds) kinds) ≡ c
 step_last Ban false c after kinds each h = each true h
 step_last Ban true c after kinds each h = cc
+step_last Reban false c after kinds each h = each true h
+step_last Reban true c after kinds each h = cc
 step_last Unban false c after kinds each h = cc
 step_last Unban true c after kinds each h = each false h
 step_last Start false c after kinds each h = each false h

@@ -10,7 +10,7 @@ use Rattle.f2b_base.specs.declared.ban.Ban.{Ban}
 use Rattle.f2b_base.specs.declared.ban.Failure.{Failure}
 use Rattle.f2b_base.specs.declared.input.Input.{Input}
 use Rattle.f2b_base.specs.declared.input.What.{What}
-use Rattle.f2b_base.specs.declared.input.What.TheVariants.{Tick, Read, Ended, Config, Stop, Ban as BanThese, Unban, Attempt, Ignore, Findtime, Bantime, Maxretry, Idle}
+use Rattle.f2b_base.specs.declared.input.What.TheVariants.{Tick, Read, Ended, Config, Stop, Ban as BanThese, Unban, Attempt, Ignore, Findtime, Bantime, Maxretry, Idle, CheckFailed}
 use Rattle.f2b_base.specs.declared.jail.Defs.{Defs}
 use Rattle.f2b_base.specs.declared.jail.JailDef.{JailDef}
 use Rattle.f2b_model.specs.declared.happening.Happening.{Happening}
@@ -251,6 +251,7 @@ done_follows word (Idle jail idle) w d once = alone_follows jail (moves_now.idle
 done_follows word (Ignore jail cidr add) w d once = alone_follows jail (moves_now.ignored cidr add) (λ j. (moves_now_names.ignored cidr add j, refl)) w
 done_follows word (Config defs) w d once = follows_nothing _ _ (λ jail addr. refl)
 done_follows word (Ended job outcome) w d once = follows_nothing _ _ (λ jail addr. refl)
+done_follows word (CheckFailed job outcome) w d once = follows_nothing _ _ (λ jail addr. refl)
 done_follows word Stop w d once = follows_nothing _ _ (λ jail addr. refl)
 
 -- the bans that are due end
@@ -314,6 +315,7 @@ done_alike word (Maxretry jail number) w fit d = tt
 done_alike word (Idle jail idle) w fit d = tt
 done_alike word (Ignore jail cidr add) w fit d = tt
 done_alike word (Ended job outcome) w fit d = tt
+done_alike word (CheckFailed job outcome) w fit d = tt
 
 -- ---- no address is held twice
 

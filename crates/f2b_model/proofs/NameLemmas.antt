@@ -8,7 +8,7 @@ use Rattle.f2b_base.specs.declared.ban.Ban.{Ban}
 use Rattle.f2b_base.specs.declared.ban.Failure.{Failure}
 use Rattle.f2b_base.specs.declared.input.Input.{Input}
 use Rattle.f2b_base.specs.declared.input.What.{What}
-use Rattle.f2b_base.specs.declared.input.What.TheVariants.{Tick, Read, Ended, Config, Stop, Ban as BanThese, Unban, Attempt, Ignore, Findtime, Bantime, Maxretry, Idle}
+use Rattle.f2b_base.specs.declared.input.What.TheVariants.{Tick, Read, Ended, Config, Stop, Ban as BanThese, Unban, Attempt, Ignore, Findtime, Bantime, Maxretry, Idle, CheckFailed}
 use Rattle.f2b_base.specs.declared.jail.JailDef.{JailDef}
 use Rattle.f2b_base.specs.declared.jail.Place.{Place}
 use Rattle.f2b_model.specs.declared.jail_now.JailNow.{JailNow}
@@ -155,6 +155,7 @@ module _ {J : Type 0} (m : Moves J) (keeps : KeepsName m) where
   done_names word (Ignore jail cidr add) w = alone_names jail (m.ignored cidr add) (keeps.ignored cidr add) w
   done_names word (Config defs) w = configured_names defs.jails w.jails
   done_names word (Ended job outcome) w = refl
+  done_names word (CheckFailed job outcome) w = refl
   done_names word Stop w = refl
 
   pub at_reading_names : (secs : ℕ) (w : World J) → names m (at_reading m secs w).jails ≡ names m w.jails

@@ -9,7 +9,7 @@ use Rattle.f2b_base.specs.declared.ban.Failure.{Failure}
 use Rattle.f2b_base.specs.declared.input.Input.{Input}
 use Rattle.f2b_base.specs.declared.jail.JailDef.{JailDef}
 use Rattle.f2b_base.specs.declared.input.What.{What}
-use Rattle.f2b_base.specs.declared.input.What.TheVariants.{Tick, Read, Ended, Config, Stop, Ban as BanThese, Unban, Attempt, Ignore, Findtime, Bantime, Maxretry, Idle}
+use Rattle.f2b_base.specs.declared.input.What.TheVariants.{Tick, Read, Ended, Config, Stop, Ban as BanThese, Unban, Attempt, Ignore, Findtime, Bantime, Maxretry, Idle, CheckFailed}
 use Rattle.f2b_model.specs.Lists.{AllOf, in_order}
 use Rattle.f2b_model.specs.Full.{is_full}
 use Rattle.f2b_model.specs.Nows.{JailsNow}
@@ -132,6 +132,7 @@ done_numbered word (Maxretry jail number) w a =
 done_numbered word (Idle jail idle) w a = at_jail_numbered jail (alone moves_now (moves_now.idle idle)) w (λ j good. (omega arith, good)) a
 done_numbered word (Config defs) w a = configured_numbered w.next_ban defs.jails w.jails a
 done_numbered word (Ended job outcome) w a = a
+done_numbered word (CheckFailed job outcome) w a = a
 done_numbered word Stop w a = a
 done_numbered word (Ignore jail cidr add) w a = at_jail_numbered jail (alone moves_now (moves_now.ignored cidr add)) w (λ j good. (omega arith, good)) a
 

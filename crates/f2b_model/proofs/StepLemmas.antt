@@ -10,7 +10,7 @@ use Rattle.f2b_base.specs.declared.input.Input.{Input}
 use Rattle.f2b_base.specs.declared.jail.JailDef.{JailDef}
 use Rattle.f2b_base.specs.declared.jail.Place.{Place}
 use Rattle.f2b_base.specs.declared.input.What.{What}
-use Rattle.f2b_base.specs.declared.input.What.TheVariants.{Tick, Read, Ended, Config, Stop, Ban as BanThese, Unban, Attempt, Ignore, Findtime, Bantime, Maxretry, Idle}
+use Rattle.f2b_base.specs.declared.input.What.TheVariants.{Tick, Read, Ended, Config, Stop, Ban as BanThese, Unban, Attempt, Ignore, Findtime, Bantime, Maxretry, Idle, CheckFailed}
 use Rattle.f2b_model.specs.Lists.{AllOf, in_order}
 use Rattle.f2b_model.specs.State.{World, world_map}
 use Rattle.f2b_model.specs.Moves.{Out}
@@ -242,6 +242,7 @@ module _ {J K : Type 0} (m : Moves J) (k : Moves K) (h : J → K) (Good Calm : �
       (alone_shows w.at (m.idle idle) (k.idle idle) (λ j good. shows.idle idle j)) a
   done_shows word (Config defs) w a = ap (λ (js : List K). record (world_map h w) { purge = defs.purge; jails = js }) (configured_shows defs.jails w.jails)
   done_shows word (Ended job outcome) w a = refl
+  done_shows word (CheckFailed job outcome) w a = refl
   done_shows word Stop w a = refl
   done_shows word (Ignore jail cidr add) w a =
       at_jail_shows jail (alone m (m.ignored cidr add)) (alone k (k.ignored cidr add)) w
@@ -272,6 +273,7 @@ module _ {J K : Type 0} (m : Moves J) (k : Moves K) (h : J → K) (Good Calm : �
   done_good word (Idle jail idle) w fit a = in_good jail (alone m (m.idle idle)) w (calm_world w a) (λ n j good. shows.good_idle w.at idle j good)
   done_good word (Config defs) w fit a = (a.0, configured_good w.at defs.jails w.jails fit.maxretry (calm_world w a).1)
   done_good word (Ended job outcome) w fit a = calm_world w a
+  done_good word (CheckFailed job outcome) w fit a = calm_world w a
   done_good word Stop w fit a = calm_world w a
   done_good word (Ignore jail cidr add) w fit a =
       in_good jail (alone m (m.ignored cidr add)) w (calm_world w a) (λ n j good. shows.good_ignored w.at cidr add j good)

@@ -8,7 +8,7 @@ use Rattle.f2b_base.specs.declared.ban.Failure.{Failure}
 use Rattle.f2b_base.specs.declared.input.Input.{Input}
 use Rattle.f2b_base.specs.declared.jail.JailDef.{JailDef}
 use Rattle.f2b_base.specs.declared.input.What.{What}
-use Rattle.f2b_base.specs.declared.input.What.TheVariants.{Tick, Read, Ended, Config, Stop, Ban as BanThese, Unban, Attempt, Ignore, Findtime, Bantime, Maxretry, Idle}
+use Rattle.f2b_base.specs.declared.input.What.TheVariants.{Tick, Read, Ended, Config, Stop, Ban as BanThese, Unban, Attempt, Ignore, Findtime, Bantime, Maxretry, Idle, CheckFailed}
 use Rattle.f2b_model.specs.Lists.{AllOf, in_order}
 use Rattle.f2b_model.specs.State.{World, world_map, JailsState}
 use Rattle.f2b_model.specs.Nows.{jail_now, jails_now_of}
@@ -103,6 +103,7 @@ module _ {J K : Type 0} (m : Moves J) (k : Moves K) (h : J â†’ K) (Good Calm : â
   done_told word (Idle jail idle) w a = refl
   done_told word (Config defs) w a = refl
   done_told word (Ended job outcome) w a = refl
+  done_told word (CheckFailed job outcome) w a = refl
   done_told word Stop w a = refl
   done_told word (Ignore jail cidr add) w a = refl
 

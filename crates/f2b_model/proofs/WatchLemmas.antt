@@ -8,7 +8,7 @@ use Rattle.f2b_base.specs.declared.ban.Ban.{Ban}
 use Rattle.f2b_base.specs.declared.ban.Failure.{Failure}
 use Rattle.f2b_base.specs.declared.input.Input.{Input}
 use Rattle.f2b_base.specs.declared.input.What.{What}
-use Rattle.f2b_base.specs.declared.input.What.TheVariants.{Tick, Read, Ended, Config, Stop, Ban as BanThese, Unban, Attempt, Ignore, Findtime, Bantime, Maxretry, Idle}
+use Rattle.f2b_base.specs.declared.input.What.TheVariants.{Tick, Read, Ended, Config, Stop, Ban as BanThese, Unban, Attempt, Ignore, Findtime, Bantime, Maxretry, Idle, CheckFailed}
 use Rattle.f2b_base.specs.declared.jail.JailDef.{JailDef}
 use Rattle.f2b_base.specs.declared.jail.Place.{Place}
 use Rattle.f2b_base.specs.declared.jail.WatchDef.{WatchDef}
@@ -112,6 +112,7 @@ done_good word (Idle jail idle) w a = alone_good jail (moves_now.idle idle) (λ 
 done_good word (Ignore jail cidr add) w a = alone_good jail (moves_now.ignored cidr add) (ignored_good cidr add) w a
 done_good word (Config defs) w a = configured_good defs.jails w.jails
 done_good word (Ended job outcome) w a = a
+done_good word (CheckFailed job outcome) w a = a
 done_good word Stop w a = a
 
 -- a step keeps the watches of each jail those of its definition

@@ -1,3 +1,4 @@
+pub mod AddsLemmas
 pub mod WalkLemmas
 pub mod ReadingLemmas
 pub mod NameLemmas

@@ -1,23 +1,19 @@
 -- How walks go on.
-use Rattle.std.proofs.Common.{◌≡◌, Option, Some, None, List, [], ◌∷◌, ◌++◌, refl, sym, ap, ◌∙◌, append_assoc, append-nil, subst}
+use Rattle.std.proofs.Common.{◌≡◌, Option, Some, None, List, [], ◌∷◌, ◌++◌, refl, sym, ap, ◌∙◌, subst}
 use Rattle.f2b_world.specs.declared.event.Event.{Event}
 use Rattle.f2b_world.specs.Told.{History, Standing, Called, Adds, IsHonest, grown}
+use Rattle.f2b_world.specs.Bounds.{IsBounded}
 use Rattle.f2b_world.specs.Walks.{after, Along, Walks}
-
-grown_twice : (g : History) (xs ys : List Event) → grown (grown g xs) ys ≡ grown g (xs ++ ys)
-grown_twice g xs ys = ap (λ (es : List Event). let r : History = record { first = g.first; events = es } in r) (append_assoc g.events xs ys)
-
-grown_none : (g : History) → grown g [] ≡ g
-grown_none g = ap (λ (es : List Event). let r : History = record { first = g.first; events = es } in r) (append-nil g.events)
+use Rattle.f2b_world.proofs.AddsLemmas.{grown_twice, grown_none}
 
 module _ {S : Type 0} (feed : S → Event → S) (Allows : S → Event → Type 0) (Holds : S → History → Type 0) where
-  along_append : (s : S) (g : History) (xs ys : List Event) → Along feed Allows Holds s g xs → Along feed Allows Holds (after feed Allows Holds s xs) (grown g xs) ys → Along feed Allows Holds s g (xs ++ ys)
+  pub along_append : (s : S) (g : History) (xs ys : List Event) → Along feed Allows Holds s g xs → Along feed Allows Holds (after feed Allows Holds s xs) (grown g xs) ys → Along feed Allows Holds s g (xs ++ ys)
   along_append s g [] ys p q = (let P : History → Type 0 = λ k. Along feed Allows Holds s k ys in subst P (grown_none g) q)
   along_append s g (x ∷ xs) ys p q =
       let P : History → Type 0 = λ k. Along feed Allows Holds (after feed Allows Holds (feed s x) xs) k ys in
-      (p.0, p.1, along_append (feed s x) (grown g (x ∷ [])) xs ys p.2 (subst P (sym (grown_twice g (x ∷ []) xs)) q))
+      (p.0, along_append (feed s x) (grown g (x ∷ [])) xs ys p.1 (subst P (sym (grown_twice g (x ∷ []) xs)) q))
 
-  after_append : (s : S) (xs ys : List Event) → after feed Allows Holds s (xs ++ ys) ≡ after feed Allows Holds (after feed Allows Holds s xs) ys
+  pub after_append : (s : S) (xs ys : List Event) → after feed Allows Holds s (xs ++ ys) ≡ after feed Allows Holds (after feed Allows Holds s xs) ys
   after_append s [] ys = refl
   after_append s (x ∷ xs) ys = after_append (feed s x) xs ys
 
@@ -47,15 +43,15 @@ module _ {S : Type 0} (feed : S → Event → S) (Allows : S → Event → Type 
   pub walks_trans : (old mid new : Option History) (s t u : S) → Walks feed Allows Holds old mid s t → Walks feed Allows Holds mid new t u → Walks feed Allows Holds old new s u
   walks_trans old mid new s t u p q = record { events = joined old mid new s t u p.events q.events }
 
-  called : (old new : Option History) (event : Event) (s : S) → Adds old new (λ g es. (es ≡ event ∷ []) × IsHonest g event) → Allows s event
+  called : (old new : Option History) (event : Event) (s : S) → Adds old new (λ g es. (es ≡ event ∷ []) × IsHonest g event) → IsBounded event → Allows s event
       → ((g : History) → old ≡ Some g → IsHonest g event → Holds s g × Holds (feed s event) (grown g (event ∷ [])))
       → Adds old new (λ g es. Along feed Allows Holds s g es × (after feed Allows Holds s es ≡ feed s event))
-  called old None event s adds allowed holds = tt
-  called old (Some h) event s adds allowed holds =
+  called old None event s adds bounded allowed holds = tt
+  called old (Some h) event s adds bounded allowed holds =
       let both = holds adds.0 adds.2 adds.4.1 in
-      (adds.0, event ∷ [], adds.2, (adds.3 ∙ ap (λ (es : List Event). grown adds.0 es) adds.4.0), ((both.0, allowed, both.1), refl))
+      (adds.0, event ∷ [], adds.2, (adds.3 ∙ ap (λ (es : List Event). grown adds.0 es) adds.4.0), ((record { holds = both.0; allowed = allowed; honest = adds.4.1; bounded = bounded }, both.1), refl))
 
   pub walks_call : (old new : Standing) (event : Event) (s : S) → Called old event new → Allows s event
       → ((g : History) → old.told ≡ Some g → IsHonest g event → Holds s g × Holds (feed s event) (grown g (event ∷ [])))
       → Walks feed Allows Holds old.told new.told s (feed s event)
-  walks_call old new event s call allowed holds = record { events = called old.told new.told event s call.adds allowed holds }
+  walks_call old new event s call allowed holds = record { events = called old.told new.told event s call.adds call.bounded allowed holds }

@@ -3,5 +3,8 @@ pub mod Spans
 pub mod Matches
 pub mod Captured
 pub mod Slots
+pub mod Bounds
 pub mod Told
 pub mod Walks
+pub mod Links
+pub mod Shelves

@@ -29,6 +29,7 @@ use Rattle.f2b_world.specs.declared.event.Event.{Event}
 use Rattle.f2b_world.specs.declared.event.Event.TheVariants.{Say, DiskLen, DiskRead, DiskWrite, DiskSync, Make, Config, StoreAt, Names, Look as LookAt, ChildStart, ChildPoll, GateListen, GateAccept, GateRead as ReadFrom, GateWrite as WriteTo, GateClose}
 use Rattle.f2b_world.specs.declared.pattern.Made.{Made}
 use Rattle.f2b_world.specs.declared.pattern.Made.TheVariants.{Built, Syntax, TooBig, NoMemory as MadeNoMemory}
+use Rattle.f2b_world.specs.Bounds.{IsBounded}
 use Rattle.f2b_world.specs.Slots.{Slot, settled, slot_after}
 
 -- a kind of fault of the outside
@@ -113,6 +114,7 @@ IsHonest g _ = Unit {0}
 -- One call: it adds its event, no count of faults falls, and where it failed, its count rose.
 pub record Called (old : Standing) (event : Event) (new : Standing) : Type 0 where
   pub adds : Adds old.told new.told (λ g es. (es ≡ event ∷ []) × IsHonest g event)
+  pub bounded : IsBounded event
   pub steady : (kind : Fault) → old.faults kind ≤ new.faults kind
   pub cause : IfSome (fault_of event) (λ kind. Rose (old.faults kind) (new.faults kind))
 
@@ -170,6 +172,12 @@ receive_event conn max (ReadBytes bytes) = Some (ReadFrom conn max (ReadBytes by
 receive_event conn max ReadQuiet = Some (ReadFrom conn max ReadQuiet)
 receive_event conn max ReadEnd = Some (ReadFrom conn max ReadEnd)
 receive_event conn max ReadFailed = Some (ReadFrom conn max ReadFailed)
+
+-- A call that is no event: it adds nothing to the history, no count of faults falls, and where it failed, its count rose.
+pub record Noted (old : Standing) (failed : Option Fault) (new : Standing) : Type 0 where
+  pub told : new.told ≡ old.told
+  pub steady : (kind : Fault) → old.faults kind ≤ new.faults kind
+  pub cause : IfSome failed (λ kind. Rose (old.faults kind) (new.faults kind))
 
 -- where the history is told, the slot is at least so long
 abbrev pub HasLength : Option History → ℕ → ℕ → Type 0

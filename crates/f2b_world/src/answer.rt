@@ -125,3 +125,42 @@ pub enum GateWrite {
     Quiet,
     Failed,
 }
+
+/// Whether a client is connected to a server.
+#[derive(Clone, Copy, Debug, PartialEq, Eq)]
+pub enum Linked {
+    /// It is, and all that was to be sent was sent.
+    Connected,
+    Failed,
+}
+
+/// What a server sent to its client.
+#[derive(Debug, Drop, PartialEq, Eq)]
+pub enum LinkRead {
+    /// At least one, and at most as many as were asked for.
+    Bytes(Bytes),
+    End,
+    Failed,
+    NoMemory,
+}
+
+/// A whole file.
+#[derive(Debug, Drop, PartialEq, Eq)]
+pub enum FileAnswer {
+    Bytes(Bytes),
+    Absent,
+    /// It has more bytes than are read whole.
+    TooLarge,
+    Failed,
+    NoMemory,
+}
+
+/// A piece of a file.
+#[derive(Debug, Drop, PartialEq, Eq)]
+pub enum FilePiece {
+    /// At most as many as were asked for, and none only at the file's end.
+    Bytes(Bytes),
+    Absent,
+    Failed,
+    NoMemory,
+}

@@ -12,13 +12,13 @@ mod outside;
 mod pattern;
 
 pub use answer::{
-    Accept, GateRead, GateWrite, Len, Listen, Look, MakeAnswer, NamesAnswer, Piece, PollAnswer,
-    Said, StartAnswer, StoreAnswer, Synced, Wrote,
+    Accept, FileAnswer, FilePiece, GateRead, GateWrite, Len, LinkRead, Linked, Listen, Look,
+    MakeAnswer, NamesAnswer, Piece, PollAnswer, Said, StartAnswer, StoreAnswer, Synced, Wrote,
 };
 pub use event::Event;
 pub use faults::{Faults, raised};
 pub use outside::{
-    Children, Configuration, Directories, Disk, Gate, Logs, Outside, Patterns, Sink, Store, Time,
-    World,
+    Children, Configuration, Directories, Disk, Files, Gate, Link, Logs, Outside, Patterns, Sink,
+    Store, Time, World,
 };
 pub use pattern::{Cut, HostSpans, Made, Matcher, Pattern, build_pattern};

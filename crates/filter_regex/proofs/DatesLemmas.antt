@@ -16,7 +16,7 @@ use Rattle.filter_regex.specs.declared.error.BuildKind.{BuildKind}
 use Rattle.filter_regex.specs.declared.error.BuildKind.TheVariants.{Syntax, TooBig}
 use Rattle.filter_regex.specs.declared.error.PatternError.TheVariants.{NoMemory}
 use Rattle.filter_regex.specs.declared.error.PatternPlace.TheVariants.{Date}
-use Rattle.filter_regex.proofs.AddsLemmas.{adds_weaker}
+use Rattle.f2b_world.proofs.AddsLemmas.{adds_weaker}
 use Rattle.filter_regex.proofs.MakesLemmas.{Placed}
 
 date_places-append : (xs ys : List (List ℕ)) → date_places (xs ++ ys) ≡ date_places xs ++ date_places ys

@@ -1,4 +1,3 @@
-pub mod AddsLemmas
 pub mod MakesLemmas
 pub mod ListLemmas
 pub mod DatesLemmas

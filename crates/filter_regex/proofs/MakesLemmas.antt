@@ -13,7 +13,7 @@ use Rattle.filter_regex.specs.declared.error.BuildKind.{BuildKind}
 use Rattle.filter_regex.specs.declared.error.BuildKind.TheVariants.{Syntax, TooBig}
 use Rattle.filter_regex.specs.declared.error.PatternError.{PatternError}
 use Rattle.filter_regex.specs.declared.error.PatternError.TheVariants.{Refused, NoMemory}
-use Rattle.filter_regex.proofs.AddsLemmas.{adds_weaker, adds_then, adds_none}
+use Rattle.f2b_world.proofs.AddsLemmas.{adds_weaker, adds_then, adds_none}
 
 abbrev pub Placed : Type 0
 Placed = PatternPlace × List ℕ

@@ -3,16 +3,11 @@ use Rattle.std.proofs.Common.{◌≡◌, Option, Some, None, List, [], ◌++◌,
 use Rattle.f2b_world.specs.declared.event.Event.{Event}
 use Rattle.f2b_world.specs.Told.{History, Adds, grown}
 
-unfoldable of_events : History → List Event → History
-of_events g es = record { first = g.first; events = es }
+pub grown_twice : (g : History) (xs ys : List Event) → grown (grown g xs) ys ≡ grown g (xs ++ ys)
+grown_twice g xs ys = ap (λ (es : List Event). let r : History = record { first = g.first; events = es } in r) (append_assoc g.events xs ys)
 
-grown_twice : (g : History) (xs ys : List Event) → grown (grown g xs) ys ≡ grown g (xs ++ ys)
-unfolding of_events
-grown_twice g xs ys = ap (of_events g) (append_assoc g.events xs ys)
-
-grown_none : (g : History) → grown g [] ≡ g
-unfolding of_events
-grown_none g = ap (of_events g) (append-nil g.events)
+pub grown_none : (g : History) → grown g [] ≡ g
+grown_none g = ap (λ (es : List Event). let r : History = record { first = g.first; events = es } in r) (append-nil g.events)
 
 -- what is weaker of the events holds too
 pub adds_weaker : (P Q : History → List Event → Type 0) (old new : Option History) → Adds old new P

@@ -1,0 +1,66 @@
+-- What an event's answer has of the types that it has in code: numbers are below a bound, and texts are UTF-8. In a history they
+-- are plain numbers and lists, and what is written of them is read again only where they are so.
+use Rattle.std.specs.Prelude.{◌<◌, ◌^◌, All, FitsSigned, IsUtf8}
+use Rattle.std.specs.Int.{w32}
+use Rattle.f2b_base.specs.declared.outside.FileLook.{FileLook}
+use Rattle.f2b_base.specs.declared.outside.Reading.{Reading}
+use Rattle.f2b_world.specs.declared.answer.Accept.{Accept}
+use Rattle.f2b_world.specs.declared.answer.Accept.TheVariants.{Conn, Quiet as NoClient, Failed as AcceptFailed}
+use Rattle.f2b_world.specs.declared.answer.GateWrite.{GateWrite}
+use Rattle.f2b_world.specs.declared.answer.GateWrite.TheVariants.{Took, Quiet as TookNone, Failed as TookFailed}
+use Rattle.f2b_world.specs.declared.answer.Len.{Len}
+use Rattle.f2b_world.specs.declared.answer.Len.TheVariants.{Bytes as LenBytes, Failed as LenFailed}
+use Rattle.f2b_world.specs.declared.answer.Look.{Look}
+use Rattle.f2b_world.specs.declared.answer.Look.TheVariants.{File, Absent as LookAbsent, Failed as LookFailed, NoMemory as LookNoMemory}
+use Rattle.f2b_world.specs.declared.answer.NamesAnswer.{NamesAnswer}
+use Rattle.f2b_world.specs.declared.answer.NamesAnswer.TheVariants.{Names, Absent as NamesAbsent, Failed as NamesFailed, NoMemory as NamesNoMemory}
+use Rattle.f2b_world.specs.declared.answer.PollAnswer.{PollAnswer}
+use Rattle.f2b_world.specs.declared.answer.PollAnswer.TheVariants.{Running, Ended, Failed as PollFailed}
+use Rattle.f2b_world.specs.declared.event.Event.{Event}
+use Rattle.f2b_world.specs.declared.event.Event.TheVariants.{DiskLen, Clock, Names as NamesIn, Look as LookAt, ChildPoll, GateAccept, GateWrite as WriteTo}
+
+-- a moment and a word
+pub record IsReading (reading : Reading) : Type 0 where
+  pub secs : reading.secs < 2 ^ 64
+  pub word : reading.word < 2 ^ 64
+
+-- the length of a slot
+abbrev pub FitsLen : Len → Type 0
+FitsLen (LenBytes n) = n < 2 ^ 64
+FitsLen LenFailed = Unit {0}
+
+-- the size of a file that was looked at
+abbrev pub FitsLook : Look → Type 0
+FitsLook (File file) = file.size < 2 ^ 64
+FitsLook _ = Unit {0}
+
+-- the status of a command
+abbrev pub FitsPoll : PollAnswer → Type 0
+FitsPoll (Ended status) = FitsSigned w32 status
+FitsPoll _ = Unit {0}
+
+-- the number of a client
+abbrev pub FitsAccept : Accept → Type 0
+FitsAccept (Conn conn) = conn < 2 ^ 32
+FitsAccept _ = Unit {0}
+
+-- how many bytes a client took
+abbrev pub FitsWrite : GateWrite → Type 0
+FitsWrite (Took n) = n < 2 ^ 32
+FitsWrite _ = Unit {0}
+
+-- the names in a directory
+abbrev pub FitsNames : NamesAnswer → Type 0
+FitsNames (Names names) = All IsUtf8 names
+FitsNames _ = Unit {0}
+
+-- the numbers and texts of an event's answer
+abbrev pub IsBounded : Event → Type 0
+IsBounded (DiskLen slot answer) = FitsLen answer
+IsBounded (Clock answer) = IsReading answer
+IsBounded (LookAt path head from max answer) = FitsLook answer
+IsBounded (NamesIn dir answer) = FitsNames answer
+IsBounded (ChildPoll job answer) = FitsPoll answer
+IsBounded (GateAccept answer) = FitsAccept answer
+IsBounded (WriteTo conn bytes answer) = FitsWrite answer
+IsBounded _ = Unit {0}
