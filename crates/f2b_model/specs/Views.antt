@@ -1,5 +1,6 @@
 -- The view of a state, which is what a server keeps over a stop, and the state of a view.
 use Rattle.std.specs.Prelude.{false, List, [], ◌∷◌, map}
+use Rattle.f2b_base.specs.Limits.{default_purge}
 use Rattle.f2b_base.specs.declared.jail.JailDef.{JailDef}
 use Rattle.f2b_base.specs.declared.view.JailView.{JailView}
 use Rattle.f2b_base.specs.declared.view.View.{View}
@@ -72,7 +73,7 @@ back v = state_from (gathered v)
 abbrev pub empty_view : View
 empty_view = record {
   at = 0;
-  defs = record { purge = 86400; jails = [] };
+  defs = record { purge = default_purge; jails = [] };
   stopping = false;
   up = [];
   jails = [];

@@ -1,5 +1,6 @@
 -- The whole model: the jails, and the lanes of jobs beside them.
 use Rattle.std.specs.Prelude.{◌^◌, Bool, cond, ◌||◌, nat_lt, List, [], ◌∷◌}
+use Rattle.f2b_base.specs.Limits.{default_purge}
 use Rattle.f2b_base.specs.declared.input.Input.{Input}
 use Rattle.f2b_base.specs.declared.job.Job.{Job}
 use Rattle.f2b_model.specs.declared.happening.Happening.{Happening}
@@ -80,4 +81,4 @@ told_now = whole_told moves_now books_now
 
 -- the state before the first configuration: nothing is there, and bans that are over count for a day
 abbrev pub empty_state : State
-empty_state = record { world = record { at = 0; purge = 86400; jails = []; next_ban = 0 }; lanes = first_lanes }
+empty_state = record { world = record { at = 0; purge = default_purge; jails = []; next_ban = 0 }; lanes = first_lanes }
