@@ -4,21 +4,23 @@ use crate::{
     JailDef, JailView, Job, JobKind, LaneId, NoMemory, Outcome, Past, Place, Plain, Seq, Text,
     Tree, TreeAnswer, TreeFile, Until, UpLane, View, WatchDef, WatchView, What,
 };
-use std::alloc::{AllocError, Global};
+use std::alloc::Global;
 use std::process::Abort;
 use std::test::Fail;
 
 const HOST: Addr = Addr::V4(0xc000_0207);
 
-fn text(alloc: Global, text: &str) -> Result<Text, AllocError> {
-    Ok(Text::from(String::from_str(alloc, text)?))
+fn text(alloc: Global, text: &str) -> Result<Text, NoMemory> {
+    Text::from_str(alloc, text)
 }
 
-fn one<T: Drop>(alloc: Global, item: T) -> Result<Seq<T>, AllocError> {
-    Ok(Seq::from(vec![in alloc; item]?))
+fn one<T: Drop>(alloc: Global, item: T) -> Result<Seq<T>, NoMemory> {
+    let mut items = Seq::new(alloc);
+    items.push(item)?;
+    Ok(items)
 }
 
-fn action(alloc: Global) -> Result<ActionDef, AllocError> {
+fn action(alloc: Global) -> Result<ActionDef, NoMemory> {
     Ok(ActionDef {
         name: text(alloc, "nft")?,
         family: Family::Inet6,
@@ -31,7 +33,7 @@ fn action(alloc: Global) -> Result<ActionDef, AllocError> {
     })
 }
 
-fn rule(alloc: Global) -> Result<BanRule, AllocError> {
+fn rule(alloc: Global) -> Result<BanRule, NoMemory> {
     Ok(BanRule {
         base: -1,
         increment: true,
@@ -42,7 +44,7 @@ fn rule(alloc: Global) -> Result<BanRule, AllocError> {
     })
 }
 
-fn jail(alloc: Global) -> Result<JailDef, AllocError> {
+fn jail(alloc: Global) -> Result<JailDef, NoMemory> {
     let watch = WatchDef {
         path: text(alloc, "/var/log/auth.log")?,
         tail: true,
@@ -68,7 +70,7 @@ fn jail(alloc: Global) -> Result<JailDef, AllocError> {
     })
 }
 
-fn failure(alloc: Global) -> Result<Failure, AllocError> {
+fn failure(alloc: Global) -> Result<Failure, NoMemory> {
     Ok(Failure {
         addr: HOST,
         time: 1_000,
@@ -76,14 +78,14 @@ fn failure(alloc: Global) -> Result<Failure, AllocError> {
     })
 }
 
-fn place(alloc: Global) -> Result<Place, AllocError> {
+fn place(alloc: Global) -> Result<Place, NoMemory> {
     Ok(Place::Pos {
         position: 3,
-        head: Bytes::from([b'a', b'b', b'\n'].to_vec(alloc)?),
+        head: Bytes::from_slice(alloc, &[b'a', b'b', b'\n'])?,
     })
 }
 
-fn jail_view(alloc: Global) -> Result<JailView, AllocError> {
+fn jail_view(alloc: Global) -> Result<JailView, NoMemory> {
     let ban = Ban {
         serial: 4,
         addr: HOST,
@@ -113,7 +115,7 @@ fn jail_view(alloc: Global) -> Result<JailView, AllocError> {
     })
 }
 
-fn job(alloc: Global) -> Result<Job, AllocError> {
+fn job(alloc: Global) -> Result<Job, NoMemory> {
     let lane = LaneId {
         jail: text(alloc, "sshd")?,
         action: text(alloc, "nft")?,
@@ -131,14 +133,14 @@ fn job(alloc: Global) -> Result<Job, AllocError> {
     })
 }
 
-fn defs(alloc: Global) -> Result<Defs, AllocError> {
+fn defs(alloc: Global) -> Result<Defs, NoMemory> {
     Ok(Defs {
         purge: 86_400,
         jails: one(alloc, jail(alloc)?)?,
     })
 }
 
-fn view(alloc: Global) -> Result<View, AllocError> {
+fn view(alloc: Global) -> Result<View, NoMemory> {
     let up = UpLane {
         jail: text(alloc, "sshd")?,
         action: action(alloc)?,
@@ -245,10 +247,9 @@ fn inputs_of_the_whole_server_copy(rt: HostRuntime) -> Result<(), Fail> {
 #[test]
 fn what_the_outside_brings_copies(rt: HostRuntime) -> Result<(), Fail> {
     let alloc = rt.alloc();
-    let content = [b'[', b']'].to_vec(alloc)?;
     let file = TreeFile {
         path: text(alloc, "jail.conf")?,
-        content: Bytes::from(content),
+        content: Bytes::from_slice(alloc, b"[]")?,
     };
     let answer = TreeAnswer::Tree(Tree {
         files: one(alloc, file)?,
@@ -256,8 +257,8 @@ fn what_the_outside_brings_copies(rt: HostRuntime) -> Result<(), Fail> {
     assert_eq!(rt; answer.copy()?, answer);
     let look = FileLook {
         size: 2,
-        head: Bytes::from([b'a'].to_vec(alloc)?),
-        bytes: Bytes::from([b'a', b'b'].to_vec(alloc)?),
+        head: Bytes::from_slice(alloc, &[b'a'])?,
+        bytes: Bytes::from_slice(alloc, &[b'a', b'b'])?,
     };
     assert_eq!(rt; look.copy()?, look);
     Ok(())
