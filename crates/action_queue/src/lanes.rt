@@ -1,7 +1,8 @@
 //! `Lanes` and its methods. The jobs stand in a map by id; a queue for each lane that has jobs holds their ids, so that the first
 //! job of a lane is found without a look at the others.
-ghost use Rattle.std.specs.Prelude.{◌≡◌, ◌<◌, ◌^◌, ◌↔◌, true, [], ◌∷◌, ◌++◌, length, IsTrue, OnOk, OnErr, IfOk, IfSome};
+ghost use Rattle.std.specs.Prelude.{◌≡◌, ◌≤◌, ◌↔◌, true, [], ◌∷◌, ◌++◌, length, IsTrue, OnOk, OnErr, IfOk, IfSome};
 ghost use Rattle.std.specs.Option.{option_copied};
+ghost use Rattle.f2b_base.specs.Limits.{last_moment};
 ghost use Rattle.f2b_model.specs.Jobs.{head, job_by_id, is_head_id, next_due, AllIdsBelow, settled_as, settle_in};
 ghost use Rattle.action_queue.specs.Due.{is_number};
 ghost use Rattle.action_queue.specs.Tries.{ending_of};
@@ -113,7 +114,7 @@ impl Lanes {
     /// the third gives it up.
     pub fn settle(&mut self, id: u64, outcome: Outcome, now: u64) -> Settled
         requires head { is_head_id id self.old ≡ true }
-        requires now { now < 2 ^ 40 }
+        requires now { now ≤ last_moment }
         ensures jobs { self.new ≡ settle_in (ending_of id outcome now) self.old }
         ensures answer { IfSome (job_by_id id self.old) (λ job. result ≡ settled_as (ending_of id outcome now) job) }
     {

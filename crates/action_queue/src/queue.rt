@@ -1,10 +1,9 @@
 //! The queues of lanes: the ids of each lane's jobs, in order. No job is looked at here.
 ghost use Rattle.std.specs.Prelude.{◌≡◌, position, slice_get, OnOk, OnErr};
-ghost use Rattle.f2b_base.specs.Families.{same_family};
 ghost use Rattle.f2b_model.specs.Families.{same_lane};
 ghost use Rattle.action_queue.specs.Queues.{is_queue, ids_of, AreQueues, Added, Dropped, SameIds};
 
-use f2b_base::{Family, LaneId, NoMemory, Plain};
+use f2b_base::{LaneId, NoMemory, Plain};
 use std::alloc::Global;
 use std::collections::VecDeque;
 
@@ -15,23 +14,11 @@ pub(crate) struct Queue {
     pub(crate) ids: VecDeque<u64>,
 }
 
-/// Whether two families are one.
-fn same_family(a: Family, b: Family) -> bool
-    ensures { result ≡ same_family a b }
-{
-    match (a, b) {
-        (Family::Both, Family::Both) => true,
-        (Family::Inet4, Family::Inet4) => true,
-        (Family::Inet6, Family::Inet6) => true,
-        _ => false,
-    }
-}
-
 /// Whether two lanes are one.
 fn same_lane(a: &LaneId, b: &LaneId) -> bool
     ensures { result ≡ same_lane a.now b.now }
 {
-    a.jail == b.jail && (a.action == b.action && same_family(a.family, b.family))
+    a.jail == b.jail && (a.action == b.action && a.family.same(b.family))
 }
 
 /// The place of the lane's queue.

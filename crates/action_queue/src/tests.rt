@@ -1,13 +1,10 @@
 //! Worked rows: tries and their pauses, lanes and their order, and the last moment. A row names its lanes by letters.
 
 use crate::Lanes;
-use f2b_base::{Family, Job, JobKind, LaneId, Outcome, Plain, Settled, Text};
+use f2b_base::{Family, Job, JobKind, LAST_MOMENT, LaneId, Outcome, Plain, Settled, Text};
 use std::alloc::Global;
 use std::process::Abort;
 use std::test::Fail;
-
-/// The last moment that there is, in seconds since 1970.
-const LAST: u64 = (1 << 40) - 1;
 
 /// What a row does, and what it wants to see.
 #[derive(Clone, Copy)]
@@ -65,7 +62,7 @@ pub(crate) fn settle(
     now: u64,
 ) -> Settled {
     assert!(rt; lanes.is_head(id), "at job {id}");
-    assert!(rt; now <= LAST, "at {now}");
+    assert!(rt; now <= LAST_MOMENT, "at {now}");
     lanes.settle(id, outcome, now)
 }
 
@@ -129,7 +126,7 @@ fn a_job_has_three_tries(rt: HostRuntime) -> Result<(), Fail> {
                 Count(1),
                 Ends(7, SUCCEEDED, 1008, Settled::Done),
                 Count(0),
-                Next(LAST, &[], None),
+                Next(LAST_MOMENT, &[], None),
             ],
         ),
         (
@@ -140,7 +137,7 @@ fn a_job_has_three_tries(rt: HostRuntime) -> Result<(), Fail> {
                 Ends(7, FAILED, 1004, Settled::Again(1008)),
                 Ends(7, FAILED, 1009, Settled::GivenUp),
                 Count(0),
-                Next(LAST, &[], None),
+                Next(LAST_MOMENT, &[], None),
             ],
         ),
         (
@@ -227,15 +224,15 @@ fn lanes_do_not_wait_for_each_other(rt: HostRuntime) -> Result<(), Fail> {
         (
             "no moment is later than the last",
             &[
-                Push(1, "a", LAST),
+                Push(1, "a", LAST_MOMENT),
                 Push(2, "b", 0),
-                Next(LAST - 1, &[2], None),
-                Ends(2, FAILED, LAST - 2, Settled::Again(LAST)),
-                Ends(1, FAILED, LAST, Settled::Again(LAST)),
-                Next(LAST, &[], Some(1)),
-                Ends(2, FAILED, LAST - 4, Settled::Again(LAST)),
-                Ends(1, FAILED, LAST - 5, Settled::Again(LAST - 1)),
-                Next(LAST - 1, &[], Some(1)),
+                Next(LAST_MOMENT - 1, &[2], None),
+                Ends(2, FAILED, LAST_MOMENT - 2, Settled::Again(LAST_MOMENT)),
+                Ends(1, FAILED, LAST_MOMENT, Settled::Again(LAST_MOMENT)),
+                Next(LAST_MOMENT, &[], Some(1)),
+                Ends(2, FAILED, LAST_MOMENT - 4, Settled::Again(LAST_MOMENT)),
+                Ends(1, FAILED, LAST_MOMENT - 5, Settled::Again(LAST_MOMENT - 1)),
+                Next(LAST_MOMENT - 1, &[], Some(1)),
             ],
         ),
     ];

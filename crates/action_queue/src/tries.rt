@@ -1,19 +1,17 @@
 //! What the ending of a try makes of its job.
-ghost use Rattle.std.specs.Prelude.{◌≡◌, ◌<◌, ◌≤◌, ◌^◌};
+ghost use Rattle.std.specs.Prelude.{◌≡◌, ◌<◌, ◌≤◌};
+ghost use Rattle.f2b_base.specs.Limits.{last_moment};
 ghost use Rattle.f2b_model.specs.Jobs.{is_success, capped, wait_after, settled_as};
 ghost use Rattle.action_queue.specs.Tries.{ending_of, IfAgain};
 
-use f2b_base::{Job, Outcome, Settled};
-
-/// The last moment, in seconds since 1970.
-const LAST_MOMENT: u64 = 1_099_511_627_775;
+use f2b_base::{Job, LAST_MOMENT, Outcome, Settled};
 
 /// How many failed tries a job may have and be tried again.
 const MAX_FAILED: u8 = 2;
 
 /// What the ending of a try of the job, at `now` in seconds since 1970, does to it.
 pub(crate) fn settled_as(job: &Job, id: u64, outcome: Outcome, now: u64) -> Settled
-    requires { now < 2 ^ 40 }
+    requires { now ≤ last_moment }
     ensures value { result ≡ settled_as (ending_of id outcome now) job.now }
     ensures few { IfAgain result (job.now.tries < 2) }
 {

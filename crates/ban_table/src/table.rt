@@ -1,8 +1,9 @@
 //! `BanTable` and its calls.
-ghost use Rattle.std.specs.Prelude.{◌≡◌, ◌≢◌, ◌<◌, ◌^◌, [], false, length, filter, find, is_some, option_copied, Some, OnOk, OnErr, IfOk, IfSome};
+ghost use Rattle.std.specs.Prelude.{◌≡◌, ◌≢◌, ◌<◌, ◌≤◌, [], false, length, filter, find, is_some, option_copied, Some, OnOk, OnErr, IfOk, IfSome};
 ghost use Rattle.std.specs.BTreeMap.{values};
 ghost use Rattle.std.specs.List.{list_any};
 ghost use Rattle.f2b_base.specs.declared.ban.Ban.{Ban};
+ghost use Rattle.f2b_base.specs.Limits.{last_moment};
 ghost use Rattle.f2b_model.specs.Lists.{AllOf};
 ghost use Rattle.f2b_model.specs.Moves.{ban_of, is_banned, past_of, up_to_32};
 ghost use Rattle.f2b_model.specs.Sound.{IsOnceEach, IsRisingSerials};
@@ -117,7 +118,7 @@ impl BanTable {
     /// Ends the address's ban at a moment, in seconds since 1970, and adds a past entry. `None` where it is not banned. Takes no
     /// memory.
     pub fn end(&mut self, addr: Addr, at: u64) -> Option<Ban>
-        requires { at < 2 ^ 40 }
+        requires { at ≤ last_moment }
         ensures ban { result ≡ find (ban_of addr) self.old.active }
         ensures lists { self.new ≡ ended addr at self.old }
     {

@@ -1,8 +1,9 @@
 //! Worked rows, through the calls of `BanTable`.
-ghost use Rattle.std.specs.Prelude.{◌<◌, ◌^◌};
+ghost use Rattle.std.specs.Prelude.{◌≤◌};
+ghost use Rattle.f2b_base.specs.Limits.{last_moment};
 
 use crate::{BanLists, BanTable};
-use f2b_base::{Addr, Ban, NoMemory, Past, Seq, Until};
+use f2b_base::{Addr, Ban, LAST_MOMENT, NoMemory, Past, Seq, Until};
 use std::alloc::Global;
 use std::test::Fail;
 
@@ -63,7 +64,7 @@ fn table_after(alloc: Global, steps: &[Step]) -> Result<BanTable, NoMemory> {
 
 /// The serials of the bans that are due at a moment, each of which is ended at it before the next one is asked for.
 fn ended_at(alloc: Global, table: &mut BanTable, now: u64) -> Result<Vec<u64>, NoMemory>
-    requires { now < 2 ^ 40 }
+    requires { now ≤ last_moment }
 {
     let mut serials = Vec::new(alloc);
     for _ in 0..2_000_000_u64 {
@@ -93,7 +94,7 @@ fn bans_end_by_end_and_then_by_serial(rt: HostRuntime) -> Result<(), Fail> {
         (19, &[]),
         (25, &[0]),
         (40, &[4]),
-        ((1 << 40) - 1, &[]),
+        (LAST_MOMENT, &[]),
     ];
     for (now, serials) in rows {
         let ended = ended_at(rt.alloc(), &mut table, now)?;
