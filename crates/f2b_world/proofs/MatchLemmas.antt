@@ -5,19 +5,15 @@ use Rattle.regex.specs.Patterns.{Re, Match, find_str, slot_of, span}
 use Rattle.regex.specs.Names.{span_at}
 use Rattle.regex.specs.Writes.{both}
 use Rattle.regex.specs.Search.{group_span}
-use Rattle.regex.specs.Strings.{IsCapturesOf, captures_names, captures_span}
+use Rattle.regex.specs.Strings.{IsCapturesOf, captures_span}
 use Rattle.regex.specs.declared.string.captures.Captures.{Captures}
 use Rattle.regex.proofs.ForCallers.{found_alike, span_alike}
 use Rattle.regex_syntax.specs.Grammar.{Names}
 use Rattle.f2b_world.specs.Reading.{IsReadAs}
-use Rattle.f2b_world.specs.declared.pattern.spans.Cut.{Cut}
+use Rattle.f2b_world.specs.declared.pattern.numbers.HostNumbers.{HostNumbers}
 use Rattle.f2b_world.specs.Matches.{NumberedSpans, cut, offsets, named, number_of, host_spans, numbered_spans, hosts_in, numbered_in, whole_in, group_in}
-use Rattle.f2b_world.specs.Captured.{captured_cut, captured_hosts, captured_numbered, captured_group}
+use Rattle.f2b_world.specs.Captured.{host_numbers, captured_hosts, captured_numbered, captured_group}
 use Rattle.regex.specs.Strings.{match_span}
-
-span_at-alike : (f g : ℕ → Option (ℕ × ℕ)) → ((n : ℕ) → f n ≡ g n) → (o : Option ℕ) → span_at f o ≡ span_at g o
-span_at-alike f g h None = refl
-span_at-alike f g h (Some n) = h n
 
 -- the captures of a match have its offsets
 captured_offsets : (line : List ℕ) (m : Match) (c : Captures) → IsCapturesOf line m c → (n : ℕ) → captures_span c n ≡ offsets m n
@@ -36,18 +32,20 @@ module _ (line : List ℕ) (m : Match) (c : Captures) (h : IsCapturesOf line m c
   offsets_are : (k : ℕ) → captures_span c k ≡ offsets n k
   offsets_are k = captured_offsets line m c h k ∙ offsets_alike m n whole slots k
 
-  by_name : (names : Names) → captures_names c ≡ names → (name : List ℕ) → captured_cut c name ≡ named names n name
-  by_name names same name =
-      ap (λ given. option_map cut (span_at (captures_span c) (number_of name given))) same
-      ∙ ap (option_map cut) (span_at-alike _ _ offsets_are (number_of name names))
+  by_number : (number : Option ℕ) → captured_group c number ≡ option_map cut (span_at (offsets n) number)
+  by_number None = refl
+  by_number (Some k) = ap (option_map cut) (offsets_are k)
 
-  captured_hosts_are : (names : Names) → captures_names c ≡ names → captured_hosts c ≡ host_spans names n
-  captured_hosts_are names same = λ i. record {
+  by_name : (names : Names) (name : List ℕ) → captured_group c (number_of name names) ≡ named names n name
+  by_name names name = by_number (number_of name names)
+
+  captured_hosts_are : (names : Names) → captured_hosts (host_numbers names) c ≡ host_spans names n
+  captured_hosts_are names = λ i. record {
     whole = cut ((h.1.whole_is ∙ whole) i);
-    ip4 = by_name names same (codes "f2b4") i;
-    ip6 = by_name names same (codes "f2b6") i;
-    name = by_name names same (codes "f2bn") i;
-    content = by_name names same (codes "f2bc") i;
+    ip4 = by_name names (codes "f2b4") i;
+    ip6 = by_name names (codes "f2b6") i;
+    name = by_name names (codes "f2bn") i;
+    content = by_name names (codes "f2bc") i;
   }
 
   captured_numbered_are : (group : ℕ) → captured_numbered c group ≡ numbered_spans group n
@@ -72,11 +70,11 @@ module _ (text : List ℕ) (tree : Re) (names : Names) (g : IsReadAs text tree n
         (f.0, f.1, whole, sym f.2)
 
     -- the captures that were found are those of the leftmost match by the text
-    pub found_hosts : captures_names c ≡ names → Some (captured_hosts c) ≡ hosts_in text line
+    pub found_hosts : (numbers : HostNumbers) → numbers ≡ host_numbers names → Some (captured_hosts numbers c) ≡ hosts_in text line
     unfolding hosts_in
-    found_hosts same =
+    found_hosts numbers same =
         let f = by_text in
-        rw (g.is, f.1) (ap Some (captured_hosts_are line m c h f.0 f.2 f.3 _ (same ∙ g.named)))
+        rw (g.is, f.1, same) (ap Some (captured_hosts_are line m c h f.0 f.2 f.3 names ∙ ap (λ found. host_spans found f.0) g.named))
 
     found_numbered : (group : ℕ) → Some (captured_numbered c group) ≡ numbered_in text group line
     unfolding numbered_in

@@ -2,20 +2,19 @@
 -- are plain numbers and lists, and what is written of them is read again only where they are so.
 use Rattle.std.specs.Prelude.{◌<◌, ◌^◌, All, FitsSigned, IsUtf8}
 use Rattle.std.specs.Int.{w32}
-use Rattle.f2b_base.specs.declared.outside.FileLook.{FileLook}
 use Rattle.f2b_base.specs.declared.outside.Reading.{Reading}
 use Rattle.f2b_world.specs.declared.answer.Accept.{Accept}
-use Rattle.f2b_world.specs.declared.answer.Accept.TheVariants.{Conn, Quiet as NoClient, Failed as AcceptFailed}
+use Rattle.f2b_world.specs.declared.answer.Accept.TheVariants.{Conn}
 use Rattle.f2b_world.specs.declared.answer.GateWrite.{GateWrite}
-use Rattle.f2b_world.specs.declared.answer.GateWrite.TheVariants.{Took, Quiet as TookNone, Failed as TookFailed}
+use Rattle.f2b_world.specs.declared.answer.GateWrite.TheVariants.{Took}
 use Rattle.f2b_world.specs.declared.answer.Len.{Len}
 use Rattle.f2b_world.specs.declared.answer.Len.TheVariants.{Bytes as LenBytes, Failed as LenFailed}
 use Rattle.f2b_world.specs.declared.answer.Look.{Look}
-use Rattle.f2b_world.specs.declared.answer.Look.TheVariants.{File, Absent as LookAbsent, Failed as LookFailed, NoMemory as LookNoMemory}
+use Rattle.f2b_world.specs.declared.answer.Look.TheVariants.{File}
 use Rattle.f2b_world.specs.declared.answer.NamesAnswer.{NamesAnswer}
-use Rattle.f2b_world.specs.declared.answer.NamesAnswer.TheVariants.{Names, Absent as NamesAbsent, Failed as NamesFailed, NoMemory as NamesNoMemory}
+use Rattle.f2b_world.specs.declared.answer.NamesAnswer.TheVariants.{Names}
 use Rattle.f2b_world.specs.declared.answer.PollAnswer.{PollAnswer}
-use Rattle.f2b_world.specs.declared.answer.PollAnswer.TheVariants.{Running, Ended, Failed as PollFailed}
+use Rattle.f2b_world.specs.declared.answer.PollAnswer.TheVariants.{Ended}
 use Rattle.f2b_world.specs.declared.event.Event.{Event}
 use Rattle.f2b_world.specs.declared.event.Event.TheVariants.{DiskLen, Clock, Names as NamesIn, Look as LookAt, ChildPoll, GateAccept, GateWrite as WriteTo}
 

@@ -2,6 +2,7 @@
 ghost use Rattle.f2b_world.specs.Reading.{IsMadeOf};
 
 mod matcher;
+mod numbers;
 mod spans;
 
 pub use matcher::Matcher;

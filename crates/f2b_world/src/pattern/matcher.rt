@@ -4,6 +4,7 @@ ghost use Rattle.f2b_world.specs.Matches.{hosts_in, whole_in, group_in};
 ghost use Rattle.f2b_world.specs.Spans.{IsCut, AreCuts, AreHostCuts};
 
 use crate::pattern::Pattern;
+use crate::pattern::numbers::{HostNumbers, host_numbers};
 use crate::pattern::spans::{Cut, HostSpans, hosts_at, whole_at, write_groups};
 use f2b_base::NoMemory;
 use std::alloc::Global;
@@ -15,18 +16,19 @@ use std::marker::Model;
 pub struct Matcher<'p> {
     pattern: &'p Pattern,
     inner: regex::Matcher<'p>,
+    numbers: HostNumbers,
 }
 
 impl<'p> Model for Matcher<'p> {
     ghost use Rattle.std.specs.Prelude.{ℕ, List};
     ghost use Rattle.regex.specs.Strings.{matcher_pattern, matcher_names};
-    ghost use Rattle.f2b_world.specs.Reading.{IsReadAs};
+    ghost use Rattle.f2b_world.specs.Captured.{IsMatcherOf};
 
     ghost Value = { List ℕ };
 
     ghost view = { λ m. m.pattern.now };
 
-    ghost invariant = { λ m. IsReadAs m.pattern.now (matcher_pattern m.inner) (matcher_names m.inner) };
+    ghost invariant = { λ m. IsMatcherOf m.pattern.now (matcher_pattern m.inner) (matcher_names m.inner) m.numbers };
 }
 
 impl Pattern {
@@ -38,6 +40,7 @@ impl Pattern {
         Ok(Matcher {
             pattern: self,
             inner,
+            numbers: host_numbers(&self.regex),
         })
     }
 }
@@ -50,7 +53,7 @@ impl<'p> Matcher<'p> {
         ensures same { self.new ≡ self.old }
     {
         match self.inner.captures(line) {
-            Some(captures) => Some(hosts_at(&captures)),
+            Some(captures) => Some(hosts_at(&captures, self.numbers)),
             None => None,
         }
     }

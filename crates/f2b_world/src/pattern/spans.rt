@@ -1,10 +1,11 @@
 //! Where the groups of a match lie in its line.
 ghost use Rattle.std.specs.Prelude.{◌≡◌, IfSome, length, map};
-ghost use Rattle.f2b_world.specs.Captured.{captured_cut, captured_hosts, captured_group};
+ghost use Rattle.f2b_world.specs.Captured.{captured_hosts, captured_group};
 ghost use Rattle.f2b_world.specs.Spans.{IsCut, AreHostCuts, AreCuts};
 ghost use Rattle.regex.specs.Strings.{captures_haystack, match_haystack, match_span};
 ghost use Rattle.f2b_world.specs.Matches.{cut};
 
+use crate::pattern::numbers::HostNumbers;
 use regex::{Captures, Match};
 
 /// A part of a line, as offsets in bytes. A match gives only parts that begin and end between characters.
@@ -40,31 +41,6 @@ fn cut_of(found: Match<'_>) -> Cut
     }
 }
 
-/// What the group with that name covers.
-fn named(captures: &Captures<'_, '_>, name: &str) -> Option<Cut>
-    ensures value { result ≡ captured_cut captures.now name.now }
-    ensures cut { IfSome result (IsCut (captures_haystack captures.now)) }
-{
-    match captures.name(name) {
-        Some(found) => Some(cut_of(found)),
-        None => None,
-    }
-}
-
-/// What the groups of a host and of the content cover.
-pub(super) fn hosts_at(captures: &Captures<'_, '_>) -> HostSpans
-    ensures value { result ≡ captured_hosts captures.now }
-    ensures cuts { AreHostCuts (captures_haystack captures.now) result }
-{
-    HostSpans {
-        whole: whole_at(captures),
-        ip4: named(captures, "f2b4"),
-        ip6: named(captures, "f2b6"),
-        name: named(captures, "f2bn"),
-        content: named(captures, "f2bc"),
-    }
-}
-
 /// Where the match lies.
 pub(super) fn whole_at(captures: &Captures<'_, '_>) -> Cut
     ensures value { result ≡ cut (match_span captures.now.whole) }
@@ -81,6 +57,20 @@ fn group_at(captures: &Captures<'_, '_>, number: Option<usize>) -> Option<Cut>
     match captures.get(number?) {
         Some(found) => Some(cut_of(found)),
         None => None,
+    }
+}
+
+/// What the groups of a host and of the content cover.
+pub(super) fn hosts_at(captures: &Captures<'_, '_>, numbers: HostNumbers) -> HostSpans
+    ensures value { result ≡ captured_hosts numbers captures.now }
+    ensures cuts { AreHostCuts (captures_haystack captures.now) result }
+{
+    HostSpans {
+        whole: whole_at(captures),
+        ip4: group_at(captures, numbers.ip4),
+        ip6: group_at(captures, numbers.ip6),
+        name: group_at(captures, numbers.name),
+        content: group_at(captures, numbers.content),
     }
 }
 

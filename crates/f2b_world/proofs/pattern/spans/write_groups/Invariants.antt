@@ -1,4 +1,4 @@
-use Rattle.std.proofs.Common.{◌≡◌, ℕ, ◌<◌, length, map, take}
+use Rattle.std.proofs.Common.{◌≡◌, map, take}
 use Rattle.f2b_world.specs.Captured.{captured_group}
 use Rattle.f2b_world.specs.Spans.{AreCuts}
 use Rattle.regex.specs.Strings.{captures_haystack}

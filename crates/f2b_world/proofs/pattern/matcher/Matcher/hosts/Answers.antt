@@ -7,7 +7,7 @@ returns-clause-found c = elim c.match-captures.branch [
   | in-Some w ↦
       let f = w.in-Some.ensures.found in
       rw (w.result-is, w.hosts_at.ensures.value, ← c.self.view_is)
-      (found_hosts _ _ _ c.self.invariant _ (λ k. (c.type_inv.line k).fits) f.0 w.in-Some.captures f.1 f.2 w.in-Some.ensures.names)
+      (found_hosts _ _ _ c.self.invariant.read _ (λ k. (c.type_inv.line k).fits) f.0 w.in-Some.captures f.1 f.2 _ c.self.invariant.numbered)
   | in-None w ↦
-      rw (w.result-is, ← c.self.view_is) (no_hosts _ _ _ c.self.invariant _ (λ k. (c.type_inv.line k).fits) w.in-None.ensures.found)
+      rw (w.result-is, ← c.self.view_is) (no_hosts _ _ _ c.self.invariant.read _ (λ k. (c.type_inv.line k).fits) w.in-None.ensures.found)
 ]
