@@ -7,7 +7,6 @@ ghost use Rattle.f2b_model.specs.Moves.{is_near_to};
 ghost use Rattle.ban_table.specs.Places.{key_of};
 ghost use Rattle.jail_moves.specs.Addresses.{failures_in, window_at, AreWindows, Counts, Enters, Grows, IsHeld, Loses, Sweeps};
 
-use crate::bans::same_addr;
 use f2b_base::{Addr, Failure, NoMemory, Plain, Seq};
 use fail_window::Window;
 use std::alloc::Global;
@@ -53,9 +52,7 @@ fn is_near(addr: Addr, time: u64, findtime: u64, other: &Failure) -> bool
     ensures { result ≡ is_near_to addr time findtime other.now }
 {
     let there = other.time;
-    same_addr(other.addr, addr)
-        && is_close(there, time, findtime)
-        && is_close(time, there, findtime)
+    other.addr.same(addr) && is_close(there, time, findtime) && is_close(time, there, findtime)
 }
 
 /// How many failures are so near.

@@ -2,7 +2,6 @@
 ghost use Rattle.std.specs.Prelude.{◌≡◌, ◌<◌, [], ◌∷◌, ◌++◌, not, false, filter, IfOk};
 ghost use Rattle.f2b_base.specs.declared.ban.Ban.{Ban};
 ghost use Rattle.f2b_base.specs.Span.{IsRule};
-ghost use Rattle.f2b_base.specs.Addresses.{same_addr};
 ghost use Rattle.f2b_model.specs.Lists.{AllOf};
 ghost use Rattle.f2b_model.specs.Moves.{is_banned, is_stale, new_ban};
 ghost use Rattle.f2b_model.specs.Until.{until_of};
@@ -10,22 +9,8 @@ ghost use Rattle.f2b_model.specs.Until.{until_of};
 pub use crate::ends::end_due;
 pub use crate::unbans::unban;
 use ban_table::BanTable;
-use f2b_base::{Addr, Ban, BanRule, JailDef, NoMemory, Span, Until, ban_span};
+use f2b_base::{Addr, Ban, BanRule, JailDef, LAST_MOMENT, NoMemory, Span, Until, ban_span};
 use std::alloc::Global;
-
-/// The last second that a moment can be.
-const LAST_MOMENT: u64 = (1 << 40) - 1;
-
-/// Whether two addresses are one.
-pub fn same_addr(a: Addr, b: Addr) -> bool
-    ensures { result ≡ same_addr a b }
-{
-    match (a, b) {
-        (Addr::V4(x), Addr::V4(y)) => x == y,
-        (Addr::V6(x), Addr::V6(y)) => x == y,
-        (Addr::V4(_), Addr::V6(_)) | (Addr::V6(_), Addr::V4(_)) => false,
-    }
-}
 
 /// The end of a ban that begins now.
 fn until_of(rule: &BanRule, at: u64, count: u32, word: u64, serial: u64) -> Until

@@ -3,7 +3,7 @@ use Rattle.std.proofs.Common.{◌≡◌, ℕ, max, Bool, true, false, cond, List
 use Rattle.f2b_base.specs.declared.ban.Ban.{Ban}
 use Rattle.f2b_base.specs.declared.input.Input.{Input}
 use Rattle.f2b_base.specs.declared.input.What.{What}
-use Rattle.f2b_base.specs.declared.input.What.TheVariants.{Tick, Read, Ended, Config, Stop, Ban as BanThese, Unban, Attempt, Ignore, Findtime, Bantime, Maxretry, Idle}
+use Rattle.f2b_base.specs.declared.input.What.TheVariants.{Tick, Read, Ended, Config, Stop, Ban as BanThese, Unban, Attempt, Ignore, Findtime, Bantime, Maxretry, Idle, CheckFailed}
 use Rattle.f2b_base.specs.declared.job.Job.{Job}
 use Rattle.f2b_model.specs.declared.happening.Happening.{Happening}
 use Rattle.f2b_model.specs.declared.jail_now.JailNow.{JailNow}
@@ -35,6 +35,7 @@ done_is word (Findtime jail secs) w alone = refl
 done_is word (Bantime jail secs) w alone = refl
 done_is word (Maxretry jail number) w alone = refl
 done_is word (Idle jail idle) w alone = refl
+done_is word (CheckFailed job outcome) w alone = refl
 
 -- and what it tells
 pub told_is : (word : ℕ) (what : What) (w : JailsNow) → is_of_jails what ≡ true → told_done moves_now word what w ≡ told_happened w.at word what w.next_ban w.jails
@@ -51,6 +52,7 @@ told_is word (Findtime jail secs) w alone = refl
 told_is word (Bantime jail secs) w alone = refl
 told_is word (Maxretry jail number) w alone = refl
 told_is word (Idle jail idle) w alone = refl
+told_is word (CheckFailed job outcome) w alone = refl
 
 -- what happened leaves the moment
 pub done_at : (word : ℕ) (what : What) (w : JailsNow) → (done moves_now word what w).at ≡ w.at
@@ -67,3 +69,4 @@ done_at word (Findtime jail secs) w = refl
 done_at word (Bantime jail secs) w = refl
 done_at word (Maxretry jail number) w = refl
 done_at word (Idle jail idle) w = refl
+done_at word (CheckFailed job outcome) w = refl

@@ -2,28 +2,16 @@
 ghost use Rattle.std.specs.Prelude.{◌≡◌, ◌≤◌, not, length, filter, OnOk};
 ghost use Rattle.std.specs.List.{list_any};
 ghost use Rattle.f2b_base.specs.declared.addr.Cidr.{Cidr};
-ghost use Rattle.f2b_base.specs.Addresses.{same_addr};
 ghost use Rattle.f2b_model.specs.Moves.{ignored, same_cidr};
 ghost use Rattle.jail_rooms.specs.Reading.{jail_place};
 
-use f2b_base::{Addr, Cidr, JailDef, NoMemory, Seq, Text};
-
-/// Whether two addresses are one.
-fn same_addr(a: Addr, b: Addr) -> bool
-    ensures { result ≡ same_addr a b }
-{
-    match (a, b) {
-        (Addr::V4(x), Addr::V4(y)) => x == y,
-        (Addr::V6(x), Addr::V6(y)) => x == y,
-        (Addr::V4(_), Addr::V6(_)) | (Addr::V6(_), Addr::V4(_)) => false,
-    }
-}
+use f2b_base::{Cidr, JailDef, NoMemory, Seq, Text};
 
 /// Whether two masks are one.
 fn same_cidr(a: Cidr, b: Cidr) -> bool
     ensures { result ≡ same_cidr a b }
 {
-    same_addr(a.base, b.base) && a.bits == b.bits
+    a.base.same(b.base) && a.bits == b.bits
 }
 
 /// Whether a mask is there.

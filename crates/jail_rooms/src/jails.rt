@@ -7,7 +7,7 @@ ghost use Rattle.f2b_model.specs.NowMoves.{dropped_now};
 ghost use Rattle.f2b_model.specs.Sound.{AreFitDefs, IsSoundView};
 ghost use Rattle.f2b_model.specs.Steps.{at_reading, done, each_jail, is_ban_due, moves_now};
 ghost use Rattle.f2b_model.specs.Told.{told_done, told_each, told_ends};
-ghost use Rattle.f2b_base.specs.Limits.{last_moment};
+ghost use Rattle.f2b_base.specs.Limits.{default_purge, last_moment};
 ghost use Rattle.f2b_model.specs.Views.{gathered, jail_view};
 ghost use Rattle.f2b_model.specs.Laws.{AreWatched};
 ghost use Rattle.f2b_model.specs.Lists.{AllOf};
@@ -23,7 +23,7 @@ use crate::each::{drop_all, end_all, is_ban_due};
 use crate::happen::happen;
 use crate::reads::Turn;
 use crate::stored::{rooms_of, views};
-use f2b_base::{Defs, JailDef, JailView, NoMemory, Plain, Seq, View, What};
+use f2b_base::{DEFAULT_PURGE, Defs, JailDef, JailView, NoMemory, Plain, Seq, View, What};
 use f2b_model::Happening;
 use jail_moves::Room;
 use lane_moves::JailBans;
@@ -85,13 +85,13 @@ fn is_any_idle(rooms: &[Room]) -> bool
 impl Jails {
     /// No jails yet; a ban that is over counts for a day. Takes no memory.
     pub fn empty(alloc: Global) -> Jails
-        ensures { result ≡ record { at = 0; purge = 86400; jails = []; next_ban = 0 } }
+        ensures { result ≡ record { at = 0; purge = default_purge; jails = []; next_ban = 0 } }
     {
         Jails {
             alloc,
             at: 0,
             defs: Defs {
-                purge: 86_400,
+                purge: DEFAULT_PURGE,
                 jails: Seq::new(alloc),
             },
             rooms: Vec::new(alloc),

@@ -1,22 +1,9 @@
-//! When two families, actions or lanes are one, and whether a lane takes an address.
+//! When two actions or lanes are one, and whether a lane takes an address.
 ghost use Rattle.std.specs.Prelude.{◌≡◌};
-ghost use Rattle.f2b_base.specs.Families.{same_family};
 ghost use Rattle.f2b_model.specs.Families.{in_family, same_action, same_up};
 ghost use Rattle.f2b_model.specs.Orders.{is_lane, lane_id};
 
 use f2b_base::{ActionDef, Addr, Family, Text, UpLane};
-
-/// Whether two families are one.
-fn same_family(a: Family, b: Family) -> bool
-    ensures { result ≡ same_family a b }
-{
-    match (a, b) {
-        (Family::Both, Family::Both) => true,
-        (Family::Inet4, Family::Inet4) => true,
-        (Family::Inet6, Family::Inet6) => true,
-        _ => false,
-    }
-}
 
 /// Whether an address is of a family: each is of Both.
 pub(crate) fn in_family(family: Family, addr: Addr) -> bool
@@ -34,7 +21,7 @@ fn same_action(a: &ActionDef, b: &ActionDef) -> bool
     ensures { result ≡ same_action a.now b.now }
 {
     a.name == b.name
-        && (same_family(a.family, b.family)
+        && (a.family.same(b.family)
             && (a.start == b.start
                 && (a.stop == b.stop
                     && (a.ban == b.ban
@@ -54,5 +41,5 @@ pub(crate) fn is_lane(lane: &UpLane, jail: &Text, action: &ActionDef) -> bool
     ensures { result ≡ is_lane (lane_id (record { jail = jail.now; action = action.now })) lane.now }
 {
     lane.jail == *jail
-        && (lane.action.name == action.name && same_family(lane.action.family, action.family))
+        && (lane.action.name == action.name && lane.action.family.same(action.family))
 }
