@@ -1,6 +1,7 @@
 -- The leftmost match of a pattern in a line, and what its groups cover.
-use Rattle.std.specs.Prelude.{ℕ, zero, suc, ◌+◌, Bool, true, false, ◌&&◌, ◌==◌, List, [], ◌∷◌, Option, Some, None, option_and_then, option_map, codes, if◌then◌else◌}
-use Rattle.regex.specs.Patterns.{Match, find_str, span}
+use Rattle.std.specs.Prelude.{◌≡◌, ℕ, zero, suc, ◌+◌, ◌<◌, Bool, true, false, ◌&&◌, ◌==◌, List, [], ◌∷◌, Option, Some, None, is_some, map, option_and_then, option_map, slice_index_or, codes, if◌then◌else◌}
+use Rattle.regex.specs.Patterns.{Re, Match, find_str, span}
+use Rattle.regex.specs.Sets.{matches_of}
 use Rattle.regex.specs.Writes.{group_of}
 use Rattle.regex.specs.Names.{span_at}
 use Rattle.regex_syntax.specs.Grammar.{Names}
@@ -73,3 +74,9 @@ whole_in text line = option_map (λ (s : NumberedSpans). s.whole) (numbered_in t
 abbrev pub group_in : List ℕ → List ℕ → Option ℕ → Option Cut
 group_in text line number =
     option_and_then (λ n. option_and_then (λ (s : NumberedSpans). s.group) (numbered_in text n line)) number
+
+-- in each line of bytes the trees match where the patterns with the texts do
+abbrev pub MatchAlike : List (List ℕ) → List Re → Type 0
+MatchAlike texts trees =
+    (line : List ℕ) → ((k : ℕ) → slice_index_or line k 0 < 256)
+    → matches_of true trees line 0 ≡ map (λ text. is_some (whole_in text line)) texts

@@ -21,4 +21,4 @@ pub use outside::{
     Children, Configuration, Directories, Disk, Files, Gate, Link, Logs, Outside, Patterns, Sink,
     Store, Time, World,
 };
-pub use pattern::{Cut, HostSpans, Made, Matcher, Pattern, build_pattern};
+pub use pattern::{Cut, HostSpans, Made, Matcher, Pattern, PatternSet, SetMatcher, build_pattern};

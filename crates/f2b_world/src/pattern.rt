@@ -3,10 +3,12 @@ ghost use Rattle.f2b_world.specs.Reading.{IsMadeOf};
 
 mod matcher;
 mod numbers;
+mod set;
 mod spans;
 
 pub use matcher::Matcher;
 use regex::{Error, Regex};
+pub use set::{PatternSet, SetMatcher};
 pub use spans::{Cut, HostSpans};
 use std::alloc::Global;
 use std::fmt;

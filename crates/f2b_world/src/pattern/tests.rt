@@ -1,4 +1,4 @@
-//! What no clause says: which texts are built, and that one matcher serves many lines.
+//! What no clause says: which texts are built, that patterns get a set, and that one matcher serves many lines.
 use super::*;
 use std::test::*;
 
@@ -54,5 +54,25 @@ fn numbered_groups_of_many_lines(rt: HostRuntime) -> Result<(), Fail> {
     let whole = matcher.matched("3x-d", &numbers, &mut cuts);
     assert_eq!(rt; whole, Some(Cut { start: 0, end: 4 }));
     assert_eq!(rt; cuts[2], Some(Cut { start: 1, end: 2 }));
+    Ok(())
+}
+
+#[test]
+fn a_set_says_whether_any_of_its_patterns_matches(rt: HostRuntime) -> Result<(), Fail> {
+    let mut patterns = Vec::new(rt.alloc());
+    for text in ["^from (?P<f2b4>[0-9]+)$", r"\bbad\b"] {
+        let Made::Built(pattern) = build_pattern(rt.alloc(), text) else {
+            return Err(Fail::from("not built"));
+        };
+        patterns.push(pattern)?;
+    }
+    let set = PatternSet::of(rt.alloc(), patterns.as_slice())?.ok_or("a set")?;
+    let mut matcher = set.matcher(rt.alloc())?;
+    assert!(rt; matcher.any("from 192"));
+    assert!(rt; matcher.any("a bad line"));
+    assert!(rt; !matcher.any("from nowhere, badly"));
+    assert!(rt; matcher.any("bad"));
+    let empty = PatternSet::of(rt.alloc(), &[])?.ok_or("a set of none")?;
+    assert!(rt; !empty.matcher(rt.alloc())?.any("bad"));
     Ok(())
 }
