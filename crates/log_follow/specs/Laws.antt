@@ -3,6 +3,7 @@ use Rattle.std.specs.Prelude.{ℕ, ◌≡◌, ◌+◌, min, true, List, [], ◌�
 use Rattle.std.specs.Char.{IsScalar, encode_utf8}
 use Rattle.std.specs.Str.{StartsWithNoChar}
 use Rattle.f2b_base.specs.declared.outside.FileLook.{FileLook}
+use Rattle.f2b_base.specs.Limits.{head_bytes}
 use Rattle.log_follow.specs.Decoded.{decoded, replacement}
 use Rattle.log_follow.specs.Lines.{rest_of, lines_of, new_lines}
 use Rattle.log_follow.specs.Watches.{Watch, IsPlace, Answers, is_placed, position_in, reading_place, head_in, place_in, ask_in, goes_on, looked}
@@ -57,7 +58,7 @@ pub record WatchLaw : Type 0 where
   -- the carry lies between the position and the reading place
   pub position : (w : Watch) → position_in w + length (rest_of w.seen) ≡ reading_place w
   -- places stay within their bounds
-  pub head : (w : Watch) → IsPlace w.base → length (head_in w) ≡ min 64 (reading_place w)
+  pub head : (w : Watch) → IsPlace w.base → length (head_in w) ≡ min head_bytes (reading_place w)
   pub base : (w : Watch) (look : FileLook) → IsPlace w.base → Answers (ask_in w) look → IsPlace (looked w look).0.base
   pub place : (w : Watch) → IsPlace w.base → IsPlace (place_in w)
   -- who begins again at the place that was kept reads the carry again, and finds the same lines behind it

@@ -4,6 +4,7 @@ use Rattle.std.specs.List.{starts_with}
 use Rattle.f2b_base.specs.declared.jail.Place.{Place}
 use Rattle.f2b_base.specs.declared.jail.Place.TheVariants.{Tail, Pos}
 use Rattle.f2b_base.specs.declared.outside.FileLook.{FileLook}
+use Rattle.f2b_base.specs.Limits.{head_bytes, look_bytes}
 use Rattle.log_follow.specs.Lines.{rest_of, new_lines}
 use Rattle.log_follow.specs.declared.line.Line.{Line}
 use Rattle.log_follow.specs.declared.step.Ask.{Ask}
@@ -19,10 +20,10 @@ pub record Watch : Type 0 where
 abbrev pub begun : Place → Watch
 begun place = record { base = place; seen = [] }
 
--- a place has the log's first 64 bytes, or all before the position where they are fewer
+-- a place has the log's first bytes, as many as make a head, or all before the position where they are fewer
 abbrev pub IsPlace : Place → Type 0
 IsPlace Tail = Unit {0}
-IsPlace (Pos position head) = length head ≡ min 64 position
+IsPlace (Pos position head) = length head ≡ min head_bytes position
 
 -- What is derived from a generation.
 
@@ -50,23 +51,23 @@ position_in w = base_position w.base + whole_length w.seen
 abbrev pub reading_place : Watch → ℕ
 reading_place w = base_position w.base + length w.seen
 
--- the log's first 64 bytes, or all that were read where they are fewer
+-- the log's first bytes, as many as make a head, or all that were read where they are fewer
 abbrev pub head_in : Watch → List ℕ
-head_in w = take 64 (base_head w.base ++ w.seen)
+head_in w = take head_bytes (base_head w.base ++ w.seen)
 
 -- the place that is kept of a watch: never the carry
 abbrev pub place_by : Place → Watch → Place
 place_by Tail w = Tail
-place_by (Pos position head) w = Pos (position_in w) (take (min 64 (position_in w)) (head_in w))
+place_by (Pos position head) w = Pos (position_in w) (take (min head_bytes (position_in w)) (head_in w))
 
 abbrev pub place_in : Watch → Place
 place_in w = place_by w.base w
 
 -- Looks.
 
--- what to look for: 64 bytes of head, and at most 65,536 bytes from the reading place on
+-- what to look for: the head, and from the reading place on at most as many bytes as one look brings
 abbrev pub ask_in : Watch → Ask
-ask_in w = record { head = 64; from = reading_place w; max = 65536 }
+ask_in w = record { head = head_bytes; from = reading_place w; max = look_bytes }
 
 -- the look answers the ask: its head has as many bytes as were asked for, or all there are, and its bytes lie in the log from there on
 pub record Answers (ask : Ask) (look : FileLook) : Type 0 where

@@ -1,16 +1,14 @@
 //! `Follower`, which is fed what looks at one log bring.
 ghost use Rattle.std.specs.Prelude.{◌≡◌, ◌<◌, ◌≤◌, ◌+◌, ◌++◌, ◌^◌, true, min, length, take, IfOk, OnOk, OnErr};
+ghost use Rattle.f2b_base.specs.Limits.{head_bytes};
 ghost use Rattle.log_follow.specs.Carried.{length_of};
 ghost use Rattle.log_follow.specs.Lines.{new_lines};
 
 use crate::carry::Carry;
 use crate::line::Line;
 use crate::step::{Ask, Step};
-use f2b_base::{Bytes, FileLook, NoMemory, Place, Plain, Seq};
+use f2b_base::{Bytes, FileLook, HEAD_BYTES, LOOK_BYTES, NoMemory, Place, Plain, Seq};
 use std::alloc::Global;
-
-/// How many of a log's first bytes tell it from another one.
-const HEAD: usize = 64;
 
 /// The follower of one log.
 #[derive(Debug, Drop)]
@@ -21,10 +19,10 @@ pub struct Follower {
     from: u64,
     /// What came after the last LF.
     carry: Carry,
-    /// The log's first 64 bytes, or all that were read where they are fewer.
+    /// The log's first bytes, `HEAD_BYTES` of them, or all that were read where they are fewer.
     head: Bytes,
     ghost within: { length_of carry ≤ from },
-    ghost heading: { length head ≡ min 64 from },
+    ghost heading: { length head ≡ min head_bytes from },
 }
 
 impl Follower {
@@ -50,7 +48,7 @@ impl Follower {
 
     // Nothing is read yet from this position on.
     fn at(alloc: Global, position: u64, head: Bytes) -> Follower
-        requires { length head ≡ min 64 position }
+        requires { length head ≡ min head_bytes position }
         ensures { StandsFor result (begun (AtPosition position head)) }
     {
         Follower {
@@ -61,16 +59,16 @@ impl Follower {
         }
     }
 
-    /// What to look for next: 64 bytes of head, and at most 65,536 bytes from the reading place on, which is 0 as long as the
+    /// What to look for next: `HEAD_BYTES` of head, and at most `LOOK_BYTES` from the reading place on, which is 0 as long as the
     /// log's end is not found. Takes no memory.
     pub fn ask(&self) -> Ask
         ensures value { result ≡ ask_of self.now }
         ensures watch { (w : Watch) → StandsFor self.now w → result ≡ ask_in w }
     {
         Ask {
-            head: 64,
+            head: HEAD_BYTES,
             from: self.from,
-            max: 65_536,
+            max: LOOK_BYTES,
         }
     }
 
@@ -108,7 +106,7 @@ impl Follower {
             return Ok(Place::Tail);
         }
         let position = self.from - self.carry.len();
-        let count = position.min(HEAD as u64) as usize;
+        let count = position.min(HEAD_BYTES as u64) as usize;
         Ok(Place::Pos {
             position,
             head: Bytes::from_slice(alloc, &self.head.as_slice()[..count])?,
@@ -140,13 +138,13 @@ impl Follower {
     }
 }
 
-// The first 64 of a head's bytes and of those behind it.
+// The first of a head's bytes and of those behind it, `HEAD_BYTES` of them.
 fn joined(alloc: Global, head: &Bytes, bytes: &[u8]) -> Result<Bytes, NoMemory>
-    requires { length head.now ≤ 64 }
-    ensures { IfOk result (λ joined. joined ≡ take 64 (head.now ++ bytes.now)) }
+    requires { length head.now ≤ head_bytes }
+    ensures { IfOk result (λ joined. joined ≡ take head_bytes (head.now ++ bytes.now)) }
 {
     let mut joined = Bytes::from_slice(alloc, head.as_slice())?;
-    let room = HEAD - head.len();
+    let room = HEAD_BYTES as usize - head.len();
     joined.push_slice(&bytes[..room.min(bytes.len())])?;
     Ok(joined)
 }
