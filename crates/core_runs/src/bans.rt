@@ -3,11 +3,10 @@ ghost use Rattle.std.specs.Prelude.{◌≡◌, true};
 ghost use Rattle.f2b_base.specs.Span.{IsRule};
 
 use crate::jail::SlowJail;
-use f2b_base::{Addr, Ban, BanRule, NoMemory, Past, Plain, Seq, Span, Until, ban_span};
+use f2b_base::{
+    Addr, Ban, BanRule, LAST_MOMENT, NoMemory, Past, Plain, Seq, Span, Until, ban_span,
+};
 use f2b_model::Happening;
-
-/// The last second that a moment can be.
-pub const LAST_MOMENT: u64 = (1 << 40) - 1;
 
 /// The longest span in seconds.
 const MAX_SECS: u64 = 3_153_600_000;

@@ -8,7 +8,8 @@ ghost use Rattle.core_runs.specs.Fits.{IsFitJail};
 ghost use Rattle.jail_moves.specs.Rooms.{IsBounded};
 
 use f2b_base::{
-    ActionDef, BanRule, DateSpec, Defs, Family, JailDef, NoMemory, Seq, Text, WatchDef,
+    ActionDef, BanRule, DEFAULT_PURGE, DateSpec, Defs, Family, JailDef, NoMemory, Seq, Text,
+    WatchDef,
 };
 use std::alloc::Global;
 
@@ -199,7 +200,7 @@ fn purge(number: u64) -> u64 {
         0 => 0,
         1 => 300,
         2 => 5000,
-        _ => 86_400,
+        _ => DEFAULT_PURGE,
     }
 }
 

@@ -4,9 +4,10 @@ ghost use Rattle.f2b_model.specs.Sound.{IsFitWhat};
 ghost use Rattle.f2b_base.specs.Limits.{last_moment};
 ghost use Rattle.jail_rooms.specs.Kept.{IsBoundedWhat, IsTaken};
 
-use crate::bans::LAST_MOMENT;
 use crate::configurations::defs;
-use f2b_base::{Addr, Bytes, Cidr, Failure, Input, NoMemory, Outcome, Place, Seq, Text, What};
+use f2b_base::{
+    Addr, Bytes, Cidr, Failure, Input, LAST_MOMENT, NoMemory, Outcome, Place, Seq, Text, What,
+};
 use jail_core::Core;
 use std::alloc::Global;
 
@@ -229,6 +230,18 @@ impl Source {
         })
     }
 
+    /// A check that failed before a try of such a job.
+    fn check_failed(&mut self, core: &Core, secs: u64) -> What
+        ensures fit { IsFitWhat result }
+        ensures bounded { IsBoundedWhat result }
+    {
+        let job = self.job(core, secs);
+        What::CheckFailed {
+            job,
+            outcome: outcome(self.below(4)),
+        }
+    }
+
     fn config(&mut self) -> Result<What, NoMemory>
         ensures fit { IfOk result IsFitWhat }
         ensures bounded { IfOk result IsBoundedWhat }
@@ -399,7 +412,8 @@ impl Source {
                 }
             }
             2..=4 => Ok(What::Tick),
-            5..=46 => self.ended(core, secs),
+            5 => Ok(self.check_failed(core, secs)),
+            6..=46 => self.ended(core, secs),
             47..=58 => self.command(),
             _ => self.read(secs),
         }

@@ -1,9 +1,8 @@
 //! Jobs: how they are ordered, and what the ending of a try does to them.
 
-use crate::bans::LAST_MOMENT;
 use f2b_base::{
-    ActionDef, Addr, Ban, Family, Job, JobKind, LaneId, NoMemory, Outcome, Plain, Text, Until,
-    UpLane,
+    ActionDef, Addr, Ban, Family, Job, JobKind, LAST_MOMENT, LaneId, NoMemory, Outcome, Plain,
+    Text, Until, UpLane,
 };
 use f2b_model::Fill;
 use std::alloc::Global;
@@ -31,7 +30,7 @@ fn template(kind: JobKind, action: &ActionDef) -> &Text {
     match kind {
         JobKind::Start => &action.start,
         JobKind::Stop => &action.stop,
-        JobKind::Ban => &action.ban,
+        JobKind::Ban | JobKind::Reban => &action.ban,
         JobKind::Unban => &action.unban,
     }
 }

@@ -5,7 +5,8 @@ use crate::failures::found;
 use crate::jail::{SlowJail, copies};
 use crate::lanes::{Held, SlowLanes};
 use f2b_base::{
-    Addr, Defs, Failure, Input, JailDef, NoMemory, Place, Plain, Seq, Text, View, What,
+    Addr, DEFAULT_PURGE, Defs, Failure, Input, JailDef, NoMemory, Place, Plain, Seq, Text, View,
+    What,
 };
 use f2b_model::Happening;
 use std::alloc::Global;
@@ -35,8 +36,12 @@ fn name_of(what: &What) -> Option<&Text> {
         | What::Bantime { jail, .. }
         | What::Maxretry { jail, .. }
         | What::Idle { jail, .. } => Some(jail),
-        What::Tick | What::Ended { .. } | What::Config { .. } | What::Stop | What::Unban { .. } =>
-            None,
+        What::Tick
+        | What::Ended { .. }
+        | What::Config { .. }
+        | What::Stop
+        | What::Unban { .. }
+        | What::CheckFailed { .. } => None,
     }
 }
 
@@ -147,7 +152,7 @@ impl Slow {
         Slow {
             alloc,
             at: 0,
-            purge: 86_400,
+            purge: DEFAULT_PURGE,
             jails: Vec::new(alloc),
             next_ban: 0,
             lanes: SlowLanes::new(alloc),

@@ -2,10 +2,9 @@
 ghost use Rattle.std.specs.Prelude.{◌<◌};
 
 use crate::Slow;
-use crate::bans::LAST_MOMENT;
 use crate::bounded::is_bounded_view;
 use crate::inputs::Source;
-use f2b_base::{Job, JobKind, NoMemory, What};
+use f2b_base::{Job, JobKind, LAST_MOMENT, NoMemory, What};
 use f2b_model::Happening;
 use jail_core::Core;
 use std::alloc::Global;
@@ -23,12 +22,12 @@ struct Tally {
     /// Jobs that banned again as a lane came up.
     given_again: u64,
     /// How many inputs there were of each kind.
-    kinds: [u64; 13],
+    kinds: [u64; 14],
 }
 
 /// The place of a kind of input.
 fn kind_of(what: &What) -> usize
-    ensures { result < 13 }
+    ensures { result < 14 }
 {
     match what {
         What::Tick => 0,
@@ -44,6 +43,7 @@ fn kind_of(what: &What) -> usize
         What::Bantime { .. } => 10,
         What::Maxretry { .. } => 11,
         What::Idle { .. } => 12,
+        What::CheckFailed { .. } => 13,
     }
 }
 
@@ -55,7 +55,7 @@ impl Tally {
             ended: 0,
             taken_back: 0,
             given_again: 0,
-            kinds: [0; 13],
+            kinds: [0; 14],
         }
     }
 

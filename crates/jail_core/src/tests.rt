@@ -11,9 +11,9 @@ ghost use Rattle.lane_moves.specs.Held.{AreById};
 
 use crate::Core;
 use f2b_base::{
-    ActionDef, Addr, Ban, BanRule, DateSpec, Defs, Failure, Family, Input, JailDef, JailView, Job,
-    JobKind, LaneId, NoMemory, Outcome, Past, Place, Plain, Seq, Text, Until, UpLane, View,
-    WatchDef, WatchView, What,
+    ActionDef, Addr, Ban, BanRule, DEFAULT_PURGE, DateSpec, Defs, Failure, Family, Input, JailDef,
+    JailView, Job, JobKind, LaneId, NoMemory, Outcome, Past, Place, Plain, Seq, Text, Until,
+    UpLane, View, WatchDef, WatchView, What,
 };
 use f2b_model::Happening;
 use std::alloc::Global;
@@ -90,7 +90,7 @@ fn defs_of(alloc: Global, actions: Seq<ActionDef>) -> Result<Defs, NoMemory>
     let mut jails = Seq::new(alloc);
     jails.push(definition(alloc, PATH, actions)?)?;
     Ok(Defs {
-        purge: 86400,
+        purge: DEFAULT_PURGE,
         jails,
     })
 }
