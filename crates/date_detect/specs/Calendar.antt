@@ -2,6 +2,7 @@
 use Rattle.std.specs.Prelude.{ℕ, zero, suc, ◌+◌, ◌-◌, nat_le, min, ◌&&◌, ℤ, pos, int_le, ◌+ℤ◌, ◌-ℤ◌, ◌*ℤ◌, Bool, Option, Some, None, option_and_then, if◌then◌else◌}
 use Rattle.std.specs.Int.{int_div_euclid}
 use Rattle.std.specs.Option.{option_or}
+use Rattle.f2b_base.specs.Limits.{latest_reading}
 use Rattle.jiff_core.specs.Calendar.{days_in_month, days_from_civil}
 use Rattle.date_detect.specs.declared.calendar.DayTime.{DayTime}
 
@@ -27,9 +28,9 @@ year_up_to (suc year) day = if int_le (days_from_civil (pos (suc year)) 1 1) day
 unfoldable pub year_at : ℤ → ℤ → ℕ
 year_at moment zone = year_up_to 9999 (int_div_euclid (moment +ℤ zone) (pos 86_400))
 
--- one day after now, where a now above 250,000,000,000 counts as that number
+-- one day after now, where a now above the latest reading counts as that one
 abbrev pub latest_moment : ℕ → ℕ
-latest_moment now = min now 250_000_000_000 + 86_400
+latest_moment now = min now latest_reading + 86_400
 
 -- the moment in a year, where it is not later than the limit
 abbrev pub moment_by : ℕ → DayTime → ℕ → Option ℤ

@@ -1,8 +1,10 @@
 //! Civil dates as seconds since 1970.
 ghost use Rattle.std.specs.Prelude.{◌≡◌, ◌+◌, ◌≤◌, pos, neg_ℤ, ◌+ℤ◌, ◌*ℤ◌, ◌-ℤ◌, true, false, IfSome, MatchOption};
 ghost use Rattle.jiff_core.specs.Calendar.{days_from_civil, IsBetween, IsEpochDay};
+ghost use Rattle.f2b_base.specs.Limits.{latest_reading};
 ghost use Rattle.date_detect.specs.Calendar.{is_date, civil_moment, year_up_to, year_at, moment_by, latest};
 
+use f2b_base::LATEST_READING;
 use jiff_core::civil::Date;
 
 /// A day and a time of day, in some year.
@@ -18,9 +20,6 @@ pub(crate) struct DayTime {
 
 /// The seconds of a day.
 const DAY: u64 = 86_400;
-
-/// A later now counts as this one, so that each year has at most four digits.
-const LAST_NOW: u64 = 250_000_000_000;
 
 /// The days from 1970-01-01 on, where the calendar has the day.
 fn day_number(year: u16, month: u16, day: u16) -> Option<i64>
@@ -56,7 +55,7 @@ pub(crate) fn civil_moment(year: u16, date: DayTime) -> Option<i64>
 
 /// The same, where it is not later than the limit.
 fn moment_by(limit: u64, date: DayTime, year: u16) -> Option<i64>
-    requires { limit ≤ 250000086400 }
+    requires { limit ≤ latest_reading + 86400 }
     ensures { result ≡ moment_by limit date year }
 {
     let moment = civil_moment(year, date)?;
@@ -82,7 +81,7 @@ fn year_of(day: i64) -> u16
 /// The year of a moment in a zone.
 #[tactic(auto, unfolding(crate::specs::Calendar::year_at))]
 fn year_at(moment: u64, zone: i32) -> u16
-    requires { moment ≤ 250000086400 }
+    requires { moment ≤ latest_reading + 86400 }
     ensures value { result ≡ year_at (pos moment) zone }
     ensures bound { 8 ≤ result }
 {
@@ -91,11 +90,11 @@ fn year_at(moment: u64, zone: i32) -> u16
 }
 
 /// The moment of a day and a time in the latest year in which the calendar has the day and the moment is at most a day after
-/// `now`, back to the eighth year before.
+/// `now`, back to the eighth year before. A `now` above the latest reading counts as that one, so that no year has five digits.
 pub(crate) fn latest(now: u64, date: DayTime) -> Option<i64>
     ensures { result ≡ latest now date }
 {
-    let limit = now.min(LAST_NOW) + DAY;
+    let limit = now.min(LATEST_READING) + DAY;
     let year = year_at(limit, date.zone);
     for back in 0..9 {
         let moment = moment_by(limit, date, year - back);
