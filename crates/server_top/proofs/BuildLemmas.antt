@@ -71,7 +71,7 @@ module _ (plan : Plan) (definition : JailDef) where
       let Q : List (PatternPlace × List ℕ) → Type 0 = λ ps. (h : History) → Passes (making plan definition (length ps)) h es in
       let tail = passes (before ++ p ∷ []) mid later es (grown g (event ∷ [])) longer (subst Q (sym (append_assoc before (p ∷ []) mid)) rest) in
       let R : ℕ → Type 0 = λ n. Passes (making plan definition n) (grown g (event ∷ [])) (built mid ++ es) in
-      subst P (sym (at_make before (mid ++ later) p is)) (tt, may_make before (mid ++ later) p event is refl, subst R more tail)
+      subst P (sym (at_make before (mid ++ later) p is)) (record { holds = tt; allowed = may_make before (mid ++ later) p event is refl; honest = tt; bounded = tt }, subst R more tail)
 
   ends_at : (before mid later : List (PatternPlace × List ℕ)) (es : List Event) → patterns (rules_of definition) ≡ before ++ (mid ++ later)
       → after feed MayCome Free (making plan definition (length before)) (built mid ++ es) ≡ after feed MayCome Free (making plan definition (length (before ++ mid))) es
@@ -131,7 +131,7 @@ module _ (plan : Plan) (definition : JailDef) where
       let later = (place, r.text) ∷ r.after in
       let allowed = may_make r.before r.after (place, r.text) event r.order (makes_next kind place r.text) in
       let went = passed adds.0 adds.1 r.before later (event ∷ []) r.order r.calls
-      (λ h. let Q : Run → Type 0 = λ x. Passes x h (event ∷ []) in subst Q (sym (at_make r.before r.after (place, r.text) r.order)) (tt, allowed, tt)) in
+      (λ h. let Q : Run → Type 0 = λ x. Passes x h (event ∷ []) in subst Q (sym (at_make r.before r.after (place, r.text) r.order)) (record { holds = tt; allowed = allowed; honest = tt; bounded = tt }, tt)) in
       let last = ap (λ x. feed x event) (at_make r.before r.after (place, r.text) r.order) ∙ feeds_refusal r.before r.after place r.text kind r.order in
       record { events = (adds.0, adds.1, adds.2, adds.3, (went.0, went.1 ∙ last)) }
 

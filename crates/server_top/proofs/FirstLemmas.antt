@@ -1,5 +1,6 @@
 -- The first reading of the clock.
 use Rattle.std.proofs.Common.{ℕ, ◌≡◌, List, [], ◌∷◌, min, refl, sym, ap, ◌∙◌}
+use Rattle.f2b_base.specs.Limits.{latest_reading}
 use Rattle.f2b_base.specs.declared.jail.JailDef.{JailDef}
 use Rattle.f2b_base.specs.declared.outside.Reading.{Reading}
 use Rattle.f2b_model.specs.LaneSound.{never}
@@ -8,7 +9,7 @@ use Rattle.f2b_model.specs.Whole.{empty_state}
 use Rattle.f2b_model.proofs.WholeLemmas.{empty_sound, whole_shows, whole_keeps}
 use Rattle.f2b_world.specs.Told.{Standing, Called}
 use Rattle.f2b_world.specs.declared.event.Event.TheVariants.{Clock}
-use Rattle.server_top.specs.Law.{Run, AtStart, Goes, begun, first_input, started, latest}
+use Rattle.server_top.specs.Law.{Run, AtStart, Goes, begun, first_input, started}
 use Rattle.server_top.specs.Said.{ready_line}
 use Rattle.server_top.specs.Stages.{Keeps, Owes, Says, SayFails}
 use Rattle.server_top.specs.Starts.{IsFirst, Starts, StartFails, standing}
@@ -38,7 +39,7 @@ module _ (a b : Standing) (definition : JailDef) (answer : Reading) (clock : Cal
   came : Goes a.told b.told (standing plan (AtStart definition) []) at_ready
   came = goes_call a b (Clock answer) (standing plan (AtStart definition) []) clock tt
 
-  owes : (now : ℕ) (line : List ℕ) → now ≡ min answer.secs latest → line ≡ ready_line now → Owes at_ready [] (line ∷ []) []
+  owes : (now : ℕ) (line : List ℕ) → now ≡ min answer.secs latest_reading → line ≡ ready_line now → Owes at_ready [] (line ∷ []) []
   owes now line now_is is = record { lines = ap (λ (l : List ℕ). l ∷ []) (sym (is ∙ ap ready_line now_is)); said = refl; saying = tt }
 
 pub start_done : (a b c : Standing) (definition : JailDef) (answer : Reading) (kept : Follow) (line : List ℕ) → Called a (Clock answer) b → IsFirst definition answer kept

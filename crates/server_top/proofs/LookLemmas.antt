@@ -13,6 +13,7 @@ use Rattle.log_follow.specs.Followed.{StandsFor, ask_of}
 use Rattle.log_follow.specs.Watches.{Watch, Answers, looked as watch_looked}
 use Rattle.log_follow.specs.declared.follower.Follower.{Follower}
 use Rattle.log_follow.specs.declared.line.Line.{Line}
+use Rattle.log_follow.specs.declared.step.Ask.{Ask}
 use Rattle.log_follow.specs.declared.step.Step.{Step}
 use Rattle.log_follow.specs.declared.step.Step.TheVariants.{Placed, Rotated, Lines, Nothing}
 use Rattle.server_top.specs.Law.{Following, Point, AtClock, AtLook, AtPause, Run, IsNext, call_of, Halts, takes, looked, step_read, watched, read_of, path_of, failures_in}
@@ -70,12 +71,11 @@ module _ (before after : Follow) (file : FileLook) (step : Step) (built : before
 pub ruleset reading = (reads_some, reads_none)
 
 -- the look that was made answers what the follower asks
-pub answers_ask : (follower : Follower) (from : ℕ) (o : Option FileLook) (file : FileLook) → from ≡ (ask_of follower).from → o ≡ Some file
-    → IfSome o (Answers (record { head = 64; from = from; max = 65536 })) → Answers (ask_of follower) file
-answers_ask follower from o file from_is is answers =
-    let P : Option FileLook → Type 0 = λ x. IfSome x (Answers (record { head = 64; from = from; max = 65536 })) in
-    let Q : ℕ → Type 0 = λ n. Answers (record { head = 64; from = n; max = 65536 }) file in
-    subst Q from_is (subst P is answers)
+pub answers_ask : (follower : Follower) (ask : Ask) (o : Option FileLook) (file : FileLook) → ask ≡ ask_of follower → o ≡ Some file → IfSome o (Answers ask) → Answers (ask_of follower) file
+answers_ask follower ask o file ask_is is answers =
+    let P : Option FileLook → Type 0 = λ x. IfSome x (Answers ask) in
+    let Q : Ask → Type 0 = λ a. Answers a file in
+    subst Q ask_is (subst P is answers)
 
 lines_taken : (step : Step) (g : Following) (r : Run) (what : What) → Some what ≡ read_what g step → step_read step g r ≡ takes what AtPause g r
 lines_taken (Lines lines) g r what is = let same : what ≡ read_of g lines = cc in ap (λ (w : What). takes w AtPause g r) (sym same)
@@ -103,64 +103,64 @@ looked_none LookFailed f plan there lines is = refl
 looked_none LookNoMemory f plan there lines is = refl
 
 -- the look that comes next
-module _ (path : List ℕ) (from : ℕ) (before : Follow) (path_is : path ≡ path_of before.definition.watches) (from_is : from ≡ (ask_of before.follower).from) (plan : Plan) (f : Following) (keeps : Keeps f before) where
-  next_look : (answer : Look) → IsNext (call_of plan (AtLook f) None) (LookAt path 64 from 65536 answer)
-  next_look answer = (path_is ∙ ap (λ d. path_of d.watches) keeps.definition, refl, from_is ∙ keeps.watch.from, refl)
+module _ (path : List ℕ) (ask : Ask) (before : Follow) (path_is : path ≡ path_of before.definition.watches) (ask_is : ask ≡ ask_of before.follower) (plan : Plan) (f : Following) (keeps : Keeps f before) where
+  next_look : (answer : Look) → IsNext (call_of plan (AtLook f) None) (LookAt path ask.head ask.from ask.max answer)
+  next_look answer = (path_is ∙ ap (λ d. path_of d.watches) keeps.definition, ap (λ (a : Ask). a.head) ask_is, ap (λ (a : Ask). a.from) ask_is ∙ keeps.watch.from, ap (λ (a : Ask). a.max) ask_is)
 
-pub look_takes : (a b c : Standing) (path : List ℕ) (file : FileLook) (from : ℕ) (before mid after : Follow) (what : What) → path ≡ path_of before.definition.watches → from ≡ (ask_of before.follower).from
-    → Looked a b path from (Some file) → ReadsLines before file mid (Some what) → Takes b c what mid after → Moves a c AtLook AtPause before after
-look_takes a b c path file from before mid after what path_is from_is looks reads took = record {
+pub look_takes : (a b c : Standing) (path : List ℕ) (file : FileLook) (ask : Ask) (before mid after : Follow) (what : What) → path ≡ path_of before.definition.watches → ask ≡ ask_of before.follower
+    → Looked a b path ask (Some file) → ReadsLines before file mid (Some what) → Takes b c what mid after → Moves a c AtLook AtPause before after
+look_takes a b c path file ask before mid after what path_is ask_is looks reads took = record {
   runs = λ r f at keeps.
       at_standing (λ x. Reaches a c x AtPause f.left after) r (AtLook f) at (
       let s = standing r.plan (AtLook f) r.lines in
       let g = watched file f in
       let fed : looked looks.answer f s ≡ takes what AtPause g s = looked_some looks.answer file f s looks.file_is ∙ lines_taken (watch_looked f.watch file).1 g s what (reads.what_is f keeps) in
-      reaches_taken a b (LookAt path 64 from 65536 looks.answer) looks.called r.plan (AtLook f) r.lines (next_look path from before path_is from_is r.plan f keeps looks.answer)
+      reaches_taken a b (LookAt path ask.head ask.from ask.max looks.answer) looks.called r.plan (AtLook f) r.lines (next_look path ask before path_is ask_is r.plan f keeps looks.answer)
       c what AtPause g mid after fed tt (reads.keeps f keeps) took);
 }
 
-pub look_fails : (a b c : Standing) (path : List ℕ) (file : FileLook) (from : ℕ) (before mid : Follow) (what : What) (status : Status) → path ≡ path_of before.definition.watches → from ≡ (ask_of before.follower).from
-    → Looked a b path from (Some file) → ReadsLines before file mid (Some what) → TakeFails b c what mid status → MoveFails a c AtLook before status
-look_fails a b c path file from before mid what status path_is from_is looks reads fails = record {
+pub look_fails : (a b c : Standing) (path : List ℕ) (file : FileLook) (ask : Ask) (before mid : Follow) (what : What) (status : Status) → path ≡ path_of before.definition.watches → ask ≡ ask_of before.follower
+    → Looked a b path ask (Some file) → ReadsLines before file mid (Some what) → TakeFails b c what mid status → MoveFails a c AtLook before status
+look_fails a b c path file ask before mid what status path_is ask_is looks reads fails = record {
   runs = λ r f at keeps.
       at_standing (λ x. Halts a.told c.told x status) r (AtLook f) at (
       let s = standing r.plan (AtLook f) r.lines in
       let g = watched file f in
       let fed : looked looks.answer f s ≡ takes what AtPause g s = looked_some looks.answer file f s looks.file_is ∙ lines_taken (watch_looked f.watch file).1 g s what (reads.what_is f keeps) in
-      halts_taking a b (LookAt path 64 from 65536 looks.answer) looks.called r.plan (AtLook f) r.lines (next_look path from before path_is from_is r.plan f keeps looks.answer)
+      halts_taking a b (LookAt path ask.head ask.from ask.max looks.answer) looks.called r.plan (AtLook f) r.lines (next_look path ask before path_is ask_is r.plan f keeps looks.answer)
       c what AtPause g mid status fed tt (reads.keeps f keeps) fails);
 }
 
-pub look_no_line : (a b : Standing) (path : List ℕ) (file : FileLook) (from : ℕ) (before after : Follow) → path ≡ path_of before.definition.watches → from ≡ (ask_of before.follower).from
-    → Looked a b path from (Some file) → ReadsLines before file after None → Moves a b AtLook AtPause before after
-look_no_line a b path file from before after path_is from_is looks reads = record {
+pub look_no_line : (a b : Standing) (path : List ℕ) (file : FileLook) (ask : Ask) (before after : Follow) → path ≡ path_of before.definition.watches → ask ≡ ask_of before.follower
+    → Looked a b path ask (Some file) → ReadsLines before file after None → Moves a b AtLook AtPause before after
+look_no_line a b path file ask before after path_is ask_is looks reads = record {
   runs = λ r f at keeps.
       at_standing (λ x. Reaches a b x AtPause f.left after) r (AtLook f) at (
       let s = standing r.plan (AtLook f) r.lines in
       let g = watched file f in
       let fed : looked looks.answer f s ≡ standing r.plan (AtPause g) r.lines =
       looked_some looks.answer file f s looks.file_is ∙ lines_none (watch_looked f.watch file).1 g r.plan (AtLook f) r.lines (reads.what_is f keeps) in
-      reaches_next a b (LookAt path 64 from 65536 looks.answer) looks.called r.plan (AtLook f) r.lines (next_look path from before path_is from_is r.plan f keeps looks.answer)
+      reaches_next a b (LookAt path ask.head ask.from ask.max looks.answer) looks.called r.plan (AtLook f) r.lines (next_look path ask before path_is ask_is r.plan f keeps looks.answer)
       AtPause g after fed (reads.keeps f keeps));
 }
 
-pub look_nothing : (a b : Standing) (path : List ℕ) (from : ℕ) (before : Follow) → path ≡ path_of before.definition.watches → from ≡ (ask_of before.follower).from
-    → Looked a b path from None → Moves a b AtLook AtPause before before
-look_nothing a b path from before path_is from_is looks = record {
+pub look_nothing : (a b : Standing) (path : List ℕ) (ask : Ask) (before : Follow) → path ≡ path_of before.definition.watches → ask ≡ ask_of before.follower
+    → Looked a b path ask None → Moves a b AtLook AtPause before before
+look_nothing a b path ask before path_is ask_is looks = record {
   runs = λ r f at keeps.
       at_standing (λ x. Reaches a b x AtPause f.left before) r (AtLook f) at (
       let s = standing r.plan (AtLook f) r.lines in
       let fed : looked looks.answer f s ≡ standing r.plan (AtPause f) r.lines = looked_none looks.answer f r.plan (AtLook f) r.lines looks.file_is in
-      reaches_next a b (LookAt path 64 from 65536 looks.answer) looks.called r.plan (AtLook f) r.lines (next_look path from before path_is from_is r.plan f keeps looks.answer)
+      reaches_next a b (LookAt path ask.head ask.from ask.max looks.answer) looks.called r.plan (AtLook f) r.lines (next_look path ask before path_is ask_is r.plan f keeps looks.answer)
       AtPause f before fed keeps);
 }
 
-pub look_memory : (a b : Standing) (path : List ℕ) (from : ℕ) (file : Option FileLook) (before : Follow) → path ≡ path_of before.definition.watches → from ≡ (ask_of before.follower).from
-    → Looked a b path from file → MoveFails a b AtLook before NoMemory
-look_memory a b path from file before path_is from_is looks = record {
+pub look_memory : (a b : Standing) (path : List ℕ) (ask : Ask) (file : Option FileLook) (before : Follow) → path ≡ path_of before.definition.watches → ask ≡ ask_of before.follower
+    → Looked a b path ask file → MoveFails a b AtLook before NoMemory
+look_memory a b path ask file before path_is ask_is looks = record {
   runs = λ r f at keeps.
       at_standing (λ x. Halts a.told b.told x NoMemory) r (AtLook f) at (
-      halts_next a b (LookAt path 64 from 65536 looks.answer) looks.called r.plan (AtLook f) r.lines (next_look path from before path_is from_is r.plan f keeps looks.answer));
+      halts_next a b (LookAt path ask.head ask.from ask.max looks.answer) looks.called r.plan (AtLook f) r.lines (next_look path ask before path_is ask_is r.plan f keeps looks.answer));
 }
 
 pub look_refused : (a b : Standing) (before : Follow) (status : Status) → (status ≡ NoMemory) × (b ≡ a) → MoveFails a b AtLook before status
@@ -168,22 +168,22 @@ look_refused a b before status is = rw (is.0, is.1) (record { runs = λ r f at k
 
 -- the same by what the calls gave
 
-same_look : (a b : Standing) (path : List ℕ) (from : ℕ) (o : Option FileLook) (file : FileLook) → o ≡ Some file → Looked a b path from o → Looked a b path from (Some file)
-same_look a b path from o file is looks = let P : Option FileLook → Type 0 = λ x. Looked a b path from x in subst P is looks
+same_look : (a b : Standing) (path : List ℕ) (ask : Ask) (o : Option FileLook) (file : FileLook) → o ≡ Some file → Looked a b path ask o → Looked a b path ask (Some file)
+same_look a b path ask o file is looks = let P : Option FileLook → Type 0 = λ x. Looked a b path ask x in subst P is looks
 
 same_read : (before mid : Follow) (file : FileLook) (o p : Option What) → o ≡ p → ReadsLines before file mid o → ReadsLines before file mid p
 same_read before mid file o p is reads = let P : Option What → Type 0 = λ x. ReadsLines before file mid x in subst P is reads
 
-module _ (a b : Standing) (path : List ℕ) (file : FileLook) (from : ℕ) (o : Option FileLook) (before mid : Follow) (w : Option What) (path_is : path ≡ path_of before.definition.watches)
-    (from_is : from ≡ (ask_of before.follower).from) (some : o ≡ Some file) (looks : Looked a b path from o) (reads : ReadsLines before file mid w) where
+module _ (a b : Standing) (path : List ℕ) (file : FileLook) (ask : Ask) (o : Option FileLook) (before mid : Follow) (w : Option What) (path_is : path ≡ path_of before.definition.watches)
+    (ask_is : ask ≡ ask_of before.follower) (some : o ≡ Some file) (looks : Looked a b path ask o) (reads : ReadsLines before file mid w) where
   pub read_takes : (c : Standing) (what : What) (after : Follow) → w ≡ Some what → Takes b c what mid after → Moves a c AtLook AtPause before after
-  read_takes c what after is took = look_takes a b c path file from before mid after what path_is from_is (same_look a b path from o file some looks) (same_read before mid file w (Some what) is reads) took
+  read_takes c what after is took = look_takes a b c path file ask before mid after what path_is ask_is (same_look a b path ask o file some looks) (same_read before mid file w (Some what) is reads) took
 
   pub read_fails : (c : Standing) (what : What) (status : Status) → w ≡ Some what → TakeFails b c what mid status → MoveFails a c AtLook before status
-  read_fails c what status is fails = look_fails a b c path file from before mid what status path_is from_is (same_look a b path from o file some looks) (same_read before mid file w (Some what) is reads) fails
+  read_fails c what status is fails = look_fails a b c path file ask before mid what status path_is ask_is (same_look a b path ask o file some looks) (same_read before mid file w (Some what) is reads) fails
 
   pub read_no_line : w ≡ None → Moves a b AtLook AtPause before mid
-  read_no_line is = look_no_line a b path file from before mid path_is from_is (same_look a b path from o file some looks) (same_read before mid file w None is reads)
+  read_no_line is = look_no_line a b path file ask before mid path_is ask_is (same_look a b path ask o file some looks) (same_read before mid file w None is reads)
 
 pub ruleset looking = (look_nothing, look_memory, look_refused)
 

@@ -189,14 +189,14 @@ walk : (r : Run) (said : List ℕ) (g : History) (es : List Event) → Stands r 
 walk r said g es st along zero = none_said r said st
 walk r said g [] st along (suc k) = none_said r said st
 walk r said g (event ∷ es) st along (suc k) =
-    let rest = walk (feed r event) (said ++ said_by (event ∷ [])) (grown g (event ∷ [])) es (stands_step r said event st along.1) along.2 k in
+    let rest = walk (feed r event) (said ++ said_by (event ∷ [])) (grown g (event ∷ [])) es (stands_step r said event st along.0.allowed) along.1 k in
     let P : List ℕ → Type 0 = λ b. Stands (after feed MayCome Free (feed r event) (take k es)) b in
     subst P (append_assoc said (said_by (event ∷ [])) (said_by (take k es)) ∙ ap (λ b. said ++ b) (sym (said_on event (take k es)))) rest
 
 may_at : (r : Run) (g : History) (es : List Event) (k : ℕ) (event : Event) → Along feed MayCome Free r g es → slice_get es k ≡ Some event → MayCome (after feed MayCome Free r (take k es)) event
 may_at r g [] k event along is = absurd (cc)
-may_at r g (first ∷ es) zero event along is = let same : first ≡ event = cc in let P : Event → Type 0 = λ e. MayCome r e in subst P same along.1
-may_at r g (first ∷ es) (suc k) event along is = may_at (feed r first) (grown g (first ∷ [])) es k event along.2 is
+may_at r g (first ∷ es) zero event along is = let same : first ≡ event = cc in let P : Event → Type 0 = λ e. MayCome r e in subst P same along.0.allowed
+may_at r g (first ∷ es) (suc k) event along is = may_at (feed r first) (grown g (first ∷ [])) es k event along.1 is
 
 begin_stands : (o : Option Plan) → Stands (begin_with o) []
 begin_stands None = record { short = omega arith; is = refl }

@@ -1,5 +1,6 @@
 -- An input is taken.
 use Rattle.std.proofs.Common.{ℕ, ◌≡◌, ◌≤◌, List, [], map, sym, ap, ◌∙◌, subst, arith}
+use Rattle.f2b_base.specs.Limits.{latest_reading}
 use Rattle.f2b_base.specs.declared.input.Input.{Input}
 use Rattle.f2b_base.specs.declared.input.What.{What}
 use Rattle.f2b_model.specs.Sound.{IsFit, IsFitWhat, IsSound}
@@ -21,7 +22,7 @@ use Rattle.server_top.proofs.WalkLemmas.{halts_here}
 abbrev input_of : Follow → What → Input
 input_of before what = record { secs = before.now; word = before.word; what = what }
 
-module _ (before after : Follow) (what : What) (news : List Happening) (steps : StepsTo before what after news) (is : IsFitWhat what) (early : before.now ≤ 250000000000) where
+module _ (before after : Follow) (what : What) (news : List Happening) (steps : StepsTo before what after news) (is : IsFitWhat what) (early : before.now ≤ latest_reading) where
   same_input : (f : Following) → Keeps f before → input_of before what ≡ record { secs = f.now; word = f.word; what = what }
   same_input f keeps = λ i. record { secs = keeps.now i; word = keeps.word i; what = what }
 

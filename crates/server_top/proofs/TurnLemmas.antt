@@ -1,6 +1,7 @@
 -- The stages of a turn.
 use Rattle.std.proofs.Common.{ℕ, ◌≡◌, ◌+◌, ◌++◌, ◌||◌, Bool, true, false, List, [], ◌∷◌, length, map, max, min, Option, None, refl, sym, ap, ap₂, ◌∙◌, append-nil, length-append, subst}
 use Rattle.std.specs.List.{list_any}
+use Rattle.f2b_base.specs.Limits.{latest_reading}
 use Rattle.f2b_base.specs.declared.input.What.{What}
 use Rattle.f2b_base.specs.declared.input.What.TheVariants.{Tick}
 use Rattle.f2b_base.specs.declared.outside.Reading.{Reading}
@@ -14,7 +15,7 @@ use Rattle.f2b_world.specs.declared.event.Event.{Event}
 use Rattle.f2b_world.specs.declared.event.Event.TheVariants.{Clock}
 use Rattle.log_follow.specs.Followed.{StandsFor}
 use Rattle.log_follow.specs.declared.follower.Follower.{Follower}
-use Rattle.server_top.specs.Law.{Following, Point, AtClock, AtLook, Run, Call, call_of, next_call, IsNext, MayCome, feed, Goes, Halts, taken, told_lines, takes, read_at, clocked, ticked, latest}
+use Rattle.server_top.specs.Law.{Following, Point, AtClock, AtLook, Run, Call, call_of, next_call, IsNext, MayCome, feed, Goes, Halts, taken, told_lines, takes, read_at, clocked, ticked}
 use Rattle.server_top.specs.Stages.{IsAt, IsSaying, Keeps, Moves, MoveFails, Owes, Reaches, ReadsAt, Takes, TakeFails}
 use Rattle.server_top.specs.Starts.{standing}
 use Rattle.server_top.specs.declared.follow.Follow.{Follow}
@@ -93,7 +94,7 @@ due_same at s = any_map at s.world.jails
 read_keeps : (before mid : Follow) (answer : Reading) (f : Following) → ReadsAt before answer mid → Keeps f before → Keeps (read_at answer f) mid
 read_keeps before mid answer f reads keeps = record {
   definition = reads.definition ∙ keeps.definition;
-  now = reads.now ∙ ap (λ n. max n (min answer.secs latest)) keeps.now;
+  now = reads.now ∙ ap (λ n. max n (min answer.secs latest_reading)) keeps.now;
   word = reads.word;
   core = reads.core ∙ keeps.core;
   sound = keeps.sound;

@@ -1,5 +1,6 @@
 -- What a run does: the one call that comes next, and where each event leaves the run.
 use Rattle.std.specs.Prelude.{ℕ, zero, suc, ◌≡◌, ◌+◌, ◌-◌, ◌++◌, max, min, map, slice_get, Bool, true, false, List, [], ◌∷◌, Option, Some, None}
+use Rattle.f2b_base.specs.Limits.{default_purge, head_bytes, latest_reading, look_bytes}
 use Rattle.f2b_base.specs.declared.ban.Failure.{Failure}
 use Rattle.f2b_base.specs.declared.input.Input.{Input}
 use Rattle.f2b_base.specs.declared.input.What.{What}
@@ -98,13 +99,14 @@ abbrev pub make_call : Option (PatternPlace × List ℕ) → Option Call
 make_call None = None
 make_call (Some pattern) = Some (AskMake pattern.1)
 
--- a log is looked at with 64 bytes of its head, from the watch's reading place, for at most 65,536 bytes; a pause has 250 milliseconds
+-- a log is looked at with the bytes of its head, from the watch's reading place on, for as many bytes as one look brings; a pause has
+-- 250 milliseconds
 abbrev pub call_at : Plan → Point → Option Call
 call_at plan AtConfig = Some (AskConfig plan.root)
 call_at plan (AtMake definition k) = make_call (pattern_at definition k)
 call_at plan (AtStart definition) = Some AskClock
 call_at plan (AtClock f) = Some AskClock
-call_at plan (AtLook f) = Some (AskLook (path_of f.definition.watches) 64 (reading_place f.watch) 65536)
+call_at plan (AtLook f) = Some (AskLook (path_of f.definition.watches) head_bytes (reading_place f.watch) look_bytes)
 call_at plan (AtPause f) = Some (AskPause 250)
 call_at plan (Over status) = None
 
@@ -139,10 +141,6 @@ abbrev pub MayCome : Run → Event → Type 0
 MayCome r event = IsNext (next_call r) event
 
 -- Where an event leaves the run.
-
--- a reading above this counts as it
-abbrev pub latest : ℕ
-latest = 250000000000
 
 -- a refusal ends the run, once its line is said
 abbrev pub refused : Status → Run → Run
@@ -190,16 +188,16 @@ made definition k Built r = record r { point = make_point definition (k + 1) }
 made definition k WasSyntax r = not_made definition (pattern_at definition k) Syntax r
 made definition k WasTooBig r = not_made definition (pattern_at definition k) TooBig r
 
--- now never goes back
+-- now never goes back, and a reading above the latest counts as it
 abbrev pub read_at : Reading → Following → Following
-read_at answer f = record f { now = max f.now (min answer.secs latest); word = answer.word }
+read_at answer f = record f { now = max f.now (min answer.secs latest_reading); word = answer.word }
 
--- the configuration as an input: past bans count for a day
+-- the configuration as an input
 abbrev pub first_input : JailDef → Reading → Input
 first_input definition answer = record {
-  secs = min answer.secs latest;
+  secs = min answer.secs latest_reading;
   word = answer.word;
-  what = Configured (record { purge = 86400; jails = definition ∷ [] });
+  what = Configured (record { purge = default_purge; jails = definition ∷ [] });
 }
 
 -- a run begins with nothing, and takes its configuration
@@ -207,7 +205,7 @@ abbrev pub begun : JailDef → ℕ → Reading → Following
 begun definition turns answer = record {
   definition = definition;
   state = step empty_state (first_input definition answer);
-  now = min answer.secs latest;
+  now = min answer.secs latest_reading;
   word = answer.word;
   watch = watch_from (Pos 0 []);
   left = turns;

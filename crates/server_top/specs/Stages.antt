@@ -1,5 +1,6 @@
 -- The stages of a run: what a function of the server has done when it returns.
 use Rattle.std.specs.Prelude.{ℕ, max, min, Option, Some, None, IfSome, ◌≡◌, ◌⊎◌, ◌+◌, ◌-◌, ◌≤◌, ◌++◌, length, Contains, List, []}
+use Rattle.f2b_base.specs.Limits.{latest_reading}
 use Rattle.f2b_base.specs.declared.input.What.{What}
 use Rattle.f2b_base.specs.declared.input.What.TheVariants.{Read}
 use Rattle.f2b_base.specs.declared.jail.Place.TheVariants.{Tail}
@@ -20,9 +21,10 @@ use Rattle.filter_regex.specs.declared.error.BuildKind.TheVariants.{Syntax, TooB
 use Rattle.log_follow.specs.Followed.{StandsFor}
 use Rattle.log_follow.specs.Watches.{Answers, looked as watch_looked}
 use Rattle.log_follow.specs.declared.line.Line.{Line}
+use Rattle.log_follow.specs.declared.step.Ask.{Ask}
 use Rattle.log_follow.specs.declared.step.Step.{Step}
 use Rattle.log_follow.specs.declared.step.Step.TheVariants.{Lines}
-use Rattle.server_top.specs.Law.{Following, Point, Over, Run, Goes, Halts, refused, taken, told_lines, latest, read_of, watched, turned, path_of, failures_in}
+use Rattle.server_top.specs.Law.{Following, Point, Over, Run, Goes, Halts, refused, taken, told_lines, read_of, watched, turned, path_of, failures_in}
 use Rattle.server_top.specs.declared.follow.Follow.{Follow}
 use Rattle.server_top.specs.declared.status.Status.{Status}
 use Rattle.server_top.specs.declared.status.Status.TheVariants.{TurnsSpent, Usage, ConfFault, SinkFault, NotBuilt, PatternRefused, NoMemory}
@@ -140,7 +142,7 @@ pub record ReadsAt (before : Follow) (answer : Reading) (after : Follow) : Type 
   pub definition : after.definition ≡ before.definition
   pub follower : after.follower ≡ before.follower
   pub core : after.core ≡ before.core
-  pub now : after.now ≡ max before.now (min answer.secs latest)
+  pub now : after.now ≡ max before.now (min answer.secs latest_reading)
   pub word : after.word ≡ answer.word
 
 -- what a look brought, or none where it could not read the log
@@ -148,12 +150,12 @@ abbrev pub brought : Look → Option FileLook
 brought (File file) = Some file
 brought _ = None
 
--- the log was looked at from this offset on
-pub record Looked (old new : Standing) (path : List ℕ) (from : ℕ) (file : Option FileLook) : Type 0 where
+-- the log was looked at as was asked
+pub record Looked (old new : Standing) (path : List ℕ) (ask : Ask) (file : Option FileLook) : Type 0 where
   pub answer : Look
-  pub called : Called old (LookAt path 64 from 65536 answer) new
+  pub called : Called old (LookAt path ask.head ask.from ask.max answer) new
   pub file_is : file ≡ brought answer
-  pub answers : IfSome file (Answers (record { head = 64; from = from; max = 65536 }))
+  pub answers : IfSome file (Answers ask)
 
 -- what is taken of what a look brings
 abbrev pub read_what : Following → Step → Option What

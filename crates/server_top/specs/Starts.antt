@@ -1,5 +1,6 @@
 -- The start of a run, and all its turns.
 use Rattle.std.specs.Prelude.{ℕ, min, ◌≡◌, ◌≤◌, ◌-◌, List, [], Some, None, Result, Ok, Err, length}
+use Rattle.f2b_base.specs.Limits.{latest_reading}
 use Rattle.f2b_base.specs.declared.jail.JailDef.{JailDef}
 use Rattle.f2b_base.specs.declared.jail.Place.TheVariants.{Pos}
 use Rattle.f2b_base.specs.declared.outside.TreeAnswer.{TreeAnswer}
@@ -13,7 +14,7 @@ use Rattle.flat_form.specs.Flat.{flat_jail}
 use Rattle.flat_form.specs.FlatText.{IsFlatJail}
 use Rattle.log_follow.specs.Followed.{StandsFor}
 use Rattle.log_follow.specs.Watches.{begun as watch_from}
-use Rattle.server_top.specs.Law.{Following, Point, AtConfig, AtStart, AtClock, Run, Goes, Halts, first_input, make_point, turned, latest}
+use Rattle.server_top.specs.Law.{Following, Point, AtConfig, AtStart, AtClock, Run, Goes, Halts, first_input, make_point, turned}
 use Rattle.server_top.specs.Stages.{IsAt, Keeps, Reaches}
 use Rattle.server_top.specs.declared.follow.Follow.{Follow}
 use Rattle.server_top.specs.declared.status.Status.{Status}
@@ -69,7 +70,7 @@ pub record Turned (old new : Standing) (turns done : ℕ) (before kept : Follow)
 -- what a run keeps that begins at this reading
 pub record IsFirst (definition : JailDef) (answer : Reading) (kept : Follow) : Type 0 where
   pub definition_is : kept.definition ≡ definition
-  pub now : kept.now ≡ min answer.secs latest
+  pub now : kept.now ≡ min answer.secs latest_reading
   pub word : kept.word ≡ answer.word
   pub core : kept.core ≡ step_now (gathered empty_view) (first_input definition answer)
   pub watch : StandsFor kept.follower (watch_from (Pos 0 []))

@@ -11,10 +11,10 @@ use crate::follow::Follow;
 use crate::line::start_line;
 use crate::say::{refuse, say_line};
 use crate::status::Status;
-use crate::turn::LATEST;
 use crate::words::Plan;
 use f2b_base::{
-    Bytes, Defs, Input, JailDef, NoMemory, Place, Plain, Reading, Seq, TreeAnswer, What,
+    Bytes, DEFAULT_PURGE, Defs, Input, JailDef, LATEST_READING, NoMemory, Place, Plain, Reading,
+    Seq, TreeAnswer, What,
 };
 use f2b_world::World;
 use filter_regex::{Filter, PatternError};
@@ -83,11 +83,11 @@ fn configuration(alloc: Global, definition: &JailDef, reading: Reading) -> Resul
     let mut jails = Seq::new(alloc);
     jails.push(definition.copy()?)?;
     Ok(Input {
-        secs: reading.secs.min(LATEST),
+        secs: reading.secs.min(LATEST_READING),
         word: reading.word,
         what: What::Config {
             defs: Defs {
-                purge: 86_400,
+                purge: DEFAULT_PURGE,
                 jails,
             },
         },

@@ -13,20 +13,17 @@ use crate::find::find;
 use crate::follow::Follow;
 use crate::status::Status;
 use crate::take::take;
-use f2b_base::{FileLook, JailDef, NoMemory, Place, Plain, Reading, Text, What};
+use f2b_base::{FileLook, JailDef, LATEST_READING, NoMemory, Place, Plain, Reading, Text, What};
 use f2b_world::{Look, World};
-use log_follow::{Line, Step};
+use log_follow::{Ask, Line, Step};
 use std::alloc::Global;
 
-/// A reading above this, in seconds since 1970, counts as it.
-pub const LATEST: u64 = 250_000_000_000;
-
-// Takes over a reading of the clock. Now never goes back.
+// Takes over a reading of the clock. Now never goes back, and a reading above the latest counts as it.
 fn at_reading(follow: Follow, reading: Reading) -> Follow
     ensures { ReadsAt follow reading result }
 {
     let mut follow = follow;
-    follow.now = follow.now.max(reading.secs.min(LATEST));
+    follow.now = follow.now.max(reading.secs.min(LATEST_READING));
     follow.word = reading.word;
     follow
 }
@@ -69,12 +66,12 @@ fn file_of(look: Look) -> Result<Option<FileLook>, NoMemory>
     }
 }
 
-// Looks at the log from an offset on.
-fn look<W: World>(world: &mut W, path: &str, from: u64) -> Result<Option<FileLook>, Status>
-    ensures ok { IfOk result (Looked (W.stands world.old) (W.stands world.new) path.now from) }
+// Looks at the log as its follower asks.
+fn look<W: World>(world: &mut W, path: &str, ask: Ask) -> Result<Option<FileLook>, Status>
+    ensures ok { IfOk result (Looked (W.stands world.old) (W.stands world.new) path.now ask) }
     ensures err { IfErr result (λ status. (status ≡ NoMemoryStatus) × (W.stands world.new ≡ W.stands world.old)) }
 {
-    let answer = world.look(path, 64, from, 65_536);
+    let answer = world.look(path, ask.head, ask.from, ask.max);
     Ok(file_of(answer)?)
 }
 
@@ -120,8 +117,8 @@ pub fn read<W: World>(alloc: Global, world: &mut W, follow: Follow) -> Result<Fo
     ensures cause { IfErr result (HasCause (W.stands world.old) (W.stands world.new)) }
     ensures steady { IsSteady (W.stands world.old) (W.stands world.new) }
 {
-    let from = follow.follower.ask().from;
-    let Some(file) = look(world, path(&follow.definition), from)? else {
+    let ask = follow.follower.ask();
+    let Some(file) = look(world, path(&follow.definition), ask)? else {
         return Ok(follow);
     };
     let (follow, what) = read_lines(alloc, follow, &file)?;
