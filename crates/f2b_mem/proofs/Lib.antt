@@ -1,0 +1,4 @@
+pub mod HonestLemmas
+pub mod StageLemmas
+pub mod TornLemmas
+pub mod LinkLemmas

@@ -13,3 +13,7 @@ and_then None event = None
 
 abbrev pub Grows : Option (List Event) → Event → Option (List Event) → Type 0
 Grows old event new = new ≡ and_then old event
+
+-- of the events, where the history is told
+abbrev pub WhereTold : Option (List Event) → (List Event → Type 0) → Type 0
+WhereTold told P = (events : List Event) → told ≡ Some events → P events

@@ -1,2 +1,10 @@
 pub mod Books
+pub mod Script
+pub mod Commands
+pub mod Plays
+pub mod Stages
 pub mod Worlds
+pub mod Torn
+pub mod Talks
+pub mod Files
+pub mod Shelved

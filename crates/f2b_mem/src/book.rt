@@ -1,7 +1,6 @@
 //! A history that stops for good where memory ran out.
-ghost use Rattle.std.specs.Prelude.{None, ◌≡◌, ◌++◌, ◌∷◌, [], Some, IfSome, IfOk, OnErr, OnOk, List};
+ghost use Rattle.std.specs.Prelude.{None, ◌≡◌, ◌<◌, ◌^◌, [], Some, IfSome, IsTrue, length};
 ghost use Rattle.f2b_mem.specs.Books.{Grows, is_kept};
-ghost use Rattle.f2b_world.specs.declared.event.Event.{Event};
 
 use f2b_base::NoMemory;
 use f2b_world::Event;
@@ -47,29 +46,31 @@ impl Book {
         self.events.as_slice()
     }
 
-    /// Adds an event; where there is no memory the history ends.
-    pub fn add(&mut self, event: Result<Event, NoMemory>)
-        ensures ok { IfOk event (λ e. IfSome self.new (λ _. Grows self.old e self.new)) }
-        ensures err { OnErr event (self.new ≡ None) }
-    {
-        match event {
-            Ok(event) => {
-                if self.events.push(event).is_err() {
-                    self.whole = false;
-                }
-            }
-            Err(NoMemory) => self.whole = false,
-        }
-    }
-
-    /// Adds an event, or changes nothing.
-    pub fn try_add(&mut self, event: Event) -> Result<(), NoMemory>
-        ensures ok { OnOk result (Grows self.old event self.new) }
-        ensures err { OnErr result (self.new ≡ self.old) }
+    /// Makes room for an event, or changes nothing.
+    pub fn reserve(&mut self) -> Result<(), NoMemory>
+        ensures { self.new ≡ self.old }
     {
         if self.whole {
-            self.events.push(event)?;
+            self.events.try_reserve(1)?;
         }
         Ok(())
+    }
+
+    /// Ends the history.
+    pub fn end(&mut self)
+        ensures { self.new ≡ None }
+    {
+        self.whole = false;
+    }
+
+    /// Adds an event. The history ends where there is no memory for it, or where it was not noted.
+    pub fn add(&mut self, event: Event, noted: bool)
+        ensures grows { IfSome self.new (λ _. Grows self.old event self.new) }
+        ensures noted { IfSome self.new (λ _. IsTrue noted) }
+        ensures short { IfSome self.new (λ events. length events < 2 ^ 64) }
+    {
+        let added = self.events.push(event).is_ok();
+        let _count = self.events.len();
+        self.whole = self.whole && noted && added;
     }
 }

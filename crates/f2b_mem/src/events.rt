@@ -1,34 +1,18 @@
-//! The answers of a world in memory, and their events.
-ghost use Rattle.std.specs.Prelude.{◌≡◌, ◌≢◌, ◌≤◌, Some, IfOk, IsTrue};
-ghost use Rattle.f2b_world.specs.Told.{Rose, KeepsBounds, make_event as event_of_make, config_event as event_of_config, look_event as event_of_look};
-ghost use Rattle.f2b_world.specs.Reading.{IsAnswerTo};
-ghost use Rattle.f2b_world.specs.declared.event.Event.TheVariants.{Say};
-ghost use Rattle.f2b_world.specs.declared.answer.Look.TheVariants.{Failed as LookFailed, NoMemory as LookNoMemory};
-ghost use Rattle.f2b_world.specs.declared.answer.Said.TheVariants.{Failed as SayFailed};
-ghost use Rattle.f2b_world.specs.declared.pattern.Made.TheVariants.{TooBig as MadeTooBig, NoMemory as MadeNoMemory};
-ghost use Rattle.f2b_base.specs.declared.outside.TreeAnswer.TheVariants.{Failed as TreeFailed, NoMemory as TreeNoMemory};
+//! Events, made of calls and their answers.
+ghost use Rattle.std.specs.Prelude.{◌≡◌, Some, IfOk};
+ghost use Rattle.f2b_world.specs.Told.{read_event as event_of_read, make_event as event_of_make, config_event as event_of_config, names_event as event_of_names, look_event as event_of_look, receive_event as event_of_receive};
+ghost use Rattle.f2b_world.specs.declared.answer.StoreAnswer.TheVariants.{Kept};
+ghost use Rattle.f2b_world.specs.declared.event.Event.TheVariants.{Say, DiskWrite, StoreAt, ChildStart, GateListen, GateWrite as WriteTo};
 
-use crate::script::FileChange;
-use f2b_base::{Bytes, FileLook, NoMemory, Plain, Reading, Seq, Text, Tree, TreeAnswer};
-use f2b_world::{Event, Look, Made, MakeAnswer, Said, build_pattern, raised};
+use f2b_base::{Bytes, NoMemory, Plain, Text, TreeAnswer};
+use f2b_world::{
+    Event, GateRead, GateWrite, Listen, Look, Made, MakeAnswer, NamesAnswer, Piece, Said,
+    StartAnswer, StoreAnswer, Wrote,
+};
 use std::alloc::Global;
 
-/// The count after a call that may have failed.
-pub fn count_after(failing: bool, count: u64) -> u64
-    ensures steady { count ≤ result }
-    ensures cause { IsTrue failing → Rose count result }
-{
-    if failing { raised(count) } else { count }
-}
-
-pub fn said(failing: bool) -> Said
-    ensures { result ≡ SayFailed → IsTrue failing }
-{
-    if failing { Said::Failed } else { Said::Done }
-}
-
 pub fn say_event(alloc: Global, bytes: &[u8], answer: Said) -> Result<Event, NoMemory>
-    ensures { IfOk result (λ e. e ≡ Say bytes.now answer) }
+    ensures { IfOk result (λ event. event ≡ Say bytes.now answer) }
 {
     Ok(Event::Say {
         bytes: Bytes::from_slice(alloc, bytes)?,
@@ -36,31 +20,39 @@ pub fn say_event(alloc: Global, bytes: &[u8], answer: Said) -> Result<Event, NoM
     })
 }
 
-/// The reading of that number.
-pub fn reading_at(readings: &[Reading], number: usize) -> Reading {
-    match readings.get(number).or(readings.last()) {
-        Some(reading) => *reading,
-        None => Reading { secs: 0, word: 0 },
-    }
-}
-
-/// The pattern of a text, or a refusal for size.
-pub fn made(alloc: Global, text: &str, failing: bool) -> Made
-    ensures { IsAnswerTo text.now result }
+pub fn read_event(slot: u8, at: u64, len: u64, answer: &Piece) -> Result<Event, NoMemory>
+    ensures { IfOk result (λ event. Some event ≡ event_of_read slot at len answer.now) }
 {
-    if failing {
-        return Made::TooBig;
-    }
-    build_pattern(alloc, text)
+    let answer = match answer {
+        Piece::Bytes(bytes) => Piece::Bytes(bytes.copy()?),
+        Piece::Failed => Piece::Failed,
+        Piece::NoMemory => return Err(NoMemory),
+    };
+    Ok(Event::DiskRead {
+        slot,
+        at,
+        len,
+        answer,
+    })
 }
 
-pub fn is_too_big(made: &Made) -> bool
-    ensures { made.now ≡ MadeTooBig → IsTrue result }
+pub fn write_event(
+    alloc: Global,
+    slot: u8,
+    at: usize,
+    bytes: &[u8],
+    answer: Wrote,
+) -> Result<Event, NoMemory>
+    ensures { IfOk result (λ event. event ≡ DiskWrite slot at bytes.now answer) }
 {
-    matches!(made, Made::TooBig)
+    Ok(Event::DiskWrite {
+        slot,
+        at: at as u64,
+        bytes: Bytes::from_slice(alloc, bytes)?,
+        answer,
+    })
 }
 
-/// The event of the building of a pattern.
 pub fn make_event(alloc: Global, text: &str, made: &Made) -> Result<Event, NoMemory>
     ensures { IfOk result (λ event. Some event ≡ event_of_make text.now made.now) }
 {
@@ -76,112 +68,41 @@ pub fn make_event(alloc: Global, text: &str, made: &Made) -> Result<Event, NoMem
     })
 }
 
-/// The answer of a script to a reading of the configuration.
-pub fn tree_at(
-    alloc: Global,
-    trees: &[TreeAnswer],
-    number: usize,
-    failing: bool,
-) -> Result<TreeAnswer, NoMemory>
-    ensures cause { IfOk result (λ answer. answer ≡ TreeFailed → IsTrue failing) }
-{
-    if failing {
-        return Ok(TreeAnswer::Failed);
-    }
-    match trees.get(number).or(trees.last()) {
-        Some(TreeAnswer::Tree(tree)) => Ok(TreeAnswer::Tree(tree.copy()?)),
-        Some(_) => Ok(TreeAnswer::TooLarge),
-        None => Ok(TreeAnswer::Tree(Tree {
-            files: Seq::new(alloc),
-        })),
-    }
-}
-
-/// The event of a reading of the configuration.
 pub fn config_event(alloc: Global, root: &str, answer: &TreeAnswer) -> Result<Event, NoMemory>
     ensures { IfOk result (λ event. Some event ≡ event_of_config root.now answer.now) }
 {
     let root = Text::from_str(alloc, root)?;
-    match answer {
-        TreeAnswer::Tree(tree) => {
-            let answer = TreeAnswer::Tree(tree.copy()?);
-            Ok(Event::Config { root, answer })
-        }
-        TreeAnswer::Failed => {
-            let answer = TreeAnswer::Failed;
-            Ok(Event::Config { root, answer })
-        }
-        TreeAnswer::TooLarge => {
-            let answer = TreeAnswer::TooLarge;
-            Ok(Event::Config { root, answer })
-        }
-        TreeAnswer::NoMemory => Err(NoMemory),
-    }
-}
-
-/// The content of a file after so many pauses.
-pub fn content_at<'a>(changes: &'a [FileChange], path: &str, pauses: u64) -> Option<&'a [u8]> {
-    let mut content = None;
-    for change in changes {
-        if change.pauses <= pauses && change.path.as_str() == path {
-            content = match &change.content {
-                Some(bytes) => Some(bytes.as_slice()),
-                None => None,
-            };
-        }
-    }
-    content
-}
-
-/// A look at a file with this content.
-pub fn file_look(
-    alloc: Global,
-    content: &[u8],
-    head: u32,
-    from: u64,
-    max: u32,
-) -> Result<Look, NoMemory>
-    ensures bounds { IfOk result (λ look. KeepsBounds head from max look) }
-    ensures cause { IfOk result (λ look. look ≢ LookFailed) }
-    ensures memory { IfOk result (λ look. look ≢ LookNoMemory) }
-{
-    let shown = (head as usize).min(content.len());
-    let begin = if from < content.len() as u64 {
-        from as usize
-    } else {
-        content.len()
+    let answer = match answer {
+        TreeAnswer::Tree(tree) => TreeAnswer::Tree(tree.copy()?),
+        TreeAnswer::Failed => TreeAnswer::Failed,
+        TreeAnswer::TooLarge => TreeAnswer::TooLarge,
+        TreeAnswer::NoMemory => return Err(NoMemory),
     };
-    let end = begin + (max as usize).min(content.len() - begin);
-    Ok(Look::File(FileLook {
-        size: content.len() as u64,
-        head: Bytes::from_slice(alloc, &content[..shown])?,
-        bytes: Bytes::from_slice(alloc, &content[begin..end])?,
-    }))
+    Ok(Event::Config { root, answer })
 }
 
-/// The answer of a script to a look.
-pub fn look_at(
-    alloc: Global,
-    content: Option<&[u8]>,
-    head: u32,
-    from: u64,
-    max: u32,
-    failing: bool,
-) -> Result<Look, NoMemory>
-    ensures bounds { IfOk result (λ look. KeepsBounds head from max look) }
-    ensures cause { IfOk result (λ look. look ≡ LookFailed → IsTrue failing) }
-    ensures memory { IfOk result (λ look. look ≢ LookNoMemory) }
+pub fn store_event(alloc: Global, socket: &str) -> Result<Event, NoMemory>
+    ensures { IfOk result (λ event. event ≡ StoreAt socket.now Kept) }
 {
-    if failing {
-        return Ok(Look::Failed);
-    }
-    match content {
-        Some(content) => file_look(alloc, content, head, from, max),
-        None => Ok(Look::Absent),
-    }
+    Ok(Event::StoreAt {
+        socket: Text::from_str(alloc, socket)?,
+        answer: StoreAnswer::Kept,
+    })
 }
 
-/// The event of a look.
+pub fn names_event(alloc: Global, dir: &str, answer: &NamesAnswer) -> Result<Event, NoMemory>
+    ensures { IfOk result (λ event. Some event ≡ event_of_names dir.now answer.now) }
+{
+    let dir = Text::from_str(alloc, dir)?;
+    let answer = match answer {
+        NamesAnswer::Names(names) => NamesAnswer::Names(names.copy()?),
+        NamesAnswer::Absent => NamesAnswer::Absent,
+        NamesAnswer::Failed => NamesAnswer::Failed,
+        NamesAnswer::NoMemory => return Err(NoMemory),
+    };
+    Ok(Event::Names { dir, answer })
+}
+
 pub fn look_event(
     alloc: Global,
     path: &str,
@@ -190,7 +111,6 @@ pub fn look_event(
     max: u32,
     answer: &Look,
 ) -> Result<Event, NoMemory>
-    requires { answer.now ≢ LookNoMemory }
     ensures { IfOk result (λ event. Some event ≡ event_of_look path.now head from max answer.now) }
 {
     let path = Text::from_str(alloc, path)?;
@@ -198,13 +118,65 @@ pub fn look_event(
         Look::File(file) => Look::File(file.copy()?),
         Look::Absent => Look::Absent,
         Look::Failed => Look::Failed,
-        Look::NoMemory => unreachable!(),
+        Look::NoMemory => return Err(NoMemory),
     };
     Ok(Event::Look {
         path,
         head,
         from,
         max,
+        answer,
+    })
+}
+
+pub fn start_event(
+    alloc: Global,
+    job: u64,
+    text: &str,
+    answer: StartAnswer,
+) -> Result<Event, NoMemory>
+    ensures { IfOk result (λ event. event ≡ ChildStart job text.now answer) }
+{
+    Ok(Event::ChildStart {
+        job,
+        text: Text::from_str(alloc, text)?,
+        answer,
+    })
+}
+
+pub fn listen_event(alloc: Global, path: &str, answer: Listen) -> Result<Event, NoMemory>
+    ensures { IfOk result (λ event. event ≡ GateListen path.now answer) }
+{
+    Ok(Event::GateListen {
+        path: Text::from_str(alloc, path)?,
+        answer,
+    })
+}
+
+pub fn receive_event(conn: u32, max: u32, answer: &GateRead) -> Result<Event, NoMemory>
+    ensures { IfOk result (λ event. Some event ≡ event_of_receive conn max answer.now) }
+{
+    let answer = match answer {
+        GateRead::Bytes(bytes) => GateRead::Bytes(bytes.copy()?),
+        GateRead::Quiet => GateRead::Quiet,
+        GateRead::End => GateRead::End,
+        GateRead::Failed => GateRead::Failed,
+        GateRead::NoMemory => return Err(NoMemory),
+    };
+    Ok(Event::GateRead { conn, max, answer })
+}
+
+pub fn send_event(
+    alloc: Global,
+    conn: u32,
+    bytes: &[u8],
+    answer: GateWrite,
+) -> Result<Event, NoMemory>
+    ensures { IfOk result (λ event. event ≡ WriteTo conn bytes.now answer) }
+{
+    Ok(Event::GateWrite {
+        conn,
+        bytes: Bytes::from_slice(alloc, bytes)?,
         answer,
     })
 }

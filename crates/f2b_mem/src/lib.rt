@@ -1,15 +1,39 @@
-//! A world in memory, for tests.
+//! Outsides in memory, for tests: a world, a link and files.
 //!
-//! It plays a script and keeps its history as long as it finds memory for it. Where it finds none, in a call that has no answer
+//! A world plays a script and keeps its history as long as it finds memory for it. Where it finds none, in a call that has no answer
 //! for that, it tells nothing from then on and goes on with its script.
 #![tactic(auto)]
 
+mod answers;
 mod book;
+mod children;
+mod commands;
+mod content;
+mod counts;
+mod disk;
 mod events;
+mod file_tree;
+mod files;
+mod gate;
+mod giving;
+mod link;
+mod logs;
+mod names;
+mod pieces;
+mod plans;
+mod progress;
+mod readings;
 mod script;
+mod slots;
+mod stage;
+mod torn;
+mod trees;
+mod waiting;
 mod world;
 
-pub use script::{FileChange, Script};
+pub use files::MemFiles;
+pub use link::MemLink;
+pub use script::{ChildPlan, ClientPlan, FileChange, Image, Script};
 pub use world::MemWorld;
 
 #[cfg(test)]

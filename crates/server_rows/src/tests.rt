@@ -1,5 +1,5 @@
 use f2b_base::{Bytes, Reading, Seq, Text, Tree, TreeAnswer, TreeFile};
-use f2b_mem::{FileChange, MemWorld, Script};
+use f2b_mem::{FileChange, Image, MemWorld, Script};
 use f2b_world::{Event, Said};
 use server_top::server;
 use std::alloc::Global;
@@ -248,7 +248,13 @@ fn world(alloc: Global, row: &Row, rotated: bool) -> Result<MemWorld, Fail> {
         readings: readings(alloc, row.readings)?,
         trees,
         changes: changes(alloc, row.log, rotated)?,
+        children: Seq::new(alloc),
+        clients: Seq::new(alloc),
         fails: Seq::from(row.fails.to_vec(alloc)?),
+        image: Image {
+            slot0: Bytes::new(alloc),
+            slot1: Bytes::new(alloc),
+        },
     };
     Ok(MemWorld::new(alloc, script)?)
 }

@@ -1,0 +1,21 @@
+-- What files in memory hold and tell.
+use Rattle.std.specs.Prelude.{ℕ, Option, Some, None, List, []}
+use Rattle.f2b_world.specs.declared.event.Event.{Event}
+use Rattle.f2b_world.specs.Shelves.{Shelf}
+use Rattle.f2b_world.specs.Told.{Fault, OfPatterns, OfFiles, History}
+use Rattle.f2b_mem.specs.Files.{file_in}
+use Rattle.f2b_mem.specs.declared.files.MemFiles.{MemFiles}
+
+abbrev pub shelf_of : MemFiles → Option Shelf
+shelf_of m = Some (file_in m.files)
+
+-- the history of the patterns that were made
+abbrev pub made_of : Option (List Event) → Option History
+made_of (Some events) = Some (record { first = λ slot. []; events = events })
+made_of None = None
+
+-- the count of each kind of fault
+abbrev pub file_counts : ℕ → ℕ → Fault → ℕ
+file_counts patterns files OfPatterns = patterns
+file_counts patterns files OfFiles = files
+file_counts patterns files _ = 0
