@@ -1,7 +1,7 @@
-ghost use Rattle.std.specs.Prelude.{◌≡◌, [], IfOk};
+ghost use Rattle.std.specs.Prelude.{◌≡◌, []};
 
 use super::*;
-use f2b_base::{Bytes, Reading, Seq, Text, TreeAnswer, TreeFile};
+use f2b_base::{Bytes, NoMemory, Reading, Seq, Text, TreeAnswer, TreeFile};
 use f2b_world::{
     Accept, Children, Configuration, Directories, Disk, FileAnswer, FilePiece, Files, Gate,
     GateRead, GateWrite, Len, Link, LinkRead, Linked, Logs, Look, Made, NamesAnswer, Patterns,
@@ -17,22 +17,32 @@ fn image(alloc: Global) -> Image {
     }
 }
 
-fn change(alloc: Global) -> Result<FileChange, Fail> {
-    Ok(FileChange {
-        pauses: 1,
-        path: Text::from_str(alloc, "/log")?,
-        content: Some(Bytes::from_slice(alloc, b"abcdef")?),
-    })
+fn readings(alloc: Global) -> Result<Seq<Reading>, Fail> {
+    let readings = [Reading { secs: 7, word: 1 }, Reading { secs: 9, word: 2 }];
+    Ok(Seq::from(readings.to_vec(alloc)?))
 }
 
-fn script(alloc: Global, fails: &[u64]) -> Result<Script, Fail>
-    ensures { IfOk result (λ script. script.clients ≡ []) }
+fn changes(alloc: Global) -> Result<Seq<FileChange>, Fail> {
+    let path = Text::from_str(alloc, "/log")?;
+    let content = Some(Bytes::from_slice(alloc, b"abcdef")?);
+    let mut changes = Seq::new(alloc);
+    changes.push(FileChange {
+        pauses: 1,
+        path,
+        content,
+    })?;
+    Ok(changes)
+}
+
+fn script(
+    alloc: Global,
+    readings: Seq<Reading>,
+    changes: Seq<FileChange>,
+    fails: Seq<u64>,
+) -> Script
+    ensures { result.clients ≡ [] }
 {
-    let readings = [Reading { secs: 7, word: 1 }, Reading { secs: 9, word: 2 }];
-    let readings = Seq::from(readings.to_vec(alloc)?);
-    let fails = Seq::from(fails.to_vec(alloc)?);
-    let changes = Seq::from(vec![in alloc; change(alloc)?]?);
-    Ok(Script {
+    Script {
         readings,
         trees: Seq::new(alloc),
         changes,
@@ -40,7 +50,7 @@ fn script(alloc: Global, fails: &[u64]) -> Result<Script, Fail>
         clients: Seq::new(alloc),
         fails,
         image: image(alloc),
-    })
+    }
 }
 
 // Says twice, of which the second fails, and makes a pattern twice, and so on.
@@ -72,7 +82,9 @@ fn looks_and_reads(world: &mut MemWorld) -> bool {
 #[test]
 fn plays_its_script_and_tells_it(rt: HostRuntime) -> Result<(), Fail> {
     let alloc = rt.alloc();
-    let mut world = MemWorld::new(alloc, script(alloc, &[1, 3, 5])?)?;
+    let fails = Seq::from([1, 3, 5].to_vec(alloc)?);
+    let script = script(alloc, readings(alloc)?, changes(alloc)?, fails);
+    let mut world = MemWorld::new(alloc, script)?;
     assert!(rt; says_and_makes(&mut world));
     assert!(rt; looks_and_reads(&mut world));
     assert_eq!(rt; world.store_at("/s"), StoreAnswer::Kept);
@@ -95,16 +107,24 @@ fn writes(world: &mut MemWorld) -> bool {
 #[test]
 fn tears_a_slot_and_reopens_it(rt: HostRuntime) -> Result<(), Fail> {
     let alloc = rt.alloc();
-    let mut world = MemWorld::new(alloc, script(alloc, &[2])?)?;
+    let fails = Seq::from([2].to_vec(alloc)?);
+    let script = script(alloc, Seq::new(alloc), Seq::new(alloc), fails);
+    let mut world = MemWorld::new(alloc, script)?;
     assert!(rt; writes(&mut world));
     if !world.is_told() || world.events().len() != 4 {
         return Err(Fail::from("no history"));
     }
     let torn = world.torn(4, 1, 0)?;
     assert_eq!(rt; torn.slot0.as_slice(), b"x\0cd".as_slice());
-    let mut again = MemWorld::reopened(alloc, torn, script(alloc, &[])?)?;
-    assert_eq!(rt; again.disk_len(0), Len::Bytes(4));
+    assert_eq!(rt; len_on(alloc, torn)?, Len::Bytes(4));
     Ok(())
+}
+
+// The length of the first slot of a world that begins on an image.
+fn len_on(alloc: Global, image: Image) -> Result<Len, NoMemory> {
+    let script = script(alloc, Seq::new(alloc), Seq::new(alloc), Seq::new(alloc));
+    let mut world = MemWorld::reopened(alloc, image, script)?;
+    Ok(world.disk_len(0))
 }
 
 fn gives(world: &mut MemWorld, want: &[u8]) -> bool {
@@ -144,7 +164,7 @@ fn runs(world: &mut MemWorld) -> bool {
 fn plays_clients_and_commands(rt: HostRuntime) -> Result<(), Fail> {
     let alloc = rt.alloc();
     let sent = Bytes::from_slice(alloc, b"abc")?;
-    let mut plays = script(alloc, &[])?;
+    let mut plays = script(alloc, Seq::new(alloc), changes(alloc)?, Seq::new(alloc));
     plays.clients.push(ClientPlan {
         pauses: 1,
         sent,
