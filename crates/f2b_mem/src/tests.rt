@@ -1,164 +1,231 @@
-ghost use Rattle.std.specs.Prelude.{◌≡◌, [], IfOk};
+ghost use Rattle.std.specs.Prelude.{◌≡◌, []};
 
 use super::*;
-use f2b_base::{Bytes, Reading, Seq, Text, TreeAnswer, TreeFile};
+use f2b_base::{Bytes, NoMemory, Reading, Seq, Text, TreeAnswer, TreeFile};
 use f2b_world::{
     Accept, Children, Configuration, Directories, Disk, FileAnswer, FilePiece, Files, Gate,
-    GateRead, GateWrite, Len, Link, LinkRead, Linked, Listen, Logs, Look, Made, NamesAnswer,
-    Patterns, Piece, PollAnswer, Said, Sink, StartAnswer, Store, StoreAnswer, Synced, Time, Wrote,
+    GateRead, GateWrite, Len, Link, LinkRead, Linked, Logs, Look, Made, NamesAnswer, Patterns,
+    Piece, PollAnswer, Said, Sink, StartAnswer, Store, StoreAnswer, Synced, Time, Wrote,
 };
 use std::alloc::Global;
 use std::test::Fail;
 
-fn bytes(alloc: Global, bytes: &[u8]) -> Result<Bytes, Fail> {
-    Ok(Bytes::from_slice(alloc, bytes)?)
-}
-
-fn image(alloc: Global, slot0: &[u8]) -> Result<Image, Fail> {
-    Ok(Image {
-        slot0: bytes(alloc, slot0)?,
+fn image(alloc: Global) -> Image {
+    Image {
+        slot0: Bytes::new(alloc),
         slot1: Bytes::new(alloc),
-    })
+    }
 }
 
-fn change(alloc: Global, path: &str) -> Result<FileChange, Fail> {
-    Ok(FileChange {
-        pauses: 1,
-        path: Text::from_str(alloc, path)?,
-        content: Some(bytes(alloc, b"abcdef")?),
-    })
-}
-
-fn script(alloc: Global, fails: &[u64]) -> Result<Script, Fail>
-    ensures { IfOk result (λ script. script.clients ≡ []) }
-{
+fn readings(alloc: Global) -> Result<Seq<Reading>, Fail> {
     let readings = [Reading { secs: 7, word: 1 }, Reading { secs: 9, word: 2 }];
-    Ok(Script {
-        readings: Seq::from(readings.to_vec(alloc)?),
+    Ok(Seq::from(readings.to_vec(alloc)?))
+}
+
+fn changes(alloc: Global) -> Result<Seq<FileChange>, Fail> {
+    let path = Text::from_str(alloc, "/log")?;
+    let content = Some(Bytes::from_slice(alloc, b"abcdef")?);
+    let mut changes = Seq::new(alloc);
+    changes.push(FileChange {
+        pauses: 1,
+        path,
+        content,
+    })?;
+    Ok(changes)
+}
+
+fn script(
+    alloc: Global,
+    readings: Seq<Reading>,
+    changes: Seq<FileChange>,
+    fails: Seq<u64>,
+) -> Script
+    ensures { result.clients ≡ [] }
+{
+    Script {
+        readings,
         trees: Seq::new(alloc),
-        changes: Seq::from(vec![in alloc; change(alloc, "/log")?]?),
+        changes,
         children: Seq::new(alloc),
         clients: Seq::new(alloc),
-        fails: Seq::from(fails.to_vec(alloc)?),
-        image: image(alloc, b"")?,
-    })
+        fails,
+        image: image(alloc),
+    }
+}
+
+// Says twice, of which the second fails, and makes a pattern twice, and so on.
+fn says_and_makes(world: &mut MemWorld) -> bool {
+    let said = [world.say(b"a"), world.say(b"b")];
+    let made = [world.make("a+"), world.make("a+")];
+    let trees = [world.config("/c"), world.config("/c")];
+    said == [Said::Done, Said::Failed]
+        && matches!(made, [Made::Built(_), Made::TooBig])
+        && matches!(trees, [TreeAnswer::Tree(_), TreeAnswer::Failed])
+}
+
+// The file comes with the first pause, and the last reading stays.
+fn looks_and_reads(world: &mut MemWorld) -> bool {
+    let absent = world.look("/log", 2, 0, 4);
+    world.pause(250);
+    let seen = match world.look("/log", 2, 1, 4) {
+        Look::File(file) => {
+            file.size == 6
+                && file.head.as_slice() == b"ab".as_slice()
+                && file.bytes.as_slice() == b"bcde".as_slice()
+        }
+        _ => false,
+    };
+    let secs = [world.clock().secs, world.clock().secs, world.clock().secs];
+    absent == Look::Absent && seen && secs == [7, 9, 9]
 }
 
 #[test]
 fn plays_its_script_and_tells_it(rt: HostRuntime) -> Result<(), Fail> {
     let alloc = rt.alloc();
-    let mut world = MemWorld::new(alloc, script(alloc, &[1, 3, 5])?)?;
-    assert_eq!(rt; world.say(b"a"), Said::Done);
-    assert_eq!(rt; world.say(b"b"), Said::Failed);
-    assert!(rt; matches!(world.make("a+"), Made::Built(_)));
-    assert!(rt; matches!(world.make("a+"), Made::TooBig));
-    assert!(rt; matches!(world.config("/c"), TreeAnswer::Tree(_)));
-    assert_eq!(rt; world.config("/c"), TreeAnswer::Failed);
-    assert_eq!(rt; world.look("/log", 2, 0, 4), Look::Absent);
-    world.pause(250);
-    let Look::File(file) = world.look("/log", 2, 1, 4) else {
-        return Err(Fail::from("no file"));
-    };
-    assert_eq!(rt; file.size, 6);
-    assert_eq!(rt; file.head.as_slice(), b"ab".as_slice());
-    assert_eq!(rt; file.bytes.as_slice(), b"bcde".as_slice());
-    assert_eq!(rt;
-        [world.clock().secs, world.clock().secs, world.clock().secs],
-        [7, 9, 9]
-    );
+    let fails = Seq::from([1, 3, 5].to_vec(alloc)?);
+    let script = script(alloc, readings(alloc)?, changes(alloc)?, fails);
+    let mut world = MemWorld::new(alloc, script)?;
+    assert!(rt; says_and_makes(&mut world));
+    assert!(rt; looks_and_reads(&mut world));
     assert_eq!(rt; world.store_at("/s"), StoreAnswer::Kept);
     assert!(rt; world.is_told());
     assert_eq!(rt; world.events().len(), 13);
     Ok(())
 }
 
+fn writes(world: &mut MemWorld) -> bool {
+    let first = world.disk_write(0, 0, b"abcd");
+    let synced = world.disk_sync(0);
+    let failed = world.disk_write(0, 0, b"xy");
+    let none = match world.disk_read(0, 0, 0) {
+        Piece::Bytes(bytes) => bytes.is_empty(),
+        _ => false,
+    };
+    none && first == Wrote::Done && synced == Synced::Done && failed == Wrote::Failed
+}
+
 #[test]
-fn keeps_two_slots_and_tears_them(rt: HostRuntime) -> Result<(), Fail> {
+fn tears_a_slot_and_reopens_it(rt: HostRuntime) -> Result<(), Fail> {
     let alloc = rt.alloc();
-    let mut world = MemWorld::new(alloc, script(alloc, &[2])?)?;
-    assert_eq!(rt; world.disk_write(0, 0, b"abcd"), Wrote::Done);
-    assert_eq!(rt; world.disk_sync(0), Synced::Done);
-    assert_eq!(rt; world.disk_write(0, 0, b"xy"), Wrote::Failed);
-    assert_eq!(rt; world.disk_len(0), Len::Bytes(4));
-    assert_eq!(rt; world.disk_read(0, 0, 0), Piece::Bytes(Bytes::new(alloc)));
-    if !world.is_told() || world.events().len() != 5 {
+    let fails = Seq::from([2].to_vec(alloc)?);
+    let script = script(alloc, Seq::new(alloc), Seq::new(alloc), fails);
+    let mut world = MemWorld::new(alloc, script)?;
+    assert!(rt; writes(&mut world));
+    if !world.is_told() || world.events().len() != 4 {
         return Err(Fail::from("no history"));
     }
-    let torn = world.torn(5, 1, 0)?;
-    assert_eq!(rt; torn, image(alloc, b"x\0cd")?);
-    let mut again = MemWorld::reopened(alloc, torn, script(alloc, &[])?)?;
-    assert_eq!(rt; again.disk_len(0), Len::Bytes(4));
+    let torn = world.torn(4, 1, 0)?;
+    assert_eq!(rt; torn.slot0.as_slice(), b"x\0cd".as_slice());
+    assert_eq!(rt; len_on(alloc, torn)?, Len::Bytes(4));
     Ok(())
 }
 
-#[test]
-fn plays_clients_commands_and_names(rt: HostRuntime) -> Result<(), Fail> {
-    let alloc = rt.alloc();
-    let client = ClientPlan {
-        pauses: 1,
-        sent: bytes(alloc, b"abc")?,
-        piece: 2,
+// The length of the first slot of a world that begins on an image.
+fn len_on(alloc: Global, image: Image) -> Result<Len, NoMemory> {
+    let script = script(alloc, Seq::new(alloc), Seq::new(alloc), Seq::new(alloc));
+    let mut world = MemWorld::reopened(alloc, image, script)?;
+    Ok(world.disk_len(0))
+}
+
+fn gives(world: &mut MemWorld, want: &[u8]) -> bool {
+    match world.gate_read(0, 9) {
+        GateRead::Bytes(bytes) => bytes.as_slice() == want,
+        GateRead::Quiet => want.is_empty(),
+        _ => false,
+    }
+}
+
+// A client comes with the first pause, and gives its bytes in pieces.
+fn serves(world: &mut MemWorld) -> bool {
+    let before = world.gate_accept();
+    world.pause(250);
+    let accepted = [world.gate_accept(), world.gate_accept()];
+    let given = [gives(world, b"ab"), gives(world, b"c"), gives(world, b"")];
+    let took = world.gate_write(0, b"hi");
+    world.gate_close(0);
+    before == Accept::Quiet
+        && accepted == [Accept::Conn(0), Accept::Quiet]
+        && given == [true, true, true]
+        && took == GateWrite::Took(2)
+}
+
+fn runs(world: &mut MemWorld) -> bool {
+    let started = world.child_start(7, "true");
+    let polls = [world.child_poll(7), world.child_poll(7)];
+    world.child_kill(7);
+    let named = match world.names("/") {
+        NamesAnswer::Names(names) => names.len() == 1,
+        _ => false,
     };
-    let command = ChildPlan {
+    named && started == StartAnswer::Started && polls == [PollAnswer::Running, PollAnswer::Ended(3)]
+}
+
+#[test]
+fn plays_clients_and_commands(rt: HostRuntime) -> Result<(), Fail> {
+    let alloc = rt.alloc();
+    let sent = Bytes::from_slice(alloc, b"abc")?;
+    let mut plays = script(alloc, Seq::new(alloc), changes(alloc)?, Seq::new(alloc));
+    plays.clients.push(ClientPlan {
+        pauses: 1,
+        sent,
+        piece: 2,
+    })?;
+    plays.children.push(ChildPlan {
         polls: 1,
         status: Some(3),
-    };
-    let mut plays = script(alloc, &[])?;
-    plays.clients = Seq::from(vec![in alloc; client]?);
-    plays.children = Seq::from(vec![in alloc; command]?);
+    })?;
     let mut world = MemWorld::new(alloc, plays)?;
-    assert_eq!(rt; world.gate_listen("/s"), Listen::Listening);
-    assert_eq!(rt; world.gate_accept(), Accept::Quiet);
-    assert_eq!(rt; world.names("/"), NamesAnswer::Absent);
-    world.pause(250);
-    assert_eq!(rt;
-        [world.gate_accept(), world.gate_accept()],
-        [Accept::Conn(0), Accept::Quiet]
-    );
-    assert_eq!(rt;
-        world.gate_read(0, 9),
-        GateRead::Bytes(bytes(alloc, b"ab")?)
-    );
-    assert_eq!(rt; world.gate_read(0, 9), GateRead::Bytes(bytes(alloc, b"c")?));
-    assert_eq!(rt; world.gate_read(0, 9), GateRead::Quiet);
-    assert_eq!(rt; world.gate_write(0, b"hi"), GateWrite::Took(2));
-    world.gate_close(0);
-    assert_eq!(rt; world.child_start(7, "true"), StartAnswer::Started);
-    assert_eq!(rt;
-        [world.child_poll(7), world.child_poll(7)],
-        [PollAnswer::Running, PollAnswer::Ended(3)]
-    );
-    world.child_kill(7);
-    assert!(rt; matches!(world.names("/"), NamesAnswer::Names(names) if names.len() == 1));
+    assert!(rt; serves(&mut world));
+    assert!(rt; runs(&mut world));
     Ok(())
 }
 
+fn receives(link: &mut MemLink, want: &[u8]) -> bool {
+    match link.receive(9) {
+        LinkRead::Bytes(bytes) => bytes.as_slice() == want,
+        LinkRead::End => want.is_empty(),
+        _ => false,
+    }
+}
+
 #[test]
-fn gives_a_link_and_files_in_pieces(rt: HostRuntime) -> Result<(), Fail> {
+fn gives_a_link_in_pieces(rt: HostRuntime) -> Result<(), Fail> {
     let alloc = rt.alloc();
-    let mut link = MemLink::new(alloc, bytes(alloc, b"abc")?, 2, Seq::new(alloc))?;
+    let bytes = Bytes::from_slice(alloc, b"abc")?;
+    let mut link = MemLink::new(alloc, bytes, 2, Seq::new(alloc))?;
     assert_eq!(rt; link.send(b"hi"), Linked::Connected);
-    assert_eq!(rt; link.receive(9), LinkRead::Bytes(bytes(alloc, b"ab")?));
-    assert_eq!(rt; link.receive(9), LinkRead::Bytes(bytes(alloc, b"c")?));
-    assert_eq!(rt; link.receive(9), LinkRead::End);
+    assert!(rt; receives(&mut link, b"ab"));
+    assert!(rt; receives(&mut link, b"c"));
+    assert!(rt; receives(&mut link, b""));
     assert_eq!(rt; link.sent(), b"hi".as_slice());
-    let file = TreeFile {
+    Ok(())
+}
+
+fn reads(files: &mut MemFiles, path: &str) -> bool {
+    let whole = match files.read(path) {
+        FileAnswer::Bytes(bytes) => bytes.as_slice() == b"abc".as_slice(),
+        _ => false,
+    };
+    let piece = match files.piece(path, 2, 2) {
+        FilePiece::Bytes(bytes) => bytes.as_slice() == b"c".as_slice(),
+        _ => false,
+    };
+    let listed = match files.tree("/c") {
+        TreeAnswer::Tree(tree) => tree.files.len() == 1,
+        _ => false,
+    };
+    whole && piece && listed
+}
+
+#[test]
+fn gives_files_in_pieces(rt: HostRuntime) -> Result<(), Fail> {
+    let alloc = rt.alloc();
+    let mut list = Seq::new(alloc);
+    list.push(TreeFile {
         path: Text::from_str(alloc, "/c/jail.d/a.conf")?,
-        content: bytes(alloc, b"abc")?,
-    };
-    let mut files = MemFiles::new(alloc, Seq::from(vec![in alloc; file]?), Seq::new(alloc))?;
-    let path = "/c/jail.d/a.conf";
-    assert_eq!(rt; files.read(path), FileAnswer::Bytes(bytes(alloc, b"abc")?));
-    assert_eq!(rt;
-        files.piece(path, 2, 2),
-        FilePiece::Bytes(bytes(alloc, b"c")?)
-    );
-    let TreeAnswer::Tree(tree) = files.tree("/c") else {
-        return Err(Fail::from("no tree"));
-    };
-    let Some(file) = tree.files.as_slice().first() else {
-        return Err(Fail::from("no file"));
-    };
-    assert_eq!(rt; file.path.as_str(), "jail.d/a.conf");
+        content: Bytes::from_slice(alloc, b"abc")?,
+    })?;
+    let mut files = MemFiles::new(alloc, list, Seq::new(alloc))?;
+    assert!(rt; reads(&mut files, "/c/jail.d/a.conf"));
     Ok(())
 }
