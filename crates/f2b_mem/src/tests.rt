@@ -17,12 +17,12 @@ fn image(alloc: Global) -> Image {
     }
 }
 
-fn readings(alloc: Global) -> Result<Seq<Reading>, Fail> {
+fn readings(alloc: Global) -> Result<Seq<Reading>, NoMemory> {
     let readings = [Reading { secs: 7, word: 1 }, Reading { secs: 9, word: 2 }];
     Ok(Seq::from(readings.to_vec(alloc)?))
 }
 
-fn changes(alloc: Global) -> Result<Seq<FileChange>, Fail> {
+fn changes(alloc: Global) -> Result<Seq<FileChange>, NoMemory> {
     let path = Text::from_str(alloc, "/log")?;
     let content = Some(Bytes::from_slice(alloc, b"abcdef")?);
     let mut changes = Seq::new(alloc);
@@ -79,17 +79,19 @@ fn looks_and_reads(world: &mut MemWorld) -> bool {
     absent == Look::Absent && seen && secs == [7, 9, 9]
 }
 
-#[test]
-fn plays_its_script_and_tells_it(rt: HostRuntime) -> Result<(), Fail> {
-    let alloc = rt.alloc();
+fn plays(alloc: Global) -> Result<bool, NoMemory> {
     let fails = Seq::from([1, 3, 5].to_vec(alloc)?);
     let script = script(alloc, readings(alloc)?, changes(alloc)?, fails);
     let mut world = MemWorld::new(alloc, script)?;
-    assert!(rt; says_and_makes(&mut world));
-    assert!(rt; looks_and_reads(&mut world));
-    assert_eq!(rt; world.store_at("/s"), StoreAnswer::Kept);
-    assert!(rt; world.is_told());
-    assert_eq!(rt; world.events().len(), 13);
+    let made = says_and_makes(&mut world);
+    let seen = looks_and_reads(&mut world);
+    let kept = world.store_at("/s") == StoreAnswer::Kept;
+    Ok(made && seen && kept && world.is_told() && world.events().len() == 13)
+}
+
+#[test]
+fn plays_its_script_and_tells_it(rt: HostRuntime) -> Result<(), Fail> {
+    assert!(rt; plays(rt.alloc())?);
     Ok(())
 }
 
@@ -104,19 +106,30 @@ fn writes(world: &mut MemWorld) -> bool {
     none && first == Wrote::Done && synced == Synced::Done && failed == Wrote::Failed
 }
 
-#[test]
-fn tears_a_slot_and_reopens_it(rt: HostRuntime) -> Result<(), Fail> {
-    let alloc = rt.alloc();
+// What is torn of a world that has written, or nothing where it is not told.
+fn torn(world: &MemWorld) -> Result<Option<Image>, NoMemory> {
+    if !world.is_told() {
+        return Ok(None);
+    }
+    let count = world.events().len();
+    Ok(Some(world.torn(count as u64, 1, 0)?))
+}
+
+fn tears(alloc: Global) -> Result<bool, NoMemory> {
     let fails = Seq::from([2].to_vec(alloc)?);
     let script = script(alloc, Seq::new(alloc), Seq::new(alloc), fails);
     let mut world = MemWorld::new(alloc, script)?;
-    assert!(rt; writes(&mut world));
-    if !world.is_told() || world.events().len() != 4 {
-        return Err(Fail::from("no history"));
-    }
-    let torn = world.torn(4, 1, 0)?;
-    assert_eq!(rt; torn.slot0.as_slice(), b"x\0cd".as_slice());
-    assert_eq!(rt; len_on(alloc, torn)?, Len::Bytes(4));
+    let written = writes(&mut world);
+    let Some(image) = torn(&world)? else {
+        return Ok(false);
+    };
+    let kept = image.slot0.as_slice() == b"x\0cd".as_slice();
+    Ok(written && kept && len_on(alloc, image)? == Len::Bytes(4))
+}
+
+#[test]
+fn tears_a_slot_and_reopens_it(rt: HostRuntime) -> Result<(), Fail> {
+    assert!(rt; tears(rt.alloc())?);
     Ok(())
 }
 
@@ -160,23 +173,28 @@ fn runs(world: &mut MemWorld) -> bool {
     named && started == StartAnswer::Started && polls == [PollAnswer::Running, PollAnswer::Ended(3)]
 }
 
-#[test]
-fn plays_clients_and_commands(rt: HostRuntime) -> Result<(), Fail> {
-    let alloc = rt.alloc();
-    let sent = Bytes::from_slice(alloc, b"abc")?;
-    let mut plays = script(alloc, Seq::new(alloc), changes(alloc)?, Seq::new(alloc));
-    plays.clients.push(ClientPlan {
+fn plays_clients(alloc: Global) -> Result<bool, NoMemory> {
+    let mut clients = Seq::new(alloc);
+    clients.push(ClientPlan {
         pauses: 1,
-        sent,
+        sent: Bytes::from_slice(alloc, b"abc")?,
         piece: 2,
     })?;
-    plays.children.push(ChildPlan {
+    let mut children = Seq::new(alloc);
+    children.push(ChildPlan {
         polls: 1,
         status: Some(3),
     })?;
-    let mut world = MemWorld::new(alloc, plays)?;
-    assert!(rt; serves(&mut world));
-    assert!(rt; runs(&mut world));
+    let mut script = script(alloc, Seq::new(alloc), changes(alloc)?, Seq::new(alloc));
+    script.clients = clients;
+    script.children = children;
+    let mut world = MemWorld::new(alloc, script)?;
+    Ok(serves(&mut world) && runs(&mut world))
+}
+
+#[test]
+fn plays_clients_and_commands(rt: HostRuntime) -> Result<(), Fail> {
+    assert!(rt; plays_clients(rt.alloc())?);
     Ok(())
 }
 
