@@ -11,13 +11,13 @@ ghost use Rattle.std.specs.Prelude.{◌≤◌, ◌<◌, ◌^◌, map, bytes_eq, 
 ghost use Rattle.f2b_base.specs.declared.jail.WatchDef.{WatchDef};
 ghost use Rattle.f2b_model.specs.Lists.{AreDistinct};
 ghost use Rattle.f2b_model.specs.Sound.{same_kind};
-ghost use Rattle.f2b_model.specs.Until.{last_moment};
+ghost use Rattle.f2b_base.specs.Limits.{last_moment};
 ghost use Rattle.jail_moves.specs.Rooms.{IsBounded};
 ghost use Rattle.jail_rooms.specs.Kept.{IsTaken};
 
 use f2b_base::{
-    ActionDef, Addr, BanRule, Bytes, DateSpec, Defs, Failure, Family, Input, JailDef, NoMemory,
-    Outcome, Place, Seq, Text, WatchDef, What,
+    ActionDef, Addr, BanRule, Bytes, DateSpec, Defs, Failure, Family, Input, JailDef, LAST_MOMENT,
+    NoMemory, Outcome, Place, Seq, Text, WatchDef, What,
 };
 use f2b_model::Happening;
 use jail_core::Core;
@@ -28,8 +28,6 @@ use std::{env, fs, io};
 
 /// 2024-03-02T00:00:00Z, when each day begins.
 const BEGIN: u64 = 1_709_337_600;
-
-const LAST_MOMENT: u64 = (1 << 40) - 1;
 
 const ADDRESSES: u64 = 50_000;
 
