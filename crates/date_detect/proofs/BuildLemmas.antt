@@ -6,7 +6,8 @@ use Rattle.f2b_world.specs.Reading.{reading}
 use Rattle.f2b_world.specs.declared.event.Event.{Event}
 use Rattle.f2b_world.specs.declared.event.Event.TheVariants.{Make}
 use Rattle.f2b_world.specs.declared.answer.MakeAnswer.TheVariants.{Built as WasBuilt, Syntax as WasSyntax, TooBig as WasTooBig}
-use Rattle.f2b_world.specs.Told.{Standing, History, Fault, OfPatterns, Adds, IsHonest, Rose}
+use Rattle.f2b_world.specs.Faults.{Fault, OfPatterns, Rose}
+use Rattle.f2b_world.specs.Told.{Standing, History, Adds, IsHonest}
 use Rattle.date_detect.specs.Forms.{Rule, framed, usual_form, usual_rule, texts}
 use Rattle.date_detect.specs.Usual.{usual_text}
 use Rattle.date_detect.specs.declared.form.Form.{Form}

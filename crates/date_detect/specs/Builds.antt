@@ -1,6 +1,7 @@
 -- What building dates does to the outside.
 use Rattle.std.specs.Prelude.{◌≡◌, ℕ, ◌≤◌, List, [], ◌∷◌, ◌++◌, map, take, Result, Ok, Err, None, Contains}
-use Rattle.f2b_world.specs.Told.{Standing, Fault, OfPatterns, Adds, Called, Rose}
+use Rattle.f2b_world.specs.Faults.{Fault, OfPatterns, Rose}
+use Rattle.f2b_world.specs.Told.{Standing, Adds, Called}
 use Rattle.f2b_world.specs.Reading.{reading}
 use Rattle.f2b_world.specs.declared.event.Event.{Event}
 use Rattle.f2b_world.specs.declared.event.Event.TheVariants.{Make}

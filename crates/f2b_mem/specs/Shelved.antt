@@ -2,7 +2,8 @@
 use Rattle.std.specs.Prelude.{ℕ, Option, Some, None, List, []}
 use Rattle.f2b_world.specs.declared.event.Event.{Event}
 use Rattle.f2b_world.specs.Shelves.{Shelf}
-use Rattle.f2b_world.specs.Told.{Fault, OfPatterns, OfFiles, History}
+use Rattle.f2b_world.specs.Faults.{Fault, OfPatterns, OfFiles}
+use Rattle.f2b_world.specs.Told.{History}
 use Rattle.f2b_mem.specs.Files.{file_in}
 use Rattle.f2b_mem.specs.declared.files.MemFiles.{MemFiles}
 

@@ -1,7 +1,7 @@
 -- What was said over a connection in memory.
 use Rattle.std.specs.Prelude.{ℕ, if◌then◌else◌, Option, Some, None, List, take}
 use Rattle.f2b_world.specs.Links.{Talk}
-use Rattle.f2b_world.specs.Told.{Fault, OfLink}
+use Rattle.f2b_world.specs.Faults.{Fault, OfLink}
 use Rattle.f2b_mem.specs.declared.link.MemLink.{MemLink}
 
 -- what was said, as long as it is told

@@ -2,7 +2,8 @@
 use Rattle.std.specs.Prelude.{ℕ, Option, List}
 use Rattle.f2b_world.specs.declared.event.Event.{Event}
 use Rattle.f2b_world.specs.declared.faults.Faults.{Faults}
-use Rattle.f2b_world.specs.Told.{Fault, OfSink, OfDisk, OfPatterns, OfConfiguration, OfLogs, OfChildren, OfGate, OfLink, OfFiles, History}
+use Rattle.f2b_world.specs.Faults.{Fault, OfSink, OfDisk, OfPatterns, OfConfiguration, OfLogs, OfChildren, OfGate, OfLink, OfFiles}
+use Rattle.f2b_world.specs.Told.{History}
 use Rattle.f2b_mem.specs.Stages.{told_in}
 use Rattle.f2b_mem.specs.declared.script.Script.{Script}
 use Rattle.f2b_mem.specs.declared.world.MemWorld.{MemWorld}

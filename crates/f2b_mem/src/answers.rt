@@ -1,6 +1,7 @@
 //! The answers of a world in memory.
 ghost use Rattle.std.specs.Prelude.{◌≡◌, ◌≢◌, ◌≤◌, ◌==◌, if◌then◌else◌, length, take, drop, option_copied, Some, IfOk, IsTrue};
-ghost use Rattle.f2b_world.specs.Told.{Rose, KeepsBounds, IsPieceOf, IsReceived};
+ghost use Rattle.f2b_world.specs.Faults.{Rose};
+ghost use Rattle.f2b_world.specs.Told.{KeepsBounds, IsPieceOf, IsReceived};
 ghost use Rattle.f2b_world.specs.Reading.{IsAnswerTo};
 ghost use Rattle.f2b_world.specs.declared.answer.Accept.TheVariants.{Failed as AcceptFailed};
 ghost use Rattle.f2b_world.specs.declared.answer.GateRead.TheVariants.{Failed as ReadFailed};

@@ -1,6 +1,8 @@
 -- Many patterns at once, from what the set of `regex` ensures.
-use Rattle.std.proofs.Common.{◌≡◌, ℕ, suc, ◌<◌, Bool, true, false, List, [], ◌∷◌, All, map, get_or, Option, Some, None, is_some, option_map, option_and_then, ◌||◌, refl, sym, ap, ap₂, ◌∙◌, arith, true≢false}
+use Rattle.std.proofs.Common.{◌≡◌, ℕ, suc, ◌+◌, ◌<◌, length, take, Bool, true, false, List, [], ◌∷◌, All, map, get_or, Option, Some, None, is_some, option_map, option_and_then, ◌||◌, refl, sym, ap, ap₂, ◌∙◌, arith, true≢false}
 use Rattle.std.proofs.lemmas.Bool.{false_from_ne_true}
+use Rattle.std.proofs.lemmas.List.{take_more}
+use Rattle.std.proofs.lemmas.List.Elements.{All-append}
 use Rattle.std.proofs.lemmas.List.Folds.{Any-from_list_any, list_any-from_Any}
 use Rattle.std.specs.List.{Any, list_any}
 use Rattle.std.specs.Prelude.{IsTrue, ◌↔◌}
@@ -13,6 +15,11 @@ use Rattle.regex_syntax.specs.Grammar.{Names}
 use Rattle.f2b_world.specs.Reading.{Expression, IsReadAs, reading}
 use Rattle.f2b_world.specs.Matches.{NumberedSpans, numbered_spans, host_spans, hosts_in, numbered_in, whole_in, MatchAlike}
 use Rattle.f2b_world.proofs.ReadingLemmas.{read_as}
+
+-- the first ones have it, and the next has it
+pub all_more : {A : Type 0} (P : A → Type 0) (xs : List A) (i : ℕ) (x : A) → i < length xs → x ≡ get_or xs i x → All P (take i xs) → P x → All P (take (i + 1) xs)
+all_more P xs i x within is before it =
+    rw (take_more xs i x within, sym is) (All-append P (take i xs) (x ∷ []) before (λ k d h. let first : k ≡ 0 = omega (arith, h) in rw first it))
 
 is_some-map : {A B : Type 0} (f : A → B) (o : Option A) → is_some (option_map f o) ≡ is_some o
 is_some-map f None = refl

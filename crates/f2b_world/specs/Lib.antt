@@ -4,6 +4,8 @@ pub mod Matches
 pub mod Captured
 pub mod Slots
 pub mod Bounds
+pub mod Faults
+pub mod Trees
 pub mod Told
 pub mod Walks
 pub mod Links

@@ -4,10 +4,12 @@ use Rattle.f2b_world.specs.declared.answer.Linked.{Linked}
 use Rattle.f2b_world.specs.declared.answer.Linked.TheVariants.{Connected, Failed as LinkFailed}
 use Rattle.f2b_world.specs.declared.answer.LinkRead.{LinkRead}
 use Rattle.f2b_world.specs.declared.answer.LinkRead.TheVariants.{Bytes as LinkBytes, End, Failed as ReadFailed, NoMemory as ReadNoMemory}
-use Rattle.f2b_world.specs.Told.{Fault, OfLink}
+use Rattle.f2b_world.specs.Faults.{Fault, OfLink}
 
--- the bytes that were sent, those that were received, and whether the end of these was seen
+-- the path of the server to which it is connected, the bytes that were sent, those that were received, and whether the end of these
+-- was seen
 pub record Talk : Type 0 where
+  pub server : Option (List ℕ)
   pub sent : List ℕ
   pub received : List ℕ
   pub ended : Bool
@@ -25,6 +27,11 @@ read_fault _ = None
 -- A talk that is told goes on as P says. It is not told again once it was not.
 abbrev pub Goes : Option Talk → Option Talk → (Talk → Talk → Type 0) → Type 0
 Goes old new P = IfSome new (λ after. (before : Talk) × (old ≡ Some before) × P before after)
+
+-- The talk is with the server of that path, or, where that failed, as before.
+abbrev pub Connects : List ℕ → Linked → Talk → Talk → Type 0
+Connects path Connected before after = after ≡ record before { server = Some path }
+Connects path LinkFailed before after = after ≡ before
 
 -- a talk whose client sent these bytes more
 abbrev pub with_sent : Talk → List ℕ → Talk

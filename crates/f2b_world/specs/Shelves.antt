@@ -1,12 +1,12 @@
 -- What files hold, and what reading them answers.
-use Rattle.std.specs.Prelude.{ℕ, ◌≡◌, ◌<◌, ◌≤◌, Option, Some, None, IfSome, List, length, take, drop}
+use Rattle.std.specs.Prelude.{ℕ, ◌≡◌, ◌<◌, ◌≤◌, Option, Some, None, List, length, take, drop}
 use Rattle.f2b_base.specs.declared.outside.TreeAnswer.{TreeAnswer}
 use Rattle.f2b_base.specs.declared.outside.TreeAnswer.TheVariants.{Failed as TreeFailed}
 use Rattle.f2b_world.specs.declared.answer.FileAnswer.{FileAnswer}
 use Rattle.f2b_world.specs.declared.answer.FileAnswer.TheVariants.{Bytes as FileBytes, Absent as FileAbsent, TooLarge, Failed as FileFailed, NoMemory as FileNoMemory}
 use Rattle.f2b_world.specs.declared.answer.FilePiece.{FilePiece}
 use Rattle.f2b_world.specs.declared.answer.FilePiece.TheVariants.{Bytes as PieceBytes, Absent as PieceAbsent, Failed as PieceFailed, NoMemory as PieceNoMemory}
-use Rattle.f2b_world.specs.Told.{Fault, OfFiles}
+use Rattle.f2b_world.specs.Faults.{Fault, OfFiles}
 
 -- the content of the file of a path, if there is one
 abbrev pub Shelf : Type 0
@@ -32,7 +32,7 @@ tree_fault _ = None
 abbrev pub IsFile : Option (List ℕ) → FileAnswer → Type 0
 IsFile content (FileBytes bytes) = content ≡ Some bytes
 IsFile content FileAbsent = content ≡ None
-IsFile content TooLarge = IfSome content (λ bytes. whole_file_bytes < length bytes)
+IsFile content TooLarge = (bytes : List ℕ) × (content ≡ Some bytes) × (whole_file_bytes < length bytes)
 IsFile content FileFailed = Unit {0}
 IsFile content FileNoMemory = Unit {0}
 

@@ -1,5 +1,5 @@
 -- The history that a world keeps, and what a call does to it.
-use Rattle.std.specs.Prelude.{ℕ, ◌≡◌, ◌==◌, ◌||◌, ◌⊎◌, Bool, false, if◌then◌else◌, ◌<◌, ◌≤◌, ◌^◌, ◌-◌, Option, Some, None, IfSome, List, [], ◌∷◌, ◌++◌, length, take, drop, min}
+use Rattle.std.specs.Prelude.{ℕ, ◌≡◌, ◌==◌, ◌||◌, Bool, false, if◌then◌else◌, ◌≤◌, ◌-◌, Option, Some, None, IfSome, List, [], ◌∷◌, ◌++◌, length, take, drop, min}
 use Rattle.f2b_base.specs.declared.outside.TreeAnswer.{TreeAnswer}
 use Rattle.f2b_base.specs.declared.outside.TreeAnswer.TheVariants.{Tree as ConfigTree, Failed as ConfigFailed, TooLarge as ConfigTooLarge, NoMemory as ConfigNoMemory}
 use Rattle.f2b_world.specs.declared.answer.Accept.TheVariants.{Conn, Failed as AcceptFailed}
@@ -30,29 +30,28 @@ use Rattle.f2b_world.specs.declared.event.Event.TheVariants.{Say, DiskLen, DiskR
 use Rattle.f2b_world.specs.declared.pattern.Made.{Made}
 use Rattle.f2b_world.specs.declared.pattern.Made.TheVariants.{Built, Syntax, TooBig, NoMemory as MadeNoMemory}
 use Rattle.f2b_world.specs.Bounds.{IsBounded}
+use Rattle.f2b_world.specs.Faults.{Fault, OfSink, OfDisk, OfPatterns, OfConfiguration, OfLogs, OfChildren, OfGate, Counted}
+use Rattle.f2b_world.specs.Links.{Talk, Goes}
+use Rattle.f2b_world.specs.Shelves.{Shelf}
 use Rattle.f2b_world.specs.Slots.{Slot, settled, slot_after}
-
--- a kind of fault of the outside
-pub data Fault : Type 0 where
-  OfSink : Fault
-  OfDisk : Fault
-  OfPatterns : Fault
-  OfConfiguration : Fault
-  OfLogs : Fault
-  OfChildren : Fault
-  OfGate : Fault
-  OfLink : Fault
-  OfFiles : Fault
 
 -- what the slots held as the history began, and the events since
 pub record History : Type 0 where
   pub first : ℕ → List ℕ
   pub events : List Event
 
--- What is known of a world: its history, where it tells it, and how often each kind of fault came.
+-- What is known of a world: its history, what was said over its link and what its files hold, each where it tells that, and how
+-- often each kind of fault came.
 pub record Standing : Type 0 where
   pub told : Option History
+  pub talk : Option Talk
+  pub shelf : Option Shelf
   pub faults : Fault → ℕ
+
+-- what was said over the link, and what files hold, is as before
+pub record Leaves (old new : Standing) : Type 0 where
+  pub talk : new.talk ≡ old.talk
+  pub shelf : new.shelf ≡ old.shelf
 
 -- a history after these events more
 abbrev pub grown : History → List Event → History
@@ -65,10 +64,6 @@ slot_of g slot = slot_after slot (settled (g.first slot)) g.events
 -- The history goes on by events for which P holds, as long as it is told. It is not told again once it was not.
 abbrev pub Adds : Option History → Option History → (History → List Event → Type 0) → Type 0
 Adds old new P = IfSome new (λ h. (g : History) × (es : List Event) × (old ≡ Some g) × (h ≡ grown g es) × P g es)
-
--- a count of faults rose, or has reached the last value of a counter
-abbrev pub Rose : ℕ → ℕ → Type 0
-Rose old new = (old < new) ⊎ (new ≡ 2 ^ 64 - 1)
 
 -- the fault that an event tells
 abbrev pub fault_of : Event → Option Fault
@@ -111,12 +106,12 @@ IsHonest g (DiskRead slot at len (PieceBytes bytes)) = bytes ≡ take len (drop 
 IsHonest g (GateAccept (Conn conn)) = is_in conn (connected_after [] g.events) ≡ false
 IsHonest g _ = Unit {0}
 
--- One call: it adds its event, no count of faults falls, and where it failed, its count rose.
+-- One call: it adds its event, and its fault is counted where it failed.
 pub record Called (old : Standing) (event : Event) (new : Standing) : Type 0 where
   pub adds : Adds old.told new.told (λ g es. (es ≡ event ∷ []) × IsHonest g event)
   pub bounded : IsBounded event
-  pub steady : (kind : Fault) → old.faults kind ≤ new.faults kind
-  pub cause : IfSome (fault_of event) (λ kind. Rose (old.faults kind) (new.faults kind))
+  pub leaves : Leaves old new
+  pub counts : Counted (fault_of event) old.faults new.faults
 
 -- a call that may have found no memory, and then did nothing
 abbrev pub Asked : Standing → Option Event → Standing → Type 0
@@ -173,11 +168,19 @@ receive_event conn max ReadQuiet = Some (ReadFrom conn max ReadQuiet)
 receive_event conn max ReadEnd = Some (ReadFrom conn max ReadEnd)
 receive_event conn max ReadFailed = Some (ReadFrom conn max ReadFailed)
 
--- A call that is no event: it adds nothing to the history, no count of faults falls, and where it failed, its count rose.
-pub record Noted (old : Standing) (failed : Option Fault) (new : Standing) : Type 0 where
+-- A call on the link, by which the talk goes on as P says. It is no event.
+pub record Spoken (old : Standing) (failed : Option Fault) (P : Talk → Talk → Type 0) (new : Standing) : Type 0 where
   pub told : new.told ≡ old.told
-  pub steady : (kind : Fault) → old.faults kind ≤ new.faults kind
-  pub cause : IfSome failed (λ kind. Rose (old.faults kind) (new.faults kind))
+  pub talk : Goes old.talk new.talk P
+  pub shelf : new.shelf ≡ old.shelf
+  pub counts : Counted failed old.faults new.faults
+
+-- A call on files, whose answer tells what they hold. It is no event.
+pub record Opened (old : Standing) (failed : Option Fault) (P : Shelf → Type 0) (new : Standing) : Type 0 where
+  pub told : new.told ≡ old.told
+  pub answer : IfSome old.shelf P
+  pub leaves : Leaves old new
+  pub counts : Counted failed old.faults new.faults
 
 -- where the history is told, the slot is at least so long
 abbrev pub HasLength : Option History → ℕ → ℕ → Type 0

@@ -1,6 +1,6 @@
 //! Counts of faults.
 ghost use Rattle.std.specs.Prelude.{◌≡◌, ◌≤◌};
-ghost use Rattle.f2b_world.specs.Told.{Rose};
+ghost use Rattle.f2b_world.specs.Faults.{Rose};
 
 /// How often each kind of fault of the outside came. Each count stays at the greatest number once it is there.
 #[derive(Clone, Copy, Debug, PartialEq, Eq)]

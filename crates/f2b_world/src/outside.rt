@@ -1,12 +1,13 @@
 //! The traits of the outside.
 //!
-//! Each call has one clause that says what it adds to the history, that no count of faults falls, and that a failure was counted.
-//! What a client or a file really holds is said of told worlds alone.
-ghost use Rattle.std.specs.Prelude.{◌≡◌, ◌+◌, ◌<◌, ◌≤◌, ◌^◌, Option, Some, IfSome, length};
+//! Each call has one clause that says what it adds to the history, that its fault was counted where it failed, and that all else is
+//! as before. What was said over a link and what files hold is said of worlds that tell it.
+ghost use Rattle.std.specs.Prelude.{◌≡◌, ◌+◌, ◌<◌, ◌≤◌, ◌^◌, length};
 ghost use Rattle.f2b_world.specs.Told.{Standing, Called, Asked, HasLength, KeepsBounds, IsPieceOf, IsReceived, IsTaken, read_event, write_event, make_event, config_event, store_event, names_event, look_event, start_event, receive_event};
-ghost use Rattle.f2b_world.specs.Told.{Noted};
-ghost use Rattle.f2b_world.specs.Links.{Talk, Goes, Sends, Receives, IsReceivedOf, link_fault, read_fault};
-ghost use Rattle.f2b_world.specs.Shelves.{Shelf, IsFile, IsPieceAt, IsWholeFile, IsShort, file_fault, piece_fault, tree_fault};
+ghost use Rattle.f2b_world.specs.Told.{Spoken, Opened};
+ghost use Rattle.f2b_world.specs.Links.{Connects, Sends, Receives, IsReceivedOf, link_fault, read_fault};
+ghost use Rattle.f2b_world.specs.Shelves.{IsFile, IsPieceAt, IsWholeFile, IsShort, file_fault, piece_fault, tree_fault};
+ghost use Rattle.f2b_world.specs.Trees.{IsTreeOf, KeepsTree};
 ghost use Rattle.f2b_world.specs.Reading.{IsAnswerTo};
 ghost use Rattle.f2b_world.specs.declared.event.Event.TheVariants.{Say, DiskLen, DiskSync, Clock, ChildPoll, ChildKill, GateListen, GateAccept, GateWrite as WriteTo, GateClose, Pause};
 
@@ -83,7 +84,8 @@ pub trait Configuration: Outside {
     /// Reads all files of a directory and of its direct subdirectories whose names end in `.conf` or `.local`. It is `TooLarge`
     /// where there are more than 4,096 of them or more than 16,777,216 bytes in them.
     fn config(&mut self, root: &str) -> TreeAnswer
-        ensures { Asked (Self.stands self.old) (config_event root.now result) (Self.stands self.new) };
+        ensures event { Asked (Self.stands self.old) (config_event root.now result) (Self.stands self.new) }
+        ensures bounds { KeepsTree result };
 }
 
 /// Logs that are looked at.
@@ -153,50 +155,39 @@ pub trait Gate: Outside {
 
 /// A client's connection to a server. Its calls are no events: what was said over it is told by itself.
 pub trait Link: Outside {
-    ghost talk: { Self → Option Talk };
-
     /// Connects to the server at a path.
     fn connect(&mut self, path: &str) -> Linked
-        ensures noted { Noted (Self.stands self.old) (link_fault result) (Self.stands self.new) }
-        ensures talk { Goes (Self.talk self.old) (Self.talk self.new) (λ before after. after ≡ before) };
+        ensures { Spoken (Self.stands self.old) (link_fault result) (Connects path.now result) (Self.stands self.new) };
 
     /// Sends bytes.
     fn send(&mut self, bytes: &[u8]) -> Linked
-        ensures noted { Noted (Self.stands self.old) (link_fault result) (Self.stands self.new) }
-        ensures talk { Goes (Self.talk self.old) (Self.talk self.new) (Sends bytes.now result) };
+        ensures { Spoken (Self.stands self.old) (link_fault result) (Sends bytes.now result) (Self.stands self.new) };
 
     /// Receives at most `max` bytes.
     fn receive(&mut self, max: u32) -> LinkRead
         requires { 1 ≤ max }
-        ensures noted { Noted (Self.stands self.old) (read_fault result) (Self.stands self.new) }
-        ensures talk { Goes (Self.talk self.old) (Self.talk self.new) (Receives result) }
+        ensures talk { Spoken (Self.stands self.old) (read_fault result) (Receives result) (Self.stands self.new) }
         ensures bounds { IsReceivedOf max result };
 }
 
 /// Files that are read as they stand. Reading them is no event: what they hold is told by itself, and stays.
 pub trait Files: Patterns {
-    ghost shelf: { Self → Option Shelf };
-
     /// Reads a whole file. It is `TooLarge` exactly where it has more than 268,435,456 bytes.
     fn read(&mut self, path: &str) -> FileAnswer
-        ensures noted { Noted (Self.stands self.old) (file_fault result) (Self.stands self.new) }
-        ensures file { IfSome (Self.shelf self.old) (λ shelf. IsFile (shelf path.now) result) }
-        ensures bounds { IsWholeFile result }
-        ensures shelf { Self.shelf self.new ≡ Self.shelf self.old };
+        ensures file { Opened (Self.stands self.old) (file_fault result) (λ shelf. IsFile (shelf path.now) result) (Self.stands self.new) }
+        ensures bounds { IsWholeFile result };
 
     /// Reads at most `max` bytes of a file from the offset `at` on. There are none only at the end.
     fn piece(&mut self, path: &str, at: u64, max: u32) -> FilePiece
         requires { 1 ≤ max }
-        ensures noted { Noted (Self.stands self.old) (piece_fault result) (Self.stands self.new) }
-        ensures file { IfSome (Self.shelf self.old) (λ shelf. IsPieceAt (shelf path.now) at max result) }
-        ensures bounds { IsShort max result }
-        ensures shelf { Self.shelf self.new ≡ Self.shelf self.old };
+        ensures file { Opened (Self.stands self.old) (piece_fault result) (λ shelf. IsPieceAt (shelf path.now) at max result) (Self.stands self.new) }
+        ensures bounds { IsShort max result };
 
     /// Reads all files of a directory and of its direct subdirectories whose names end in `.conf` or `.local`. It is `TooLarge`
     /// where there are more than 4,096 of them or more than 16,777,216 bytes in them.
     fn tree(&mut self, dir: &str) -> TreeAnswer
-        ensures noted { Noted (Self.stands self.old) (tree_fault result) (Self.stands self.new) }
-        ensures shelf { Self.shelf self.new ≡ Self.shelf self.old };
+        ensures file { Opened (Self.stands self.old) (tree_fault result) (IsTreeOf dir.now result) (Self.stands self.new) }
+        ensures bounds { KeepsTree result };
 }
 
 /// All that the server asks of the outside.

@@ -1,7 +1,7 @@
 -- How often each kind of fault came to the real world.
 use Rattle.std.specs.Prelude.{ℕ}
 use Rattle.f2b_world.specs.declared.faults.Faults.{Faults}
-use Rattle.f2b_world.specs.Told.{Fault, OfSink, OfDisk, OfPatterns, OfConfiguration, OfLogs, OfChildren, OfGate, OfLink, OfFiles}
+use Rattle.f2b_world.specs.Faults.{Fault, OfSink, OfDisk, OfPatterns, OfConfiguration, OfLogs, OfChildren, OfGate, OfLink, OfFiles}
 
 -- the count of each kind of fault
 abbrev pub counts : Faults → Fault → ℕ

@@ -6,7 +6,8 @@ use Rattle.std.proofs.lemmas.List.Elements.{Contains-append_left, Contains-appen
 use Rattle.f2b_world.specs.declared.event.Event.{Event}
 use Rattle.f2b_world.specs.declared.event.Event.TheVariants.{Make}
 use Rattle.f2b_world.specs.declared.answer.MakeAnswer.TheVariants.{Built as WasBuilt}
-use Rattle.f2b_world.specs.Told.{Standing, History, Fault, OfPatterns, Called, IsHonest}
+use Rattle.f2b_world.specs.Faults.{Fault, OfPatterns}
+use Rattle.f2b_world.specs.Told.{Standing, History, Called, IsHonest}
 use Rattle.filter_regex.specs.Builds.{answer, built, Makes, AreMakes, IsCause, MakesAll, Refuses}
 use Rattle.filter_regex.specs.declared.error.PatternPlace.{PatternPlace}
 use Rattle.filter_regex.specs.declared.error.BuildKind.{BuildKind}

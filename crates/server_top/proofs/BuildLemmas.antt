@@ -20,7 +20,7 @@ use Rattle.server_top.specs.declared.status.Status.{Status}
 use Rattle.server_top.specs.declared.status.Status.TheVariants.{PatternRefused, NoMemory}
 use Rattle.server_top.specs.declared.words.Plan.{Plan}
 use Rattle.flat_form.specs.FlatText.{IsFlatJail}
-use Rattle.f2b_world.specs.Told.{OfPatterns}
+use Rattle.f2b_world.specs.Faults.{OfPatterns}
 use Rattle.filter_regex.specs.Rules.{IsSupported}
 use Rattle.server_top.specs.Stages.{HasCause, IsRefusedAs, IsSteady, Refuses as Refused_so}
 use Rattle.server_top.specs.Starts.{BuildsAll, BuildFails, standing}

@@ -1,6 +1,7 @@
 -- Counts of faults over several calls.
 use Rattle.std.proofs.Common.{ℕ, ◌≤◌, Result, Ok, Err, IfOk, IfErr, OnOk, inl, inr, arith}
-use Rattle.f2b_world.specs.Told.{OfSink, OfConfiguration, OfPatterns, Standing, Rose, Called}
+use Rattle.f2b_world.specs.Faults.{OfSink, OfConfiguration, OfPatterns, Rose}
+use Rattle.f2b_world.specs.Told.{Standing, Called}
 use Rattle.f2b_world.specs.declared.event.Event.{Event}
 use Rattle.filter_regex.specs.declared.error.BuildKind.TheVariants.{Syntax, TooBig}
 use Rattle.server_top.specs.Stages.{HasCause, IsSteady}

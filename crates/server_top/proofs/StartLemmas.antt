@@ -4,7 +4,8 @@ use Rattle.std.proofs.lemmas.Bool.{cases_lt}
 use Rattle.f2b_base.specs.declared.jail.JailDef.{JailDef}
 use Rattle.f2b_base.specs.declared.outside.TreeAnswer.{TreeAnswer}
 use Rattle.f2b_base.specs.declared.outside.TreeAnswer.TheVariants.{Tree, Failed as TreeFailed, TooLarge as TreeTooLarge, NoMemory as TreeNoMemory}
-use Rattle.f2b_world.specs.Told.{Standing, Asked, Rose, OfConfiguration, config_event}
+use Rattle.f2b_world.specs.Faults.{Rose, OfConfiguration}
+use Rattle.f2b_world.specs.Told.{Standing, Asked, config_event}
 use Rattle.f2b_world.specs.declared.event.Event.{Event}
 use Rattle.f2b_world.specs.declared.event.Event.TheVariants.{Config}
 use Rattle.server_top.specs.Law.{Goes, Halts, configured, opening, refused}

@@ -1,6 +1,7 @@
 -- What a whole run is.
 use Rattle.std.specs.Prelude.{ℕ, ◌≡◌, ◌++◌, ◌∷◌, [], take, slice_get, Option, Some, None, List}
-use Rattle.f2b_world.specs.Told.{History, Standing, Adds, Rose, OfConfiguration, OfPatterns, OfSink}
+use Rattle.f2b_world.specs.Faults.{Rose, OfConfiguration, OfPatterns, OfSink}
+use Rattle.f2b_world.specs.Told.{History, Standing, Adds}
 use Rattle.f2b_world.specs.Walks.{after, Along}
 use Rattle.f2b_world.specs.declared.answer.Said.TheVariants.{Done}
 use Rattle.f2b_world.specs.declared.event.Event.{Event}

@@ -9,7 +9,8 @@ use Rattle.f2b_base.specs.declared.outside.Reading.{Reading}
 use Rattle.f2b_model.specs.Sound.{IsSound}
 use Rattle.f2b_model.specs.Whole.{now_of, step_now, told_now}
 use Rattle.f2b_model.specs.declared.happening.Happening.{Happening}
-use Rattle.f2b_world.specs.Told.{Fault, OfSink, OfConfiguration, OfPatterns, Standing, Rose, Called}
+use Rattle.f2b_world.specs.Faults.{Fault, OfSink, OfConfiguration, OfPatterns, Rose}
+use Rattle.f2b_world.specs.Told.{Standing, Called}
 use Rattle.f2b_world.specs.declared.answer.Look.{Look}
 use Rattle.f2b_world.specs.declared.answer.Look.TheVariants.{File}
 use Rattle.f2b_world.specs.declared.event.Event.TheVariants.{Look as LookAt}

@@ -1,6 +1,7 @@
 //! Saying lines.
 ghost use Rattle.std.specs.Prelude.{◌≡◌, ◌≤◌, ◌∷◌, [], IfErr, IfOk, OnOk, map};
-ghost use Rattle.f2b_world.specs.Told.{Called, Rose};
+ghost use Rattle.f2b_world.specs.Faults.{Rose};
+ghost use Rattle.f2b_world.specs.Told.{Called};
 ghost use Rattle.f2b_world.specs.declared.event.Event.TheVariants.{Say};
 ghost use Rattle.f2b_world.specs.declared.answer.Said.TheVariants.{Done as SayDone, Failed as SayFailed};
 ghost use Rattle.server_top.specs.Said.{line_of};

@@ -1,7 +1,8 @@
 //! Many patterns that are asked at once whether any of them matches a line.
-ghost use Rattle.std.specs.Prelude.{◌≡◌, IfOk, IfSome, is_some, map};
+ghost use Rattle.std.specs.Prelude.{◌≡◌, All, Any, IfOk, IfSome, IsSome, None, is_some, map};
 ghost use Rattle.std.specs.List.{list_any};
 ghost use Rattle.f2b_world.specs.Matches.{whole_in};
+ghost use Rattle.f2b_world.specs.Reading.{reading};
 
 use crate::pattern::Pattern;
 use f2b_base::NoMemory;
@@ -53,9 +54,10 @@ impl<'s> Model for SetMatcher<'s> {
     ghost invariant = { λ m. MatchAlike m.set.now (set_matcher_patterns m.inner) };
 }
 
-/// The texts of patterns.
+/// The texts of patterns, each of which has a reading.
 fn texts(alloc: Global, patterns: &[Pattern]) -> Result<Vec<&str>, NoMemory>
-    ensures { IfOk result (λ texts. map (λ it. it.now) texts.items ≡ patterns.now) }
+    ensures same { IfOk result (λ texts. map (λ it. it.now) texts.items ≡ patterns.now) }
+    ensures read { IfOk result (λ _. All (λ text. IsSome (reading text)) patterns.now) }
 {
     let mut texts = Vec::new(alloc);
     for pattern in patterns {
@@ -68,13 +70,14 @@ impl PatternSet {
     /// The set of the patterns. It builds each of them a second time, and all of them as one. Where one is found too big this time
     /// there is no set, and no refusal is counted, since each can still be asked by itself.
     pub fn of(alloc: Global, patterns: &[Pattern]) -> Result<Option<PatternSet>, NoMemory>
-        ensures { IfOk result (λ made. IfSome made (λ set. set ≡ patterns.now)) }
+        ensures same { IfOk result (λ made. IfSome made (λ set. set ≡ patterns.now)) }
+        ensures none { IfOk result (λ made. made ≡ None → Any (λ text. IsSome (reading text)) patterns.now) }
     {
         let texts = texts(alloc, patterns)?;
         match RegexSet::new(alloc, texts.as_slice()) {
             Ok(set) => Ok(Some(PatternSet { set })),
             Err(Error::OutOfMemory) => Err(NoMemory),
-            Err(_) => Ok(None),
+            Err(Error::Syntax(_) | Error::CompiledTooBig | Error::Internal) => Ok(None),
         }
     }
 
