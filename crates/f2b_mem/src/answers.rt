@@ -1,5 +1,5 @@
 //! The answers of a world in memory.
-ghost use Rattle.std.specs.Prelude.{◌≡◌, ◌≢◌, ◌≤◌, ◌==◌, if◌then◌else◌, length, take, drop, option_copied, Some, IfOk, IsTrue};
+ghost use Rattle.std.specs.Prelude.{◌≡◌, ◌≢◌, ◌≤◌, ◌==◌, if◌then◌else◌, length, take, drop, option_copied, Ok, Some, IfOk, IsTrue};
 ghost use Rattle.f2b_world.specs.Faults.{Rose};
 ghost use Rattle.f2b_world.specs.Told.{KeepsBounds, IsPieceOf, IsReceived};
 ghost use Rattle.f2b_world.specs.Reading.{IsAnswerTo};
@@ -26,7 +26,7 @@ ghost use Rattle.f2b_mem.specs.Plays.{accepting, receiving};
 ghost use Rattle.f2b_mem.specs.Script.{seen};
 
 use crate::pieces::piece_of;
-use f2b_base::{Bytes, FileLook, NoMemory, Tree, TreeAnswer};
+use f2b_base::{Bytes, FileLook, NoMemory, TreeAnswer};
 use f2b_world::{
     Accept, FileAnswer, FilePiece, GateRead, GateWrite, Len, LinkRead, Linked, Listen, Look, Made,
     Piece, PollAnswer, Said, StartAnswer, Synced, Wrote, build_pattern, raised,
@@ -303,18 +303,12 @@ pub fn file_piece(
     }
 }
 
-/// The answer to a reading of all files of a directory, of which none are too many.
-pub fn file_tree_answer(
+/// The answer to a reading of all files of a directory.
+pub fn tree_answer(
     failing: bool,
-    tree: Result<Option<Tree>, NoMemory>,
+    tree: Result<TreeAnswer, NoMemory>,
 ) -> Result<TreeAnswer, NoMemory>
-    ensures cause { IfOk result (λ answer. answer ≡ TreeFailed → IsTrue failing) }
+    ensures value { result ≡ (if failing then Ok TreeFailed else tree) }
 {
-    if failing {
-        return Ok(TreeAnswer::Failed);
-    }
-    match tree? {
-        Some(tree) => Ok(TreeAnswer::Tree(tree)),
-        None => Ok(TreeAnswer::TooLarge),
-    }
+    if failing { Ok(TreeAnswer::Failed) } else { tree }
 }

@@ -2,7 +2,7 @@
 ghost use Rattle.std.specs.Prelude.{◌≡◌, Some, option_copied, IfOk};
 ghost use Rattle.f2b_mem.specs.Files.{file_in};
 
-use crate::answers::{count_after, file_answer, file_piece, file_tree_answer, is_too_big, made};
+use crate::answers::{count_after, file_answer, file_piece,  is_too_big, made, tree_answer};
 use crate::book::Book;
 use crate::events::make_event;
 use crate::file_tree::tree_of;
@@ -59,9 +59,10 @@ impl MemFiles {
 }
 
 impl Outside for MemFiles {
-    ghost use Rattle.f2b_mem.specs.Shelved.{made_of, file_counts};
+    ghost use Rattle.std.specs.Prelude.{None};
+    ghost use Rattle.f2b_mem.specs.Shelved.{made_of, shelf_of, file_counts};
 
-    ghost stands = { λ m. record { told = made_of m.book; faults = file_counts m.pattern_faults m.file_faults } };
+    ghost stands = { λ m. record { told = made_of m.book; talk = None; shelf = shelf_of m; faults = file_counts m.pattern_faults m.file_faults } };
 }
 
 impl Patterns for MemFiles {
@@ -81,10 +82,6 @@ impl Patterns for MemFiles {
 }
 
 impl Files for MemFiles {
-    ghost use Rattle.f2b_mem.specs.Shelved.{shelf_of};
-
-    ghost shelf = { shelf_of };
-
     fn read(&mut self, path: &str) -> FileAnswer {
         let failing = self.is_failing();
         let content = file_in(self.files.as_slice(), path);
@@ -110,7 +107,7 @@ impl Files for MemFiles {
     fn tree(&mut self, dir: &str) -> TreeAnswer {
         let failing = self.is_failing();
         let tree = tree_of(self.alloc, self.files.as_slice(), dir);
-        let Ok(answer) = file_tree_answer(failing, tree) else {
+        let Ok(answer) = tree_answer(failing, tree) else {
             return TreeAnswer::NoMemory;
         };
         self.file_faults = count_after(failing, self.file_faults);

@@ -81,16 +81,12 @@ impl MemLink {
 
 impl Outside for MemLink {
     ghost use Rattle.std.specs.Prelude.{None};
-    ghost use Rattle.f2b_mem.specs.Talks.{link_counts};
+    ghost use Rattle.f2b_mem.specs.Talks.{talk_in, link_counts};
 
-    ghost stands = { λ m. record { told = None; faults = link_counts m.faults } };
+    ghost stands = { λ m. record { told = None; talk = talk_in m; shelf = None; faults = link_counts m.faults } };
 }
 
 impl Link for MemLink {
-    ghost use Rattle.f2b_mem.specs.Talks.{talk_in};
-
-    ghost talk = { talk_in };
-
     fn connect(&mut self, _path: &str) -> Linked {
         let failing = self.fails.as_slice().contains(&self.calls);
         self.faults = count_after(failing, self.faults);

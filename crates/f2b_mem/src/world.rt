@@ -71,9 +71,10 @@ impl MemWorld {
 }
 
 impl Outside for MemWorld {
+    ghost use Rattle.std.specs.Prelude.{None};
     ghost use Rattle.f2b_mem.specs.Worlds.{history_of_world, counts};
 
-    ghost stands = { λ m. record { told = history_of_world m; faults = counts m.faults } };
+    ghost stands = { λ m. record { told = history_of_world m; talk = None; shelf = None; faults = counts m.faults } };
 }
 
 impl Sink for MemWorld {
