@@ -1,5 +1,6 @@
 //! Looks at logs.
 ghost use Rattle.std.specs.Prelude.{IfOk};
+ghost use Rattle.f2b_world.specs.Bounds.{FitsLook};
 ghost use Rattle.f2b_world.specs.Told.{KeepsBounds};
 ghost use Rattle.f2b_world.specs.declared.answer.Look.TheVariants.{File as Seen};
 
@@ -17,7 +18,8 @@ pub fn look_at<R: Files + AllocGlobal>(
     from: u64,
     max: u32,
 ) -> Result<FileLook, Fault>
-    ensures { IfOk result (λ seen. KeepsBounds head from max (Seen seen)) }
+    ensures bounds { IfOk result (λ seen. KeepsBounds head from max (Seen seen)) }
+    ensures fits { IfOk result (λ seen. FitsLook (Seen seen)) }
 {
     let mut file = open_regular(rt, path)?;
     let size = file.size;

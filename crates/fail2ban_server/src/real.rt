@@ -52,7 +52,7 @@ where
     ghost use Rattle.std.specs.Prelude.{None};
     ghost use Rattle.fail2ban_server.specs.Counted.{counts};
 
-    ghost stands = { λ w. record { told = None; faults = counts w.faults } };
+    ghost stands = { λ w. record { told = None; talk = None; shelf = None; faults = counts w.faults } };
 }
 
 impl<R> Sink for RealWorld<R>

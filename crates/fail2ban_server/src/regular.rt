@@ -3,6 +3,7 @@
 //! Whether a file is regular is asked before it is opened, since the opening of a pipe would wait for a writer. Who puts a pipe
 //! in the file's place between the two can still make the opening wait: the library has no opening that does not wait.
 ghost use Rattle.std.specs.Prelude.{◌≡◌, IfOk, length};
+ghost use Rattle.f2b_world.specs.Bounds.{AreBytes};
 
 use crate::fault::Fault;
 use f2b_base::Bytes;
@@ -38,7 +39,8 @@ pub fn open_regular<R: Files>(rt: &R, path: &str) -> Result<RegularFile<R::File>
 impl<F: Read + Seek + Drop> RegularFile<F> {
     /// Exactly `count` bytes from the offset `from` on. A file that ends before is `Failed`.
     pub fn read_range(&mut self, alloc: Global, from: u64, count: u64) -> Result<Bytes, Fault>
-        ensures { IfOk result (λ bytes. length bytes ≡ count) }
+        ensures whole { IfOk result (λ bytes. length bytes ≡ count) }
+        ensures bytes { IfOk result AreBytes }
     {
         if count == 0 {
             return Ok(Bytes::new(alloc));
@@ -49,6 +51,15 @@ impl<F: Read + Seek + Drop> RegularFile<F> {
         let mut bytes = vec![in alloc; 0u8; count]?;
         self.file.seek(SeekFrom::Start(from))?;
         self.file.read_exact(&mut bytes)?;
-        Ok(Bytes::from(bytes))
+        let bytes = Bytes::from(bytes);
+        know_bytes(bytes.as_slice());
+        Ok(bytes)
     }
+}
+
+/// Bytes are below 256.
+fn know_bytes(bytes: &[u8])
+    ensures { AreBytes bytes.now }
+{
+    let _count = bytes.len();
 }

@@ -3,7 +3,9 @@
 //! The tree is walked first, so that one that is too large is known before any of its files is read. Only regular files are
 //! opened: a directory or a pipe with the name of a file of a configuration is passed over, as a link that leads nowhere is.
 ghost use Rattle.std.specs.Prelude.{◌≤◌, IfOk, length, map, string_bytes, vec_len};
-ghost use Rattle.fail2ban_server.specs.Trees.{IsInByteOrder, IsTree};
+ghost use Rattle.f2b_base.specs.declared.outside.TreeAnswer.TheVariants.{Tree as ConfigTree};
+ghost use Rattle.f2b_world.specs.Bounds.{FitsTree};
+ghost use Rattle.f2b_world.specs.Trees.{IsInByteOrder, IsTree};
 
 use crate::fault::Fault;
 use crate::regular::open_regular;
@@ -104,7 +106,8 @@ pub fn read_tree<R: Files + AllocGlobal + Clone + Drop>(
     rt: &R,
     root: &str,
 ) -> Result<Tree, TreeFault>
-    ensures { IfOk result IsTree }
+    ensures tree { IfOk result IsTree }
+    ensures fits { IfOk result (λ tree. FitsTree (ConfigTree tree)) }
 {
     let mut walk = Walk {
         files: Vec::new(rt.alloc()),
@@ -177,7 +180,8 @@ fn read_files<R: Files + AllocGlobal>(
 ) -> Result<Tree, TreeFault>
     requires few { length paths.now ≤ 4096 }
     requires ordered { IsInByteOrder (map string_bytes paths.now) }
-    ensures { IfOk result IsTree }
+    ensures tree { IfOk result IsTree }
+    ensures fits { IfOk result (λ tree. FitsTree (ConfigTree tree)) }
 {
     let mut files = Seq::new(rt.alloc());
     let mut left = MOST_BYTES;

@@ -15,7 +15,7 @@ pub steady_on : (old mid new : Standing) → IsSteady old mid → IsSteady mid n
 steady_on old mid new p q = record { counts = λ kind. omega (arith, p.counts kind, q.counts kind) }
 
 pub steady_call : (old new : Standing) (event : Event) → Called old event new → IsSteady old new
-steady_call old new event call = record { counts = call.steady }
+steady_call old new event call = record { counts = call.counts.steady }
 
 rose_later : (a b c : ℕ) → a ≤ b → Rose b c → Rose a c
 rose_later a b c le (inl lt) = inl (omega arith)

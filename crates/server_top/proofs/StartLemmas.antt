@@ -81,7 +81,7 @@ config_cause a b c plan (Tree tree) status asked steady is = let P : Status → 
 config_cause a b c plan TreeFailed status asked steady is =
     let e : status ≡ ConfFault = cc in
     let P : Status → Type 0 = λ s. HasCause a c s in
-    subst P (sym e) (rose_by_then (a.faults OfConfiguration) (b.faults OfConfiguration) (c.faults OfConfiguration) (asked.steady OfConfiguration) (steady.counts OfConfiguration) asked.cause)
+    subst P (sym e) (rose_by_then (a.faults OfConfiguration) (b.faults OfConfiguration) (c.faults OfConfiguration) (asked.counts.steady OfConfiguration) (steady.counts OfConfiguration) asked.counts.cause)
 config_cause a b c plan TreeTooLarge status asked steady is = let e : status ≡ NotBuilt = cc in let P : Status → Type 0 = λ s. HasCause a c s in subst P (sym e) tt
 config_cause a b c plan TreeNoMemory status asked steady is = absurd is
 
