@@ -1,5 +1,6 @@
 use crate::IgnoreSet;
-use f2b_base::{Addr, Cidr, Seq};
+use f2b_base::{Addr, Cidr, NoMemory, Seq};
+use std::alloc::Global;
 use std::test::Fail;
 
 #[test]
@@ -20,5 +21,34 @@ fn holds_what_a_mask_holds(rt: HostRuntime) -> Result<(), Fail> {
         let addr = Addr::read(text.as_bytes()).ok_or("an address")?;
         assert_eq!(rt; set.holds(addr), want, "at {text}");
     }
+    Ok(())
+}
+
+const MANY: u32 = 1_000_000;
+
+/// A set of masks over single addresses: the even ones below twice a million.
+fn even_addresses(alloc: Global) -> Result<IgnoreSet, NoMemory> {
+    let mut list = Seq::new(alloc);
+    for half in 0..MANY {
+        let base = Addr::V4(half * 2);
+        list.push(Cidr { base, bits: 32 })?;
+    }
+    IgnoreSet::new(alloc, &list)
+}
+
+/// Whether a set holds the even addresses below twice a million, and none of the odd ones.
+fn holds_the_even(set: &IgnoreSet) -> bool {
+    for number in 0..MANY * 2 {
+        if set.holds(Addr::V4(number)) != (number % 2 == 0) {
+            return false;
+        }
+    }
+    true
+}
+
+#[test]
+fn asks_a_million_masks_at_once(rt: HostRuntime) -> Result<(), Fail> {
+    let set = even_addresses(rt.alloc())?;
+    assert!(rt; holds_the_even(&set));
     Ok(())
 }
