@@ -1,5 +1,5 @@
 -- What the calls of a build come to, text by text.
-use Rattle.std.proofs.Common.{◌≡◌, ℕ, suc, ◌+◌, ◌<◌, ◌≤◌, ◌≢◌, All, Result, IsSome, is_some, true≢false, List, [], ◌∷◌, ◌++◌, Ok, Err, Bool, drop-cons, sym, ap, ap₂, ◌∙◌, subst, length, map, take, drop, get_or, inl, inr, arith}
+use Rattle.std.proofs.Common.{◌≡◌, ℕ, suc, ◌+◌, ◌<◌, ◌≤◌, ◌≢◌, All, Result, IsSome, is_some, true≢false, List, [], ◌∷◌, ◌++◌, Ok, Err, Bool, drop-cons, refl, sym, ap, ap₂, ◌∙◌, subst, length, map, take, drop, get_or, inl, inr, arith}
 use Rattle.std.proofs.Math.Seq.{take-append_seam, get_or-append_seam}
 use Rattle.std.proofs.lemmas.List.{map-append, length-append, take_more, take-append-drop, take-map}
 use Rattle.f2b_world.specs.Reading.{reading}
@@ -7,7 +7,7 @@ use Rattle.f2b_world.specs.declared.event.Event.{Event}
 use Rattle.f2b_world.specs.declared.event.Event.TheVariants.{Make}
 use Rattle.f2b_world.specs.declared.answer.MakeAnswer.TheVariants.{Built as WasBuilt, Syntax as WasSyntax, TooBig as WasTooBig}
 use Rattle.f2b_world.specs.Faults.{Fault, OfPatterns, Rose}
-use Rattle.f2b_world.specs.Told.{Standing, History, Adds, IsHonest}
+use Rattle.f2b_world.specs.Told.{Standing, History, Adds, IsHonest, Leaves}
 use Rattle.date_detect.specs.Forms.{Rule, framed, usual_form, usual_rule, texts}
 use Rattle.date_detect.specs.Usual.{usual_text}
 use Rattle.date_detect.specs.declared.form.Form.{Form}
@@ -17,11 +17,14 @@ use Rattle.std.specs.List.{Contains}
 use Rattle.date_detect.specs.declared.error.BuildError.{BuildError}
 use Rattle.date_detect.specs.declared.error.BuildError.TheVariants.{Syntax, TooBig, NoMemory}
 use Rattle.f2b_world.proofs.AddsLemmas.{adds_weaker, adds_then, adds_none}
+use Rattle.date_detect.proofs.LeavesLemmas.{leaves_none, leaves_then, still_then, call_still}
 
 -- the texts were built, one after the other
 pub record HaveBuilt (texts : List (List ℕ)) (old new : Standing) : Type 0 where
   pub told : Adds old.told new.told (λ g events. events ≡ built texts)
   pub steady : (kind : Fault) → old.faults kind ≤ new.faults kind
+  pub leaves : Leaves old new
+  pub still : (kind : Fault) → kind ≢ OfPatterns → new.faults kind ≡ old.faults kind
 
 -- the events are the one, whose answer is honest
 abbrev IsCall : Event → History → List Event → Type 0
@@ -33,6 +36,8 @@ lacks all n old new have = record {
   told = adds_weaker (λ g events. events ≡ built (take n all)) (λ g events. AreCalls all (Err NoMemory) events) _ _ have.told (λ g events p. (n, p));
   steady = have.steady;
   cause = tt;
+  leaves = have.leaves;
+  still = have.still;
 }
 
 -- a text stands among the others at the length of what is before it
@@ -44,7 +49,12 @@ contains all before after text order = rw order (
 )
 
 pub have_none : (s : Standing) → HaveBuilt [] s s
-have_none s = record { told = adds_none s.told; steady = λ kind. omega arith }
+have_none s = record {
+  told = adds_none s.told;
+  steady = λ kind. omega arith;
+  leaves = leaves_none s;
+  still = λ kind other. refl;
+}
 
 module _ (texts : List (List ℕ)) (old mid new : Standing) (before : HaveBuilt texts old mid) where
   steady_after : ((kind : Fault) → mid.faults kind ≤ new.faults kind) → (kind : Fault) → old.faults kind ≤ new.faults kind
@@ -55,7 +65,9 @@ module _ (texts : List (List ℕ)) (old mid new : Standing) (before : HaveBuilt 
   have_more text pattern makes = record {
     told = adds_then (λ g events. events ≡ built texts) (IsCall (Make text WasBuilt)) _ _ _ _ before.told makes.1.adds
         (λ g h xs ys p q. ap₂ ◌++◌ p q.0 ∙ sym (map-append _ texts (text ∷ [])));
-    steady = steady_after makes.1.steady;
+    steady = steady_after makes.1.counts.steady;
+    leaves = leaves_then old mid new before.leaves makes.1.leaves;
+    still = still_then old mid new before.still (call_still text WasBuilt mid new makes.1);
   }
 
   rose_after : Rose (mid.faults OfPatterns) (new.faults OfPatterns) → Rose (old.faults OfPatterns) (new.faults OfPatterns)
@@ -68,14 +80,18 @@ module _ (texts : List (List ℕ)) (old mid new : Standing) (before : HaveBuilt 
   fails all after text Syntax order makes = record {
     told = adds_then (λ g events. events ≡ built texts) (IsCall (Make text WasSyntax)) _ _ _ _ before.told makes.0.adds
         (λ g h xs ys p q. record { before = texts; text = text; after = after; order = order; calls = ap₂ ◌++◌ p q.0 });
-    steady = steady_after makes.0.steady;
+    steady = steady_after makes.0.counts.steady;
     cause = (text, contains all texts after text order, makes.1);
+    leaves = leaves_then old mid new before.leaves makes.0.leaves;
+    still = still_then old mid new before.still (call_still text WasSyntax mid new makes.0);
   }
   fails all after text TooBig order makes = record {
     told = adds_then (λ g events. events ≡ built texts) (IsCall (Make text WasTooBig)) _ _ _ _ before.told makes.0.adds
         (λ g h xs ys p q. record { before = texts; text = text; after = after; order = order; calls = ap₂ ◌++◌ p q.0 });
-    steady = steady_after makes.0.steady;
+    steady = steady_after makes.0.counts.steady;
     cause = (text, contains all texts after text order, rose_after makes.1);
+    leaves = leaves_then old mid new before.leaves makes.0.leaves;
+    still = still_then old mid new before.still (call_still text WasTooBig mid new makes.0);
   }
   fails all after text NoMemory order makes =
       let P : Standing → Type 0 = λ s. Builds all (Err NoMemory) old s in
@@ -88,7 +104,13 @@ module _ (texts : List (List ℕ)) (old mid new : Standing) (before : HaveBuilt 
       let P : List ℕ → Type 0 = λ t. Makes t (Err error) mid new in fails all after text error order (subst P same makes)
 
 pub ends : (all : List (List ℕ)) (rule : Rule) (old new : Standing) → HaveBuilt all old new → Builds all (Ok rule) old new
-ends all rule old new have = record { told = have.told; steady = have.steady; cause = tt }
+ends all rule old new have = record {
+  told = have.told;
+  steady = have.steady;
+  cause = tt;
+  leaves = have.leaves;
+  still = have.still;
+}
 
 -- ---- the texts of usual forms
 

@@ -2,6 +2,7 @@ pub mod OptionLemmas
 pub mod CharLemmas
 pub mod YearLemmas
 pub mod DateLemmas
+pub mod LeavesLemmas
 pub mod BuildLemmas
 pub mod NameLemmas
 pub mod Literals

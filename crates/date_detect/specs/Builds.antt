@@ -1,7 +1,7 @@
 -- What building dates does to the outside.
-use Rattle.std.specs.Prelude.{◌≡◌, ℕ, ◌≤◌, List, [], ◌∷◌, ◌++◌, map, take, Result, Ok, Err, None, Contains}
+use Rattle.std.specs.Prelude.{◌≡◌, ◌≢◌, ℕ, ◌≤◌, List, [], ◌∷◌, ◌++◌, map, take, Result, Ok, Err, None, Contains}
 use Rattle.f2b_world.specs.Faults.{Fault, OfPatterns, Rose}
-use Rattle.f2b_world.specs.Told.{Standing, Adds, Called}
+use Rattle.f2b_world.specs.Told.{Standing, Adds, Called, Leaves}
 use Rattle.f2b_world.specs.Reading.{reading}
 use Rattle.f2b_world.specs.declared.event.Event.{Event}
 use Rattle.f2b_world.specs.declared.event.Event.TheVariants.{Make}
@@ -45,8 +45,11 @@ HasCause texts (Err TooBig) old new =
     (text : List ℕ) × Contains texts text × Rose (old.faults OfPatterns) (new.faults OfPatterns)
 HasCause texts _ old new = Unit {0}
 
--- a build of patterns: what it told, that no count of faults fell, and its cause where one was refused
+-- A build of patterns: what it told, that no count of faults fell, and its cause where one was refused. It leaves what was said
+-- and what files hold, and all counts but that of patterns.
 pub record Builds (texts : List (List ℕ)) (outcome : Result Rule BuildError) (old new : Standing) : Type 0 where
   pub told : Adds old.told new.told (λ g events. AreCalls texts outcome events)
   pub steady : (kind : Fault) → old.faults kind ≤ new.faults kind
   pub cause : HasCause texts outcome old new
+  pub leaves : Leaves old new
+  pub still : (kind : Fault) → kind ≢ OfPatterns → new.faults kind ≡ old.faults kind

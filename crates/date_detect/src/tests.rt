@@ -20,7 +20,7 @@ struct Library {
 impl Outside for Library {
     ghost use Rattle.std.specs.Prelude.{None, ◌-◌, ◌^◌};
 
-    ghost stands = { λ _. record { told = None; faults = λ _. 2 ^ 64 - 1 } };
+    ghost stands = { λ _. record { told = None; talk = None; shelf = None; faults = λ _. 2 ^ 64 - 1 } };
 }
 
 impl Patterns for Library {

@@ -58,6 +58,8 @@ dates_made {A} a all rule old new builds = record {
       (λ g es p. p ∙ built_places all);
   steady = builds.steady;
   cause = tt;
+  leaves = builds.leaves;
+  still = builds.still;
 }
 
 -- one was not
@@ -68,12 +70,16 @@ dates_failed A all OfSyntax old new builds = record {
       (λ g es r. refused all Syntax es r);
   steady = builds.steady;
   cause = (builds.cause.0, contains_place all builds.cause.0 builds.cause.1, builds.cause.2);
+  leaves = builds.leaves;
+  still = builds.still;
 }
 dates_failed A all OfSize old new builds = record {
   told = adds_weaker (λ g es. dates.Refuses all WasTooBig es) (λ g es. Refuses (date_places all) Date TooBig es) _ _ builds.told
       (λ g es r. refused all TooBig es r);
   steady = builds.steady;
   cause = (builds.cause.0, contains_place all builds.cause.0 builds.cause.1, builds.cause.2);
+  leaves = builds.leaves;
+  still = builds.still;
 }
 dates_failed A all OfMemory old new builds = record {
   told = adds_weaker (λ g es. (n : ℕ) × (es ≡ dates.built (take n all)))
@@ -81,4 +87,6 @@ dates_failed A all OfMemory old new builds = record {
       (λ g es p. (p.0, p.1 ∙ built_places (take p.0 all) ∙ ap built (sym (take-date_places p.0 all))));
   steady = builds.steady;
   cause = tt;
+  leaves = builds.leaves;
+  still = builds.still;
 }

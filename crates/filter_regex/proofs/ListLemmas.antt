@@ -1,5 +1,5 @@
 -- The calls for the patterns of a list, one after the other.
-use Rattle.std.proofs.Common.{◌≡◌, ℕ, ◌+◌, ◌<◌, ◌≤◌, List, [], ◌∷◌, ◌++◌, Ok, Err, refl, sym, ap, ◌∙◌, subst, length, map, take, drop, get_or, length-take-le, arith}
+use Rattle.std.proofs.Common.{◌≡◌, ℕ, ◌+◌, ◌<◌, ◌≤◌, List, [], ◌∷◌, ◌++◌, Ok, Err, sym, ap, ◌∙◌, subst, length, map, take, drop, get_or, length-take-le, arith}
 use Rattle.std.proofs.lemmas.List.{map-append, take-append-drop, take_all, take_more, length-map}
 use Rattle.f2b_world.specs.Told.{Standing}
 use Rattle.host_ident.specs.Expanded.{expanded}
@@ -38,7 +38,7 @@ module _ (place : ℕ → PatternPlace) (texts : List (List ℕ)) where
   pub all_done : {B : Type 0} (b : B) (i : ℕ) → length texts ≤ i → (old new : Standing) → MakesAll {A = ℕ} (first_of i) (Ok 0) old new → MakesAll {A = B} all_of (Ok b) old new
   all_done {B} b i le old new made =
       let P : List (List ℕ) → Type 0 = λ ts. MakesAll {A = B} (numbered place 1 (map expanded ts)) (Ok b) old new in
-      subst P (take_all i texts le) (record { told = made.told; steady = made.steady; cause = tt })
+      subst P (take_all i texts le) (record { told = made.told; steady = made.steady; cause = tt; leaves = made.leaves; still = made.still })
 
   pub one_text_more : (i : ℕ) (text : List ℕ) → i < length texts → text ≡ get_or texts i text
       → map expanded (take (i + 1) texts) ≡ map expanded (take i texts) ++ expanded text ∷ []

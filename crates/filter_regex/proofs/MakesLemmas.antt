@@ -1,13 +1,12 @@
 -- What the calls for patterns come to, one list after another.
-use Rattle.std.proofs.Common.{◌≡◌, ℕ, zero, suc, ◌+◌, ◌≤◌, List, [], ◌∷◌, ◌++◌, Result, Ok, Err, refl, sym, ap, ap₂, ◌∙◌, subst, length, map, take, append_assoc, append-nil, inl, inr, arith}
+use Rattle.std.proofs.Common.{◌≡◌, ℕ, zero, suc, ◌+◌, ◌≤◌, List, [], ◌∷◌, ◌++◌, Ok, Err, refl, sym, ap, ap₂, ◌∙◌, subst, length, take, append_assoc, inl, inr, arith}
 use Rattle.std.proofs.Math.Seq.{take-append-add, take-length}
 use Rattle.std.proofs.lemmas.List.{map-append}
 use Rattle.std.proofs.lemmas.List.Elements.{Contains-append_left, Contains-append_right}
-use Rattle.f2b_world.specs.declared.event.Event.{Event}
 use Rattle.f2b_world.specs.declared.event.Event.TheVariants.{Make}
 use Rattle.f2b_world.specs.declared.answer.MakeAnswer.TheVariants.{Built as WasBuilt}
 use Rattle.f2b_world.specs.Faults.{Fault, OfPatterns}
-use Rattle.f2b_world.specs.Told.{Standing, History, Called, IsHonest}
+use Rattle.f2b_world.specs.Told.{Standing, IsHonest}
 use Rattle.filter_regex.specs.Builds.{answer, built, Makes, AreMakes, IsCause, MakesAll, Refuses}
 use Rattle.filter_regex.specs.declared.error.PatternPlace.{PatternPlace}
 use Rattle.filter_regex.specs.declared.error.BuildKind.{BuildKind}
@@ -15,6 +14,7 @@ use Rattle.filter_regex.specs.declared.error.BuildKind.TheVariants.{Syntax, TooB
 use Rattle.filter_regex.specs.declared.error.PatternError.{PatternError}
 use Rattle.filter_regex.specs.declared.error.PatternError.TheVariants.{Refused, NoMemory}
 use Rattle.f2b_world.proofs.AddsLemmas.{adds_weaker, adds_then, adds_none}
+use Rattle.date_detect.proofs.LeavesLemmas.{leaves_none, leaves_then, still_then, call_still}
 
 abbrev pub Placed : Type 0
 Placed = PatternPlace × List ℕ
@@ -30,6 +30,8 @@ none_made a old = record {
   told = adds_none old.told;
   steady = λ kind. omega arith;
   cause = tt;
+  leaves = leaves_none old;
+  still = λ kind other. refl;
 }
 
 -- one pattern that was built
@@ -38,8 +40,10 @@ pub one_made : {A : Type 0} (a : A) (place : PatternPlace) (text pattern : List 
 one_made {A} a place text pattern old new makes = record {
   told = adds_weaker (λ g es. (es ≡ Make text WasBuilt ∷ []) × IsHonest g (Make text WasBuilt))
       (λ g es. AreMakes {A = A} ((place, text) ∷ []) (Ok a) es) _ _ makes.1.adds (λ g es p. p.0);
-  steady = makes.1.steady;
+  steady = makes.1.counts.steady;
   cause = tt;
+  leaves = makes.1.leaves;
+  still = call_still text WasBuilt old new makes.1;
 }
 
 -- one that was not
@@ -55,8 +59,10 @@ one_failed A place text (Refused at kind) old new makes = record {
         order = ap (λ (p : PatternPlace). (p, text) ∷ []) (sym makes.0);
         calls = p.0;
       });
-  steady = makes.1.steady;
+  steady = makes.1.counts.steady;
   cause = (text, (0, omega arith, ap (λ (p : PatternPlace). (p, text)) (sym makes.0)), makes.2);
+  leaves = makes.1.leaves;
+  still = call_still text (answer kind) old new makes.1;
 }
 one_failed A place text NoMemory old new makes =
     let P : Standing → Type 0 = λ s. MakesAll {A = A} ((place, text) ∷ []) (Err NoMemory) old s in
@@ -65,6 +71,8 @@ one_failed A place text NoMemory old new makes =
           (λ g es p. (0, p));
       steady = λ kind. omega arith;
       cause = tt;
+      leaves = leaves_none old;
+      still = λ kind other. refl;
     })
 
 -- all were built, and then memory ran out
@@ -75,6 +83,8 @@ gave_out B a xs old new made = record {
       (λ g es p. (length xs, p ∙ ap built (sym (take-length xs))));
   steady = made.steady;
   cause = tt;
+  leaves = made.leaves;
+  still = made.still;
 }
 
 -- ---- a list after another
@@ -100,12 +110,16 @@ first_failed B xs ys (Refused place kind) old new made = record {
       });
   steady = made.steady;
   cause = (made.cause.0, Contains-append_left xs ys (place, made.cause.0) made.cause.1, made.cause.2);
+  leaves = made.leaves;
+  still = made.still;
 }
 first_failed B xs ys NoMemory old new made = record {
   told = adds_weaker (λ g es. (n : ℕ) × (es ≡ built (take n xs))) (λ g es. (n : ℕ) × (es ≡ built (take n (xs ++ ys)))) _ _ made.told
       (λ g es p. let m = prefix_of_both xs ys p.0 in (m.0, p.1 ∙ ap built m.1));
   steady = made.steady;
   cause = tt;
+  leaves = made.leaves;
+  still = made.still;
 }
 
 module _ {A : Type 0} (a : A) (xs ys : List Placed) (old mid new : Standing) (first : MakesAll {A = A} xs (Ok a) old mid) where
@@ -123,6 +137,8 @@ module _ {A : Type 0} (a : A) (xs ys : List Placed) (old mid new : Standing) (fi
         (λ g h us vs p q. ap₂ ◌++◌ p q ∙ sym (built-append xs ys));
     steady = steady_after second.steady;
     cause = tt;
+    leaves = leaves_then old mid new first.leaves second.leaves;
+    still = still_then old mid new first.still second.still;
   }
 
   pub second_failed : {B : Type 0} (C : Type 0) (error : PatternError) → MakesAll {A = B} ys (Err error) mid new
@@ -140,6 +156,8 @@ module _ {A : Type 0} (a : A) (xs ys : List Placed) (old mid new : Standing) (fi
         });
     steady = steady_after second.steady;
     cause = (second.cause.0, Contains-append_right xs ys (place, second.cause.0) second.cause.1, cause_after kind second.cause.0 second.cause.2);
+    leaves = leaves_then old mid new first.leaves second.leaves;
+    still = still_then old mid new first.still second.still;
   }
   second_failed C NoMemory second = record {
     told = adds_then (λ g es. es ≡ built xs) (λ g es. (n : ℕ) × (es ≡ built (take n ys)))
@@ -147,4 +165,6 @@ module _ {A : Type 0} (a : A) (xs ys : List Placed) (old mid new : Standing) (fi
         (λ g h us vs p q. (length xs + q.0, ap₂ ◌++◌ p q.1 ∙ sym (built-append xs (take q.0 ys)) ∙ ap built (sym (take-append-add xs ys q.0))));
     steady = steady_after second.steady;
     cause = tt;
+    leaves = leaves_then old mid new first.leaves second.leaves;
+    still = still_then old mid new first.still second.still;
   }

@@ -1,7 +1,7 @@
 -- What building a filter does to the outside.
-use Rattle.std.specs.Prelude.{◌≡◌, ℕ, ◌≤◌, List, [], ◌∷◌, ◌++◌, map, take, Result, Ok, Err, None, Contains}
+use Rattle.std.specs.Prelude.{◌≡◌, ◌≢◌, ℕ, ◌≤◌, List, [], ◌∷◌, ◌++◌, map, take, Result, Ok, Err, None, Contains}
 use Rattle.f2b_world.specs.Faults.{Fault, OfPatterns, Rose}
-use Rattle.f2b_world.specs.Told.{Standing, Adds, Called}
+use Rattle.f2b_world.specs.Told.{Standing, Adds, Called, Leaves}
 use Rattle.f2b_world.specs.Reading.{reading}
 use Rattle.f2b_world.specs.declared.event.Event.{Event}
 use Rattle.f2b_world.specs.declared.event.Event.TheVariants.{Make}
@@ -61,11 +61,14 @@ abbrev pub HasCause : {A : Type 0} → List (PatternPlace × List ℕ) → Resul
 HasCause all (Err (Refused place kind)) old new = (text : List ℕ) × Contains all (place, text) × IsCause kind text old new
 HasCause all _ old new = Unit {0}
 
--- patterns are made: what that told, that no count of faults fell, and its cause where one was refused
+-- Patterns are made: what that told, that no count of faults fell, and its cause where one was refused. It leaves what was said
+-- and what files hold, and all counts but that of patterns.
 pub record MakesAll {A : Type 0} (all : List (PatternPlace × List ℕ)) (outcome : Result A PatternError) (old new : Standing) : Type 0 where
   pub told : Adds old.told new.told (λ g events. AreMakes all outcome events)
   pub steady : (kind : Fault) → old.faults kind ≤ new.faults kind
   pub cause : HasCause all outcome old new
+  pub leaves : Leaves old new
+  pub still : (kind : Fault) → kind ≢ OfPatterns → new.faults kind ≡ old.faults kind
 
 -- the calls of a build, one for each pattern of the rules
 abbrev pub AreCalls : Rules → Result Rules PatternError → List Event → Type 0

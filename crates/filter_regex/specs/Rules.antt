@@ -1,5 +1,5 @@
 -- What a filter goes by: how the date of a line is found, the texts of its patterns, and the addresses that are left out.
-use Rattle.std.specs.Prelude.{◌≡◌, ℕ, ◌+◌, ◌<◌, ◌^◌, ℤ, pos, neg_ℤ, int_lt, ◌&&◌, IsTrue, Bool, true, false, List, [], ◌∷◌, ◌++◌, Option, Some, None, option_map, length, map}
+use Rattle.std.specs.Prelude.{ℕ, ◌+◌, ◌<◌, ◌^◌, ℤ, pos, neg_ℤ, int_lt, ◌&&◌, IsTrue, Bool, true, false, List, [], ◌∷◌, ◌++◌, Option, Some, None, option_map, length, map}
 use Rattle.f2b_base.specs.declared.addr.Cidr.{Cidr}
 use Rattle.f2b_base.specs.declared.jail.JailDef.{JailDef}
 use Rattle.f2b_base.specs.declared.jail.DateSpec.{DateSpec}
