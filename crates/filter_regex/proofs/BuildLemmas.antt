@@ -1,5 +1,5 @@
 -- The calls of a whole build: dates, the prefix pattern, failures, ignored lines.
-use Rattle.std.proofs.Common.{◌≡◌, ℕ, List, ◌++◌, Ok, Err, map, option_map}
+use Rattle.std.proofs.Common.{ℕ, List, ◌++◌, Ok, Err, map, option_map}
 use Rattle.f2b_base.specs.declared.jail.JailDef.{JailDef}
 use Rattle.f2b_world.specs.Told.{Standing}
 use Rattle.host_ident.specs.Expanded.{expanded}

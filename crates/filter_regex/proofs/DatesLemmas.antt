@@ -1,9 +1,8 @@
 -- What building dates comes to, as calls for the patterns of a filter.
-use Rattle.std.proofs.Common.{◌≡◌, ℕ, zero, suc, ◌+◌, ◌<◌, List, [], ◌∷◌, ◌++◌, Ok, Err, refl, sym, ap, ◌∙◌, length, get_or, take, arith}
+use Rattle.std.proofs.Common.{◌≡◌, ℕ, zero, suc, List, [], ◌∷◌, ◌++◌, Ok, Err, refl, sym, ap, ◌∙◌, take, arith}
 use Rattle.std.specs.List.{Contains}
 use Rattle.f2b_world.specs.declared.event.Event.{Event}
 use Rattle.f2b_world.specs.declared.event.Event.TheVariants.{Make}
-use Rattle.f2b_world.specs.declared.answer.MakeAnswer.{MakeAnswer}
 use Rattle.f2b_world.specs.declared.answer.MakeAnswer.TheVariants.{Built as WasBuilt, Syntax as WasSyntax, TooBig as WasTooBig}
 use Rattle.f2b_world.specs.Told.{Standing}
 use Rattle.date_detect.specs.Builds as dates
@@ -14,7 +13,6 @@ use Rattle.filter_regex.specs.Builds.{answer, built, refusal, AreMakes, MakesAll
 use Rattle.filter_regex.specs.Rules.{date_places}
 use Rattle.filter_regex.specs.declared.error.BuildKind.{BuildKind}
 use Rattle.filter_regex.specs.declared.error.BuildKind.TheVariants.{Syntax, TooBig}
-use Rattle.filter_regex.specs.declared.error.PatternError.TheVariants.{NoMemory}
 use Rattle.filter_regex.specs.declared.error.PatternPlace.TheVariants.{Date}
 use Rattle.f2b_world.proofs.AddsLemmas.{adds_weaker}
 use Rattle.filter_regex.proofs.MakesLemmas.{Placed}
