@@ -2,3 +2,4 @@ pub mod HonestLemmas
 pub mod StageLemmas
 pub mod TornLemmas
 pub mod LinkLemmas
+pub mod TreeLemmas

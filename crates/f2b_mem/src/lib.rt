@@ -27,6 +27,7 @@ mod script;
 mod slots;
 mod stage;
 mod torn;
+mod tree_bounds;
 mod trees;
 mod waiting;
 mod world;

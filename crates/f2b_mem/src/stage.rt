@@ -3,6 +3,8 @@ ghost use Rattle.std.specs.Prelude.{false, ◌≡◌, ◌≢◌, ◌<◌, ◌≤
 ghost use Rattle.f2b_base.specs.declared.outside.TreeAnswer.TheVariants.{Failed as TreeFailed};
 ghost use Rattle.f2b_world.specs.declared.answer.PollAnswer.TheVariants.{Failed as PollFailed};
 ghost use Rattle.f2b_world.specs.declared.event.Event.TheVariants.{DiskWrite};
+ghost use Rattle.f2b_world.specs.Bounds.{FitsTree};
+ghost use Rattle.f2b_world.specs.Trees.{KeepsTree};
 ghost use Rattle.f2b_mem.specs.Books.{WhereTold, is_kept};
 ghost use Rattle.f2b_mem.specs.Commands.{polled, ran_in};
 ghost use Rattle.f2b_mem.specs.Plays.{played, fails, is_clock, is_config, is_pause, first_waiting, accepted_in, giving, given_to, slot_in, Plays};
@@ -108,6 +110,8 @@ impl Stage {
     pub fn tree(&self, alloc: Global, failing: bool) -> Result<TreeAnswer, NoMemory>
         ensures value { IfOk result (λ tree. WhereTold self.now.told (λ events. tree ≡ (if failing then TreeFailed else tree_at self.now.script.trees (count_by is_config events)))) }
         ensures cause { IfOk result (λ tree. tree ≡ TreeFailed → IsTrue failing) }
+        ensures bounds { IfOk result KeepsTree }
+        ensures texts { IfOk result FitsTree }
     {
         let trees = self.script.trees.as_slice();
         tree_at(alloc, trees, self.progress.counts.configs, failing)
