@@ -3,3 +3,4 @@ pub mod StageLemmas
 pub mod TornLemmas
 pub mod LinkLemmas
 pub mod TreeLemmas
+pub mod MadeLemmas

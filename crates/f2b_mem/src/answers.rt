@@ -1,5 +1,6 @@
 //! The answers of a world in memory.
-ghost use Rattle.std.specs.Prelude.{◌≡◌, ◌≢◌, ◌≤◌, ◌==◌, false, if◌then◌else◌, length, take, drop, option_copied, Ok, Some, IfOk, IsTrue};
+ghost use Rattle.std.specs.Prelude.{◌≡◌, ◌≢◌, ◌≤◌, ◌==◌, false, if◌then◌else◌, length, take, drop, option_copied, Ok, None, Some, IfOk, IsTrue};
+ghost use Rattle.f2b_world.specs.Faults.{OfFiles};
 ghost use Rattle.f2b_world.specs.Told.{KeepsBounds, IsPieceOf, IsReceived};
 ghost use Rattle.f2b_world.specs.Reading.{IsAnswerTo, IsMadeOf};
 ghost use Rattle.f2b_world.specs.Bounds.{FitsLook, FitsPiece, FitsRead};
@@ -16,11 +17,9 @@ ghost use Rattle.f2b_world.specs.declared.answer.StartAnswer.TheVariants.{Starte
 ghost use Rattle.f2b_world.specs.declared.answer.Synced.TheVariants.{Done as SyncDone, Failed as SyncFailed};
 ghost use Rattle.f2b_world.specs.declared.answer.Wrote.TheVariants.{Done as WroteDone, Failed as WriteFailed};
 ghost use Rattle.f2b_world.specs.declared.pattern.Made.TheVariants.{TooBig as MadeTooBig};
-ghost use Rattle.f2b_world.specs.declared.answer.FileAnswer.TheVariants.{Failed as FileFailed};
-ghost use Rattle.f2b_world.specs.declared.answer.FilePiece.TheVariants.{Failed as FilePieceFailed};
 ghost use Rattle.f2b_world.specs.declared.answer.LinkRead.TheVariants.{Bytes as LinkBytes, End as LinkEnd};
 ghost use Rattle.f2b_base.specs.declared.outside.TreeAnswer.TheVariants.{Failed as TreeFailed};
-ghost use Rattle.f2b_world.specs.Shelves.{IsFile, IsPieceAt, IsWholeFile, IsShort};
+ghost use Rattle.f2b_world.specs.Shelves.{IsFile, IsPieceAt, IsWholeFile, IsShort, file_fault, piece_fault};
 ghost use Rattle.f2b_mem.specs.Plays.{accepting, receiving};
 ghost use Rattle.f2b_mem.specs.Script.{seen, is_too_big};
 
@@ -248,7 +247,7 @@ pub fn file_answer(
     content: Option<&[u8]>,
 ) -> Result<FileAnswer, NoMemory>
     ensures file { IfOk result (IsFile (option_copied content.entry)) }
-    ensures cause { IfOk result (λ answer. answer ≡ FileFailed → IsTrue failing) }
+    ensures fault { IfOk result (λ answer. file_fault answer ≡ (if failing then Some OfFiles else None)) }
     ensures bounds { IfOk result IsWholeFile }
 {
     if failing {
@@ -270,7 +269,7 @@ pub fn file_piece(
     max: u32,
 ) -> Result<FilePiece, NoMemory>
     ensures file { IfOk result (IsPieceAt (option_copied content.entry) at max) }
-    ensures cause { IfOk result (λ answer. answer ≡ FilePieceFailed → IsTrue failing) }
+    ensures fault { IfOk result (λ answer. piece_fault answer ≡ (if failing then Some OfFiles else None)) }
     ensures bounds { IfOk result (IsShort max) }
 {
     if failing {
