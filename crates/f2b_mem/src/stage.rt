@@ -110,6 +110,7 @@ impl Stage {
     pub fn tree(&self, alloc: Global, failing: bool) -> Result<TreeAnswer, NoMemory>
         ensures value { IfOk result (λ tree. WhereTold self.now.told (λ events. tree ≡ (if failing then TreeFailed else tree_at self.now.script.trees (count_by is_config events)))) }
         ensures cause { IfOk result (λ tree. tree ≡ TreeFailed → IsTrue failing) }
+        ensures failing { IfOk result (λ tree. IsTrue failing → tree ≡ TreeFailed) }
         ensures bounds { IfOk result KeepsTree }
         ensures texts { IfOk result FitsTree }
     {
