@@ -1,5 +1,5 @@
 //! The answers of a world in memory.
-ghost use Rattle.std.specs.Prelude.{◌≡◌, ◌≢◌, ◌≤◌, ◌==◌, false, if◌then◌else◌, length, take, drop, option_copied, Ok, None, Some, IfOk, IsTrue};
+ghost use Rattle.std.specs.Prelude.{◌≡◌, ◌≢◌, ◌≤◌, ◌==◌, false, if◌then◌else◌, length, take, drop, option_copied, None, Some, IfOk, IsTrue};
 ghost use Rattle.f2b_world.specs.Faults.{OfFiles};
 ghost use Rattle.f2b_world.specs.Told.{KeepsBounds, IsPieceOf, IsReceived};
 ghost use Rattle.f2b_world.specs.Reading.{IsAnswerTo, IsMadeOf};
@@ -18,13 +18,15 @@ ghost use Rattle.f2b_world.specs.declared.answer.Synced.TheVariants.{Done as Syn
 ghost use Rattle.f2b_world.specs.declared.answer.Wrote.TheVariants.{Done as WroteDone, Failed as WriteFailed};
 ghost use Rattle.f2b_world.specs.declared.pattern.Made.TheVariants.{TooBig as MadeTooBig};
 ghost use Rattle.f2b_world.specs.declared.answer.LinkRead.TheVariants.{Bytes as LinkBytes, End as LinkEnd};
-ghost use Rattle.f2b_base.specs.declared.outside.TreeAnswer.TheVariants.{Failed as TreeFailed};
-ghost use Rattle.f2b_world.specs.Shelves.{IsFile, IsPieceAt, IsWholeFile, IsShort, file_fault, piece_fault};
+ghost use Rattle.f2b_world.specs.Trees.{IsTreeOf, KeepsTree};
+ghost use Rattle.f2b_mem.specs.Files.{file_in};
+ghost use Rattle.f2b_world.specs.Shelves.{IsFile, IsPieceAt, IsWholeFile, IsShort, file_fault, piece_fault, tree_fault};
 ghost use Rattle.f2b_mem.specs.Plays.{accepting, receiving};
 ghost use Rattle.f2b_mem.specs.Script.{seen, is_too_big};
 
+use crate::file_tree::tree_of;
 use crate::pieces::{owned, piece_of};
-use f2b_base::{Bytes, FileLook, NoMemory, TreeAnswer};
+use f2b_base::{Bytes, FileLook, NoMemory, TreeAnswer, TreeFile};
 use f2b_world::{
     Accept, FileAnswer, FilePiece, GateRead, GateWrite, Len, LinkRead, Listen, Look, Made,
     Piece, PollAnswer, Said, StartAnswer, Synced, Wrote, build_pattern,
@@ -286,10 +288,17 @@ pub fn file_piece(
 
 /// The answer to a reading of all files of a directory.
 pub fn tree_answer(
+    alloc: Global,
     failing: bool,
-    tree: Result<TreeAnswer, NoMemory>,
+    files: &[TreeFile],
+    dir: &str,
 ) -> Result<TreeAnswer, NoMemory>
-    ensures value { result ≡ (if failing then Ok TreeFailed else tree) }
+    ensures file { IfOk result (λ answer. IsTreeOf dir.now answer (file_in files.now)) }
+    ensures bounds { IfOk result KeepsTree }
+    ensures fault { IfOk result (λ answer. tree_fault answer ≡ (if failing then Some OfFiles else None)) }
 {
-    if failing { Ok(TreeAnswer::Failed) } else { tree }
+    if failing {
+        return Ok(TreeAnswer::Failed);
+    }
+    tree_of(alloc, files, dir)
 }

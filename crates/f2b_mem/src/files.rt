@@ -7,7 +7,6 @@ use crate::answers::{file_answer, file_piece, is_too_big, made, tree_answer};
 use crate::book::Book;
 use crate::counts::counted;
 use crate::events::make_event;
-use crate::file_tree::tree_of;
 use f2b_base::{NoMemory, Seq, TreeAnswer, TreeFile};
 use f2b_world::{FileAnswer, FilePiece, Files, Made, Outside, Patterns};
 use std::alloc::Global;
@@ -110,8 +109,8 @@ impl Files for MemFiles {
 
     fn tree(&mut self, dir: &str) -> TreeAnswer {
         let failing = self.is_failing();
-        let tree = tree_of(self.alloc, self.files.as_slice(), dir);
-        let Ok(answer) = tree_answer(failing, tree) else {
+        let files = self.files.as_slice();
+        let Ok(answer) = tree_answer(self.alloc, failing, files, dir) else {
             return TreeAnswer::NoMemory;
         };
         self.file_faults = counted(self.file_faults, failing);
