@@ -1,5 +1,6 @@
 -- How files in memory tell which patterns were made.
 use Rattle.std.proofs.Common.{ℕ, ◌≡◌, ◌≤◌, ◌<◌, ◌⊎◌, ◌^◌, ◌-◌, inl, inr, Bool, true, false, if◌then◌else◌, Option, Some, None, IfSome, List, [], ◌∷◌, ◌++◌, refl, sym, subst, ap, arith}
+use Rattle.std.proofs.lemmas.Grind.{common_steps}
 use Rattle.f2b_world.specs.declared.answer.MakeAnswer.{MakeAnswer}
 use Rattle.f2b_world.specs.declared.answer.MakeAnswer.TheVariants.{Built as WasBuilt, Syntax as WasSyntax, TooBig as WasTooBig}
 use Rattle.f2b_world.specs.declared.event.Event.{Event}
@@ -23,39 +24,10 @@ tells (Some before) (Some more) text answer grows =
     let at : List Event → History = λ events. record { first = λ slot. []; events = events } in
     (at before, Make text answer ∷ [], refl, ap at grown, (refl, tt))
 
-rose : (n m : ℕ) → m ≡ counted n true → Rose n m
-rose n m is = grind arith
-
-same : (n m : ℕ) → m ≡ counted n false → n ≤ m → m ≡ n
-same n m is up = omega arith
-
-steady : (patterns files next : ℕ) → patterns ≤ next → (kind : Fault) → file_counts patterns files kind ≤ file_counts next files kind
-steady patterns files next up OfPatterns = up
-steady patterns files next up OfFiles = omega arith
-steady patterns files next up kind = omega arith
-
-others : (patterns files next : ℕ) (kind : Fault) → (kind ≡ OfPatterns) ⊎ (file_counts next files kind ≡ file_counts patterns files kind)
-others patterns files next OfPatterns = inl refl
-others patterns files next OfFiles = inr refl
-others patterns files next kind = inr refl
-
 -- the count of the patterns that were refused, after one pattern more
 counts : (patterns files next : ℕ) (failing : Bool) → next ≡ counted patterns failing → patterns ≤ next → Counted (if failing then Some OfPatterns else None) (file_counts patterns files) (file_counts next files)
-counts patterns files next true is up = record {
-  steady = steady patterns files next up;
-  cause = rose patterns next is;
-  still = λ kind differs. elim (others patterns files next kind) [
-    | inl e ↦ absurd (differs (ap (λ (k : Fault). Some k) (sym e)))
-    | inr e ↦ e
-  ];
-}
-counts patterns files next false is up =
-    let e : next ≡ patterns = same patterns next is up in
-    record {
-      steady = steady patterns files next up;
-      cause = tt;
-      still = λ kind differs. ap (λ n. file_counts n files kind) e;
-    }
+counts patterns files next true is up = record { steady = grind (arith, common_steps); cause = grind (arith, common_steps); still = grind (arith, common_steps) }
+counts patterns files next false is up = record { steady = grind (arith, common_steps); cause = tt; still = grind (arith, common_steps) }
 
 abbrev standing : Option Shelf → Option (List Event) → ℕ → ℕ → Standing
 standing shelf told patterns files = record { told = made_of told; talk = None; shelf = shelf; faults = file_counts patterns files }

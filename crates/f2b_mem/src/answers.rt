@@ -28,8 +28,8 @@ use crate::file_tree::tree_of;
 use crate::pieces::{owned, piece_of};
 use f2b_base::{Bytes, FileLook, NoMemory, TreeAnswer, TreeFile};
 use f2b_world::{
-    Accept, FileAnswer, FilePiece, GateRead, GateWrite, Len, LinkRead, Listen, Look, Made,
-    Piece, PollAnswer, Said, StartAnswer, Synced, Wrote, build_pattern,
+    Accept, FileAnswer, FilePiece, GateRead, GateWrite, Len, LinkRead, Listen, Look, Made, Piece,
+    PollAnswer, Said, StartAnswer, Synced, Wrote, build_pattern,
 };
 use std::alloc::Global;
 

@@ -1,4 +1,4 @@
-use Rattle.std.proofs.Common.{◌≤◌, length, List, All, take, take_all, subst, arith}
+use Rattle.std.proofs.Common.{◌≤◌, length, List, All, take_all, subst, arith}
 use Rattle.std.proofs.lemmas.List.Elements.{All-more}
 use Rattle.f2b_base.specs.declared.outside.TreeFile.{TreeFile}
 use Rattle.f2b_world.specs.Bounds.{FitsFile}
