@@ -2,5 +2,5 @@ pub mod HonestLemmas
 pub mod StageLemmas
 pub mod TornLemmas
 pub mod LinkLemmas
-pub mod TreeLemmas
+pub mod BoundLemmas
 pub mod MadeLemmas

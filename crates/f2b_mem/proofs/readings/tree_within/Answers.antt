@@ -4,7 +4,7 @@ use Rattle.f2b_base.specs.declared.outside.TreeFile.{TreeFile}
 use Rattle.f2b_world.specs.Bounds.{FitsFile}
 use Rattle.f2b_world.specs.Trees.{IsTree}
 use Rattle.f2b_mem.specs.TreeBounds.{is_tree}
-use Rattle.f2b_mem.proofs.TreeLemmas.{keeps_bounds}
+use Rattle.f2b_mem.proofs.BoundLemmas.{keeps_bounds}
 use Rattle.f2b_mem.proofs.readings.tree_within.Goals as goal
 
 pub returns-clause-bounds : goal.returns-clause-bounds
