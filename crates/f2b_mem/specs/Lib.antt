@@ -4,8 +4,8 @@ pub mod Commands
 pub mod Plays
 pub mod Stages
 pub mod Worlds
+pub mod TreeBounds
 pub mod Torn
 pub mod Talks
 pub mod Files
 pub mod Shelved
-pub mod TreeBounds

@@ -1,4 +1,5 @@
-use Rattle.std.proofs.Common.{◌∙◌, sym}
+use Rattle.std.proofs.Common.{◌≡◌, ◌∙◌, sym, subst}
+use Rattle.f2b_mem.specs.Stages.{Playing, PlaysOn}
 use Rattle.f2b_mem.proofs.StageLemmas.{goes_on, no_write, plays_on}
 use Rattle.f2b_mem.proofs.stage.Stage.tell.Goals as goal
 

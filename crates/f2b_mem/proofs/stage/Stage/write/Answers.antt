@@ -1,8 +1,10 @@
-use Rattle.std.proofs.Common.{◌≡◌, ◌∙◌, sym, subst}
+use Rattle.std.proofs.Common.{◌≡◌, ◌∙◌, List, ℕ, sym, subst, Option, Some, None, IfSome}
 use Rattle.f2b_world.specs.declared.event.Event.{Event}
+use Rattle.f2b_world.specs.declared.event.Event.TheVariants.{DiskWrite}
 use Rattle.f2b_mem.specs.Books.{WhereTold}
 use Rattle.f2b_mem.specs.Plays.{played}
-use Rattle.f2b_mem.proofs.StageLemmas.{goes_on, step_of_write}
+use Rattle.f2b_mem.specs.Stages.{Playing, PlaysOn}
+use Rattle.f2b_mem.proofs.StageLemmas.{goes_on, a_write, plays_on, step_of_write}
 use Rattle.f2b_mem.proofs.stage.Stage.write.Goals as goal
 
 pub invariant_of-self : goal.invariant_of-self
