@@ -1,5 +1,6 @@
 pub mod BoundLemmas
 pub mod MadeLemmas
+pub mod NamesLemmas
 pub mod HonestLemmas
 pub mod StageLemmas
 pub mod TornLemmas

@@ -1,5 +1,5 @@
 -- How files in memory tell which patterns were made.
-use Rattle.std.proofs.Common.{ℕ, ◌≡◌, ◌≤◌, ◌<◌, ◌⊎◌, ◌^◌, ◌-◌, inl, inr, Bool, true, false, if◌then◌else◌, Option, Some, None, IfSome, List, [], ◌∷◌, ◌++◌, refl, sym, subst, ap, arith}
+use Rattle.std.proofs.Common.{ℕ, ◌≡◌, ◌≤◌, Bool, true, false, if◌then◌else◌, Option, Some, None, IfSome, List, [], ◌∷◌, ◌++◌, refl, sym, subst, ap, arith}
 use Rattle.std.proofs.lemmas.Grind.{common_steps}
 use Rattle.f2b_world.specs.declared.answer.MakeAnswer.{MakeAnswer}
 use Rattle.f2b_world.specs.declared.answer.MakeAnswer.TheVariants.{Built as WasBuilt, Syntax as WasSyntax, TooBig as WasTooBig}
@@ -7,7 +7,7 @@ use Rattle.f2b_world.specs.declared.event.Event.{Event}
 use Rattle.f2b_world.specs.declared.event.Event.TheVariants.{Make}
 use Rattle.f2b_world.specs.declared.pattern.Made.{Made}
 use Rattle.f2b_world.specs.declared.pattern.Made.TheVariants.{Built, Syntax, TooBig, NoMemory}
-use Rattle.f2b_world.specs.Faults.{Fault, OfPatterns, OfFiles, Counted, Rose}
+use Rattle.f2b_world.specs.Faults.{Fault, OfPatterns, Counted}
 use Rattle.f2b_world.specs.Shelves.{Shelf}
 use Rattle.f2b_world.specs.Told.{Adds, Asked, Called, History, IsHonest, Standing, fault_of, make_event}
 use Rattle.f2b_mem.specs.Books.{Grows}

@@ -1,4 +1,4 @@
-use Rattle.std.proofs.Common.{List, refl, subst, arith, rules}
+use Rattle.std.proofs.Common.{List, refl, subst, arith}
 use Rattle.std.proofs.lemmas.Grind.{common_steps}
 use Rattle.f2b_base.specs.declared.outside.TreeFile.{TreeFile}
 use Rattle.f2b_world.specs.Trees.{IsTreeOf}
