@@ -211,11 +211,13 @@ fn gives_a_link_in_pieces(rt: HostRuntime) -> Result<(), Fail> {
     let alloc = rt.alloc();
     let bytes = Bytes::from_slice(alloc, b"abc")?;
     let mut link = MemLink::new(alloc, bytes, 2, Seq::new(alloc))?;
+    assert_eq!(rt; link.connect("/s"), Linked::Connected);
     assert_eq!(rt; link.send(b"hi"), Linked::Connected);
     assert!(rt; receives(&mut link, b"ab"));
     assert!(rt; receives(&mut link, b"c"));
     assert!(rt; receives(&mut link, b""));
     assert_eq!(rt; link.sent(), b"hi".as_slice());
+    assert_eq!(rt; link.bytes(), b"abc".as_slice());
     Ok(())
 }
 
