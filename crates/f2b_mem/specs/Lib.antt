@@ -8,3 +8,4 @@ pub mod Torn
 pub mod Talks
 pub mod Files
 pub mod Shelved
+pub mod Places
