@@ -4,4 +4,5 @@ pub mod TornLemmas
 pub mod LinkLemmas
 pub mod OrderLemmas
 pub mod PathLemmas
+pub mod ListingLemmas
 pub mod TreeLemmas

@@ -1,5 +1,6 @@
 pub mod Books
 pub mod Script
+pub mod Listings
 pub mod Commands
 pub mod Plays
 pub mod Stages
