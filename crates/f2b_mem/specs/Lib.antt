@@ -1,5 +1,6 @@
 pub mod Books
 pub mod Script
+pub mod Listings
 pub mod Commands
 pub mod Plays
 pub mod Stages
@@ -9,3 +10,4 @@ pub mod Torn
 pub mod Talks
 pub mod Files
 pub mod Shelved
+pub mod Places

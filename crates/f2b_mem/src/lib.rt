@@ -20,6 +20,7 @@ mod giving;
 mod link;
 mod logs;
 mod names;
+mod paths;
 mod pieces;
 mod plans;
 mod progress;

@@ -61,8 +61,8 @@ impl MemWorld {
         self.stage.is_told()
     }
 
-    /// The history, where it is whole. Each event in it has the answer that the script gives after the events before it, but for two
-    /// that the script leaves open: the names in a directory, and of a pattern that is not to fail whether it is built.
+    /// The history, where it is whole. Each event in it has the answer that the script gives after the events before it. One answer
+    /// the script leaves open: whether a pattern is built that is not to fail.
     pub fn events(&self) -> &[Event]
         ensures history { WhereTold (events_of self.now) (λ events. result.now ≡ events) }
         ensures plays { WhereTold (events_of self.now) (Plays (script_of self.now)) }
