@@ -1,4 +1,11 @@
+pub mod BoundLemmas
+pub mod MadeLemmas
+pub mod NamesLemmas
 pub mod HonestLemmas
 pub mod StageLemmas
 pub mod TornLemmas
 pub mod LinkLemmas
+pub mod OrderLemmas
+pub mod PathLemmas
+pub mod ListingLemmas
+pub mod TreeLemmas

@@ -1,19 +1,15 @@
 -- How what is said over a connection in memory goes on.
-use Rattle.std.proofs.Common.{ℕ, ◌≡◌, ◌==◌, ◌+◌, ◌-◌, ◌<◌, ◌≤◌, min, Bool, true, false, ◌&&◌, if◌then◌else◌, Option, Some, None, IsTrue, List, [], ◌∷◌, ◌++◌, length, take, drop, refl, sym, ◌∙◌, ap, subst, arith, append_assoc, length-append, length-take, length-drop, take-append-drop, take_at, eqb-true}
+use Rattle.std.proofs.Common.{ℕ, ◌≡◌, ◌==◌, ◌+◌, ◌-◌, ◌≤◌, min, Bool, true, false, if◌then◌else◌, Option, Some, None, IfSome, List, ◌++◌, length, take, drop, refl, sym, ◌∙◌, ap, subst, arith, append_assoc, length-append, length-take, length-drop, take-append-drop, take_at, eqb-true}
 use Rattle.std.proofs.lemmas.Bool.Decides.{nat_tests}
-use Rattle.f2b_world.specs.declared.answer.Linked.TheVariants.{Connected}
 use Rattle.f2b_world.specs.declared.answer.LinkRead.{LinkRead}
 use Rattle.f2b_world.specs.declared.answer.LinkRead.TheVariants.{Bytes as LinkBytes, End as LinkEnd}
-use Rattle.f2b_world.specs.Links.{Talk, Goes, Sends, Receives}
+use Rattle.f2b_world.specs.Links.{Talk, Goes, Receives}
 
--- what was sent stands behind what was sent before
-pub sends : (told kept : Bool) (sent sent' bytes received : List ℕ) (ended : Bool) → (IsTrue kept → sent' ≡ sent ++ bytes)
-    → Goes (if told then Some (record { sent = sent; received = received; ended = ended }) else None)
-    (if told && kept then Some (record { sent = sent'; received = received; ended = ended }) else None) (Sends bytes Connected)
-sends false kept sent sent' bytes received ended keeps = tt
-sends true false sent sent' bytes received ended keeps = tt
-sends true true sent sent' bytes received ended keeps =
-    (record { sent = sent; received = received; ended = ended }, refl, ap (λ (xs : List ℕ). let t : Talk = record { sent = xs; received = received; ended = ended } in t) (keeps refl))
+-- what was received is a front of all
+pub is_front : (told : Bool) (server : Option (List ℕ)) (sent bytes : List ℕ) (given : ℕ) (ended : Bool)
+    → IfSome (if told then Some (record { server = server; sent = sent; received = take given bytes; ended = ended }) else None) (λ (talk : Talk). (rest : List ℕ) × (bytes ≡ talk.received ++ rest))
+is_front false server sent bytes given ended = tt
+is_front true server sent bytes given ended = (drop given bytes, sym (take-append-drop given bytes))
 
 taken_more : (xs : List ℕ) (from most : ℕ) → from ≤ length xs → take (from + length (take most (drop from xs))) xs ≡ take from xs ++ take most (drop from xs)
 taken_more xs from most le =
@@ -35,16 +31,16 @@ not_ended true size given count most over is some =
 some_left : (size given count most : ℕ) → count ≡ min most (size - given) → (count == 0) ≡ false → given ≤ size
 some_left size given count most is some = grind (arith, nat_tests)
 
-received : (sent bytes piece : List ℕ) (given next most : ℕ) (ended over : Bool) (answer : LinkRead) → (ended ≡ true → length bytes ≤ given) → piece ≡ take most (drop given bytes)
+received : (server : Option (List ℕ)) (sent bytes piece : List ℕ) (given next most : ℕ) (ended over : Bool) (answer : LinkRead) → (ended ≡ true → length bytes ≤ given) → piece ≡ take most (drop given bytes)
     → answer ≡ (if length piece == 0 then LinkEnd else LinkBytes piece) → next ≡ given + length piece → over ≡ (length piece == 0) → (none : Bool) → (length piece == 0) ≡ none
-    → Receives answer (record { sent = sent; received = take given bytes; ended = ended }) (record { sent = sent; received = take next bytes; ended = over })
-received sent bytes piece given next most ended over answer ends is says count last true e =
+    → Receives answer (record { server = server; sent = sent; received = take given bytes; ended = ended }) (record { server = server; sent = sent; received = take next bytes; ended = over })
+received server sent bytes piece given next most ended over answer ends is says count last true e =
     let zero : length piece ≡ 0 = eqb-true (length piece) 0 e in
     let stays : next ≡ given = omega arith in
     let end : answer ≡ LinkEnd = rw e at says in
     let closes : over ≡ true = last ∙ e in
     rw (end, stays, closes) refl
-received sent bytes piece given next most ended over answer ends is says count last false e =
+received server sent bytes piece given next most ended over answer ends is says count last false e =
     let len : length piece ≡ min most (length bytes - given) = ap length is ∙ length-take most (drop given bytes) ∙ ap (λ n. min most n) (length-drop given bytes) in
     let le : given ≤ length bytes = some_left (length bytes) given (length piece) most len e in
     let some : answer ≡ LinkBytes piece = rw e at says in
@@ -54,10 +50,10 @@ received sent bytes piece given next most ended over answer ends is says count l
     ap (λ n. take n bytes) (count ∙ ap (λ (xs : List ℕ). given + length xs) is) ∙ taken_more bytes given most le ∙ ap (λ (xs : List ℕ). take given bytes ++ xs) (sym is) in
     rw (some, more, open_still, before) (refl, refl)
 
-pub receives : (told : Bool) (sent bytes piece : List ℕ) (given next most : ℕ) (ended over : Bool) (answer : LinkRead) → (ended ≡ true → length bytes ≤ given) → piece ≡ take most (drop given bytes)
+pub receives : (told : Bool) (server : Option (List ℕ)) (sent bytes piece : List ℕ) (given next most : ℕ) (ended over : Bool) (answer : LinkRead) → (ended ≡ true → length bytes ≤ given) → piece ≡ take most (drop given bytes)
     → answer ≡ (if length piece == 0 then LinkEnd else LinkBytes piece) → next ≡ given + length piece → over ≡ (length piece == 0)
-    → Goes (if told then Some (record { sent = sent; received = take given bytes; ended = ended }) else None)
-    (if told then Some (record { sent = sent; received = take next bytes; ended = over }) else None) (Receives answer)
-receives false sent bytes piece given next most ended over answer ends is says count last = tt
-receives true sent bytes piece given next most ended over answer ends is says count last =
-    (record { sent = sent; received = take given bytes; ended = ended }, refl, received sent bytes piece given next most ended over answer ends is says count last (length piece == 0) refl)
+    → Goes (if told then Some (record { server = server; sent = sent; received = take given bytes; ended = ended }) else None)
+    (if told then Some (record { server = server; sent = sent; received = take next bytes; ended = over }) else None) (Receives answer)
+receives false server sent bytes piece given next most ended over answer ends is says count last = tt
+receives true server sent bytes piece given next most ended over answer ends is says count last =
+    (record { server = server; sent = sent; received = take given bytes; ended = ended }, refl, received server sent bytes piece given next most ended over answer ends is says count last (length piece == 0) refl)

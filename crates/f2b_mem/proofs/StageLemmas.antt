@@ -1,19 +1,18 @@
 -- How a played script goes on.
-use Rattle.std.proofs.Common.{ℕ, ◌≡◌, ◌==◌, ◌+◌, ◌-◌, ◌<◌, ◌≤◌, ◌^◌, min, Bool, true, false, cond, if◌then◌else◌, Option, Some, None, IfSome, IsTrue, List, [], ◌∷◌, ◌++◌, ◌⊎◌, inl, inr, length, count_by, refl, sym, ◌∙◌, ap, subst, arith, length-append, append_assoc, add_assoc, zero-add, eqb-true, slice_index}
+use Rattle.std.proofs.Common.{ℕ, ◌≡◌, ◌==◌, ◌+◌, ◌<◌, ◌≤◌, ◌^◌, Bool, true, false, cond, if◌then◌else◌, Option, Some, None, IfSome, IsTrue, List, [], ◌∷◌, ◌++◌, ◌⊎◌, inl, inr, length, count_by, refl, sym, ◌∙◌, ap, subst, arith, length-append, add_assoc, zero-add, eqb-true}
 use Rattle.std.proofs.lemmas.List.Sums.{sum_by-append, count_by-le-length}
 use Rattle.f2b_world.specs.declared.answer.Accept.TheVariants.{Conn}
 use Rattle.f2b_world.specs.declared.answer.GateRead.TheVariants.{Bytes as ReadBytes}
-use Rattle.f2b_world.specs.declared.answer.Synced.TheVariants.{Done as SyncDone, Failed as SyncFailed}
+use Rattle.f2b_world.specs.declared.answer.Synced.TheVariants.{Done as SyncDone}
 use Rattle.f2b_world.specs.declared.answer.Wrote.{Wrote}
 use Rattle.f2b_world.specs.declared.event.Event.{Event}
 use Rattle.f2b_world.specs.declared.event.Event.TheVariants.{DiskWrite, DiskSync, GateAccept, GateRead as ReadFrom}
 use Rattle.f2b_world.specs.Slots.{Slot, settled, slot_after, slot_step, synced_now, write_to, written}
-use Rattle.f2b_world.specs.Told.{Adds, History}
 use Rattle.f2b_mem.specs.Books.{Grows, WhereTold}
-use Rattle.f2b_mem.specs.Plays.{played, is_clock, is_config, is_pause, accepted_in, given_to, slot_in, Plays}
+use Rattle.f2b_mem.specs.Plays.{played, is_clock, is_config, is_pause, accepted_in, given_to, slot_in, Lists, Plays}
 use Rattle.f2b_mem.specs.Commands.{Ran, ran_of, ran_step, ran_after}
 use Rattle.f2b_mem.specs.Script.{slots_of, of_two, counted}
-use Rattle.f2b_mem.specs.Stages.{Playing, no_counts, Counted, Progresses, IsPlayed, IsUnplayed, PlaysOn, Tells, history_of, history_in, is_write, told_in}
+use Rattle.f2b_mem.specs.Stages.{Progresses, IsPlayed, IsUnplayed, PlaysOn, history_of, is_write}
 use Rattle.f2b_mem.specs.declared.counts.Counts.{Counts}
 use Rattle.f2b_mem.specs.declared.progress.Progress.{Progress}
 use Rattle.f2b_mem.specs.declared.script.Script.{Script}
@@ -73,10 +72,15 @@ split_last (x ∷ events) last (b ∷ before) event later e =
       | inr q ↦ inr (q.0, (let k : x ∷ events ≡ b ∷ (before ++ event ∷ q.0) = cc (head, q.1) in k))
     ]
 
-pub plays_more : (script : Script) (events : List Event) (event : Event) → Plays script events → event ≡ played script events event → Plays script (events ++ event ∷ [])
-plays_more script events event plays is = λ before other later e.
+pub plays_more : (script : Script) (events : List Event) (event : Event) → Plays script events → event ≡ played script events event → Lists script events event → Plays script (events ++ event ∷ [])
+plays_more script events event plays is lists = λ before other later e.
     elim (split_last events event before other later e) [
-      | inl p ↦ p.1 ∙ is ∙ ap (λ (es : List Event). played script es event) (sym p.0) ∙ ap (λ (x : Event). played script before x) (sym p.1)
+      | inl p ↦
+          let Before : List Event → Type 0 = λ es. Lists script es other in
+          let Last : Event → Type 0 = λ x. Lists script events x in (
+            p.1 ∙ is ∙ ap (λ (es : List Event). played script es event) (sym p.0) ∙ ap (λ (x : Event). played script before x) (sym p.1),
+            subst Before (sym p.0) (subst Last (sym p.1) lists),
+          )
       | inr q ↦ plays before other q.0 q.1
     ]
 
@@ -85,11 +89,11 @@ ran_after-append r [] ys = refl
 ran_after-append r (x ∷ xs) ys = ran_after-append (ran_step r x) xs ys
 
 -- what was played, after one event more
-is_played_more : (script : Script) (old new : Progress) (zero one zero' one' : List ℕ) (events : List Event) (event : Event) → IsPlayed script old zero one events → event ≡ played script events event
+is_played_more : (script : Script) (old new : Progress) (zero one zero' one' : List ℕ) (events : List Event) (event : Event) → IsPlayed script old zero one events → event ≡ played script events event → Lists script events event
     → Progresses old event new → length (events ++ event ∷ []) < 2 ^ 64
     → ((slot : ℕ) (s : Slot) → of_two zero one slot ≡ s.now → of_two zero' one' slot ≡ (slot_step slot s event).now)
     → IsPlayed script new zero' one' (events ++ event ∷ [])
-is_played_more script old new zero one zero' one' events event was is more short slots =
+is_played_more script old new zero one zero' one' events event was is lists more short slots =
     let added : length (events ++ event ∷ []) ≡ length events + 1 = length-append events (event ∷ []) in
     let room : length events + 1 < 2 ^ 64 = omega arith in
     record {
@@ -102,24 +106,24 @@ is_played_more script old new zero one zero' one' events event was is more short
       ran = more.ran ∙ ap (λ (r : Ran). ran_step r event) was.ran ∙ sym (ran_after-append (ran_of 0 []) events (event ∷ []));
       slots = λ slot. slots slot (slot_in script events slot) (was.slots slot)
           ∙ ap (λ (s : Slot). s.now) (sym (slot_after-append slot (settled (slots_of script.image slot)) events (event ∷ [])));
-      plays = plays_more script events event was.plays is;
+      plays = plays_more script events event was.plays is lists;
     }
 
 -- the same of a history that may have ended
 pub goes_on : (script : Script) (old new : Progress) (zero one zero' one' : List ℕ) (told told' : Option (List Event)) (event : Event) (noted : Bool)
-    → WhereTold told (IsPlayed script old zero one) → WhereTold told (λ events. event ≡ played script events event)
+    → WhereTold told (IsPlayed script old zero one) → WhereTold told (λ events. event ≡ played script events event) → WhereTold told (λ events. Lists script events event)
     → (IsTrue noted → Progresses old event new) → IfSome told' (λ _. Grows told event told') → IfSome told' (λ _. IsTrue noted) → IfSome told' (λ events. length events < 2 ^ 64)
     → ((slot : ℕ) (s : Slot) → of_two zero one slot ≡ s.now → of_two zero' one' slot ≡ (slot_step slot s event).now)
     → WhereTold told' (IsPlayed script new zero' one')
-goes_on script old new zero one zero' one' told None event noted was is notes grows kept short slots = λ events e. absurd (cc)
-goes_on script old new zero one zero' one' None (Some more) event noted was is notes grows kept short slots = absurd (let e : Some more ≡ None = grows in cc)
-goes_on script old new zero one zero' one' (Some before) (Some more) event noted was is notes grows kept short slots = λ events e.
+goes_on script old new zero one zero' one' told None event noted was is lists notes grows kept short slots = λ events e. absurd (cc)
+goes_on script old new zero one zero' one' None (Some more) event noted was is lists notes grows kept short slots = absurd (let e : Some more ≡ None = grows in cc)
+goes_on script old new zero one zero' one' (Some before) (Some more) event noted was is lists notes grows kept short slots = λ events e.
     let all : Some more ≡ Some (before ++ event ∷ []) = grows in
     let grown : more ≡ before ++ event ∷ [] = cc in
     let same : events ≡ before ++ event ∷ [] = cc in
     let P : List Event → Type 0 = λ es. length es < 2 ^ 64 in
     let Q : List Event → Type 0 = λ es. IsPlayed script new zero' one' es in
-    subst Q (sym same) (is_played_more script old new zero one zero' one' before event (was before refl) (is before refl) (notes kept) (subst P grown short) slots)
+    subst Q (sym same) (is_played_more script old new zero one zero' one' before event (was before refl) (is before refl) (lists before refl) (notes kept) (subst P grown short) slots)
 
 if_same : (b : Bool) (s : Slot) → (if b then synced_now s else s).now ≡ s.now
 if_same true s = refl
@@ -159,6 +163,10 @@ plays_on script (Some before) (Some more) event is grows =
       script = refl;
       tells = (history_of script before, event ∷ [], refl, ap (λ (es : List Event). history_of script es) grown, (refl, honest script before event (is before refl)));
     }
+
+-- a write is no listing
+pub write_lists : (script : Script) (told : Option (List Event)) (event : Event) (k at : ℕ) (bytes : List ℕ) (answer : Wrote) → event ≡ DiskWrite k at bytes answer → WhereTold told (λ events. Lists script events event)
+write_lists script told event k at bytes answer is = λ events e. let F : Event → Type 0 = λ x. Lists script events x in subst F (sym is) tt
 
 pub step_of_write : (zero one zero' one' : List ℕ) (k at : ℕ) (bytes : List ℕ) (answer : Wrote) (event : Event) → event ≡ DiskWrite k at bytes answer
     → ((slot : ℕ) → of_two zero' one' slot ≡ (if k == slot then written (of_two zero one k) at bytes else of_two zero one slot))

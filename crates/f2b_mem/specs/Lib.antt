@@ -1,10 +1,13 @@
 pub mod Books
 pub mod Script
+pub mod Listings
 pub mod Commands
 pub mod Plays
 pub mod Stages
 pub mod Worlds
+pub mod TreeBounds
 pub mod Torn
 pub mod Talks
 pub mod Files
 pub mod Shelved
+pub mod Places

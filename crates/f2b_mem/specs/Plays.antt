@@ -1,5 +1,6 @@
 -- What a script answers to a call, by the events before it.
 use Rattle.std.specs.Prelude.{ℕ, ◌≡◌, ◌==◌, ◌+◌, Bool, true, false, not, ◌&&◌, if◌then◌else◌, leb, Option, Some, None, List, [], ◌∷◌, ◌++◌, length, take, drop, min, max, slice_get, count_by}
+use Rattle.std.specs.Bool.{MatchBool}
 use Rattle.std.specs.List.{list_any}
 use Rattle.f2b_base.specs.declared.outside.TreeAnswer.TheVariants.{Failed as ConfigFailed}
 use Rattle.f2b_world.specs.declared.answer.Accept.{Accept}
@@ -23,6 +24,7 @@ use Rattle.f2b_world.specs.declared.event.Event.{Event}
 use Rattle.f2b_world.specs.declared.event.Event.TheVariants.{Say, DiskLen, DiskRead, DiskWrite, DiskSync, Make, Clock, Config, StoreAt, Names, Look as LookAt, ChildStart, ChildPoll, ChildKill, GateListen, GateAccept, GateRead as ReadFrom, GateWrite as WriteTo, GateClose, Pause}
 use Rattle.f2b_world.specs.Slots.{Slot, settled, slot_after}
 use Rattle.f2b_mem.specs.Commands.{polled, ran_in}
+use Rattle.f2b_mem.specs.Listings.{IsListing}
 use Rattle.f2b_mem.specs.Script.{reading_at, tree_at, content_at, seen, slots_of}
 use Rattle.f2b_mem.specs.declared.script.ClientPlan.{ClientPlan}
 use Rattle.f2b_mem.specs.declared.script.Script.{Script}
@@ -78,7 +80,7 @@ abbrev pub slot_in : Script → List Event → ℕ → Slot
 slot_in script events slot = slot_after slot (settled (slots_of script.image slot)) events
 
 -- The call of an event with the answer that the script gives to it after the events before it. Of a pattern the script says only
--- whether it is refused.
+-- whether it is refused, and `Lists` says what a listing has.
 abbrev pub played : Script → List Event → Event → Event
 played script before (Say bytes answer) = Say bytes (if fails script before then SayFailed else SayDone)
 played script before (DiskLen slot answer) = DiskLen slot (if fails script before then LenFailed else LenBytes (length (slot_in script before slot).now))
@@ -101,6 +103,11 @@ played script before (WriteTo conn bytes answer) = WriteTo conn bytes (if fails 
 played script before (GateClose conn) = GateClose conn
 played script before (Pause ms) = Pause ms
 
+-- a listing fails where the script says so, and else has the names that the script gives after the pauses before it
+abbrev pub Lists : Script → List Event → Event → Type 0
+Lists script before (Names dir answer) = MatchBool (fails script before) (answer ≡ NamesFailed) (IsListing script.changes dir (count_by is_pause before) answer)
+Lists script before _ = Unit {0}
+
 -- each event has the answer that the script gives to it after the events before it
 abbrev pub Plays : Script → List Event → Type 0
-Plays script events = (before : List Event) (event : Event) (later : List Event) → events ≡ before ++ event ∷ later → event ≡ played script before event
+Plays script events = (before : List Event) (event : Event) (later : List Event) → events ≡ before ++ event ∷ later → (event ≡ played script before event) × Lists script before event

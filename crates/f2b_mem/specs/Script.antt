@@ -1,18 +1,25 @@
 -- What the parts of a script give.
-use Rattle.std.specs.Prelude.{ℕ, ◌+◌, ◌-◌, ◌^◌, ◌==◌, Bool, ◌&&◌, if◌then◌else◌, leb, min, Option, Some, None, List, [], ◌∷◌, length, take, drop, get_or}
+use Rattle.std.specs.Prelude.{ℕ, ◌+◌, ◌-◌, ◌^◌, ◌==◌, Bool, true, false, ◌&&◌, if◌then◌else◌, leb, min, Option, Some, None, List, [], ◌∷◌, length, take, drop, get_or}
 use Rattle.std.specs.Str.{bytes_eq}
 use Rattle.f2b_base.specs.declared.outside.Reading.{Reading}
-use Rattle.f2b_base.specs.declared.outside.Tree.{Tree}
 use Rattle.f2b_base.specs.declared.outside.TreeAnswer.{TreeAnswer}
 use Rattle.f2b_base.specs.declared.outside.TreeAnswer.TheVariants.{Tree as ConfigTree, TooLarge as ConfigTooLarge}
 use Rattle.f2b_world.specs.declared.answer.Look.{Look}
 use Rattle.f2b_world.specs.declared.answer.Look.TheVariants.{File, Absent}
+use Rattle.f2b_world.specs.declared.pattern.Made.{Made}
+use Rattle.f2b_world.specs.declared.pattern.Made.TheVariants.{TooBig}
+use Rattle.f2b_mem.specs.TreeBounds.{is_tree}
 use Rattle.f2b_mem.specs.declared.script.FileChange.{FileChange}
 use Rattle.f2b_mem.specs.declared.script.Image.{Image}
 
 -- a count that stays at the greatest number
 abbrev pub counted : ℕ → Bool → ℕ
 counted count more = min (count + (if more then 1 else 0)) (2 ^ 64 - 1)
+
+-- whether a pattern was refused for its size
+abbrev pub is_too_big : Made → Bool
+is_too_big TooBig = true
+is_too_big _ = false
 
 -- the item at that place, or the last where there are fewer; or else that one
 abbrev pub at_or_last : {A : Type 0} → List A → ℕ → A → A
@@ -22,9 +29,9 @@ at_or_last items place none = get_or items (min place (length items - 1)) none
 abbrev pub reading_at : List Reading → ℕ → Reading
 reading_at readings number = at_or_last readings number (record { secs = 0; word = 0 })
 
--- a script's tree, which is a tree or too large
+-- a script's tree, or too large where it does not keep to the bounds of a tree
 abbrev pub tree_or_too_large : TreeAnswer → TreeAnswer
-tree_or_too_large (ConfigTree tree) = ConfigTree tree
+tree_or_too_large (ConfigTree tree) = if is_tree tree.files then ConfigTree tree else ConfigTooLarge
 tree_or_too_large _ = ConfigTooLarge
 
 -- the tree of that number

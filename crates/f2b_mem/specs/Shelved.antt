@@ -10,7 +10,11 @@ use Rattle.f2b_mem.specs.declared.files.MemFiles.{MemFiles}
 abbrev pub shelf_of : MemFiles → Option Shelf
 shelf_of m = Some (file_in m.files)
 
--- the history of the patterns that were made
+-- the events of the patterns that were made, as long as they are told
+abbrev pub book_of : MemFiles → Option (List Event)
+book_of m = m.book
+
+-- the history of these events
 abbrev pub made_of : Option (List Event) → Option History
 made_of (Some events) = Some (record { first = λ slot. []; events = events })
 made_of None = None
@@ -20,3 +24,6 @@ abbrev pub file_counts : ℕ → ℕ → Fault → ℕ
 file_counts patterns files OfPatterns = patterns
 file_counts patterns files OfFiles = files
 file_counts patterns files _ = 0
+
+abbrev pub faults_of : MemFiles → Fault → ℕ
+faults_of m = file_counts m.pattern_faults m.file_faults

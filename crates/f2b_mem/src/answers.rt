@@ -1,8 +1,9 @@
 //! The answers of a world in memory.
-ghost use Rattle.std.specs.Prelude.{◌≡◌, ◌≢◌, ◌≤◌, ◌==◌, if◌then◌else◌, length, take, drop, option_copied, Ok, Some, IfOk, IsTrue};
-ghost use Rattle.f2b_world.specs.Faults.{Rose};
+ghost use Rattle.std.specs.Prelude.{◌≡◌, ◌≢◌, ◌≤◌, ◌==◌, false, if◌then◌else◌, length, take, drop, option_copied, None, Some, IfOk, IsTrue};
+ghost use Rattle.f2b_world.specs.Faults.{OfFiles};
 ghost use Rattle.f2b_world.specs.Told.{KeepsBounds, IsPieceOf, IsReceived};
-ghost use Rattle.f2b_world.specs.Reading.{IsAnswerTo};
+ghost use Rattle.f2b_world.specs.Reading.{IsAnswerTo, IsMadeOf};
+ghost use Rattle.f2b_world.specs.Bounds.{FitsLook, FitsPiece, FitsRead};
 ghost use Rattle.f2b_world.specs.declared.answer.Accept.TheVariants.{Failed as AcceptFailed};
 ghost use Rattle.f2b_world.specs.declared.answer.GateRead.TheVariants.{Failed as ReadFailed};
 ghost use Rattle.f2b_world.specs.declared.answer.GateWrite.TheVariants.{Took, Failed as TookFailed};
@@ -16,30 +17,21 @@ ghost use Rattle.f2b_world.specs.declared.answer.StartAnswer.TheVariants.{Starte
 ghost use Rattle.f2b_world.specs.declared.answer.Synced.TheVariants.{Done as SyncDone, Failed as SyncFailed};
 ghost use Rattle.f2b_world.specs.declared.answer.Wrote.TheVariants.{Done as WroteDone, Failed as WriteFailed};
 ghost use Rattle.f2b_world.specs.declared.pattern.Made.TheVariants.{TooBig as MadeTooBig};
-ghost use Rattle.f2b_world.specs.declared.answer.FileAnswer.TheVariants.{Failed as FileFailed};
-ghost use Rattle.f2b_world.specs.declared.answer.FilePiece.TheVariants.{Failed as FilePieceFailed};
-ghost use Rattle.f2b_world.specs.declared.answer.Linked.TheVariants.{Failed as LinkFailed};
-ghost use Rattle.f2b_world.specs.declared.answer.LinkRead.TheVariants.{Bytes as LinkBytes, End as LinkEnd, Failed as LinkReadFailed};
-ghost use Rattle.f2b_base.specs.declared.outside.TreeAnswer.TheVariants.{Failed as TreeFailed};
-ghost use Rattle.f2b_world.specs.Shelves.{IsFile, IsPieceAt, IsWholeFile, IsShort};
+ghost use Rattle.f2b_world.specs.declared.answer.LinkRead.TheVariants.{Bytes as LinkBytes, End as LinkEnd};
+ghost use Rattle.f2b_world.specs.Trees.{IsTreeOf, KeepsTree};
+ghost use Rattle.f2b_mem.specs.Files.{file_in};
+ghost use Rattle.f2b_world.specs.Shelves.{IsFile, IsPieceAt, IsWholeFile, IsShort, file_fault, piece_fault, tree_fault};
 ghost use Rattle.f2b_mem.specs.Plays.{accepting, receiving};
-ghost use Rattle.f2b_mem.specs.Script.{seen};
+ghost use Rattle.f2b_mem.specs.Script.{seen, is_too_big};
 
-use crate::pieces::piece_of;
-use f2b_base::{Bytes, FileLook, NoMemory, TreeAnswer};
+use crate::file_tree::tree_of;
+use crate::pieces::{owned, piece_of};
+use f2b_base::{Bytes, FileLook, NoMemory, TreeAnswer, TreeFile};
 use f2b_world::{
-    Accept, FileAnswer, FilePiece, GateRead, GateWrite, Len, LinkRead, Linked, Listen, Look, Made,
-    Piece, PollAnswer, Said, StartAnswer, Synced, Wrote, build_pattern, raised,
+    Accept, FileAnswer, FilePiece, GateRead, GateWrite, Len, LinkRead, Listen, Look, Made, Piece,
+    PollAnswer, Said, StartAnswer, Synced, Wrote, build_pattern,
 };
 use std::alloc::Global;
-
-/// The count after a call that may have failed.
-pub fn count_after(failing: bool, count: u64) -> u64
-    ensures steady { count ≤ result }
-    ensures cause { IsTrue failing → Rose count result }
-{
-    if failing { raised(count) } else { count }
-}
 
 pub fn said(failing: bool) -> Said
     ensures value { result ≡ (if failing then SayFailed else SayDone) }
@@ -133,7 +125,8 @@ pub fn write_answer(failing: bool, count: u32) -> GateWrite
 
 /// The pattern of a text, or a refusal for size.
 pub fn made(alloc: Global, text: &str, failing: bool) -> Made
-    ensures made { IsAnswerTo text.now result }
+    ensures made { failing ≡ false → IsMadeOf text.now result }
+    ensures answer { IsAnswerTo text.now result }
     ensures failing { IsTrue failing → result ≡ MadeTooBig }
 {
     if failing {
@@ -143,7 +136,7 @@ pub fn made(alloc: Global, text: &str, failing: bool) -> Made
 }
 
 pub fn is_too_big(made: &Made) -> bool
-    ensures { made.now ≡ MadeTooBig → IsTrue result }
+    ensures { result ≡ is_too_big made.now }
 {
     matches!(made, Made::TooBig)
 }
@@ -159,6 +152,7 @@ pub fn piece_answer(
     ensures value { IfOk result (λ piece. piece ≡ (if failing then PieceFailed else PieceBytes (take len (drop at held.now)))) }
     ensures cause { IfOk result (λ piece. piece ≡ PieceFailed → IsTrue failing) }
     ensures whole { IfOk result (IsPieceOf len) }
+    ensures bytes { IfOk result FitsPiece }
 {
     if failing {
         return Ok(Piece::Failed);
@@ -168,7 +162,7 @@ pub fn piece_answer(
         return Err(NoMemory);
     }
     let bytes = &held[at as usize..(at + len) as usize];
-    Ok(Piece::Bytes(Bytes::from_slice(alloc, bytes)?))
+    Ok(Piece::Bytes(owned(alloc, bytes)?))
 }
 
 /// The answer to a client's bytes, which are none once it has given all.
@@ -182,6 +176,7 @@ pub fn receive_answer(
     ensures value { IfOk result (λ answer. answer ≡ (if failing then ReadFailed else receiving bytes.now)) }
     ensures cause { IfOk result (λ answer. answer ≡ ReadFailed → IsTrue failing) }
     ensures bounds { IfOk result (IsReceived max) }
+    ensures bytes { IfOk result FitsRead }
 {
     if failing {
         return Ok(GateRead::Failed);
@@ -189,7 +184,7 @@ pub fn receive_answer(
     if bytes.is_empty() {
         return Ok(GateRead::Quiet);
     }
-    Ok(GateRead::Bytes(Bytes::from_slice(alloc, bytes)?))
+    Ok(GateRead::Bytes(owned(alloc, bytes)?))
 }
 
 // What a look shows of a file with this content.
@@ -201,12 +196,13 @@ fn file_look(
     max: u32,
 ) -> Result<Look, NoMemory>
     ensures value { IfOk result (λ look. look ≡ seen (Some content.now) head from max) }
-    ensures bounds { IfOk result (λ look. KeepsBounds head from max look) }
+    ensures bounds { IfOk result (KeepsBounds head from max) }
+    ensures bytes { IfOk result FitsLook }
 {
     Ok(Look::File(FileLook {
         size: content.len() as u64,
-        head: Bytes::from_slice(alloc, piece_of(content, 0, head))?,
-        bytes: Bytes::from_slice(alloc, piece_of(content, from, max))?,
+        head: owned(alloc, piece_of(content, 0, head))?,
+        bytes: owned(alloc, piece_of(content, from, max))?,
     }))
 }
 
@@ -221,7 +217,8 @@ pub fn look_answer(
 ) -> Result<Look, NoMemory>
     ensures value { IfOk result (λ look. look ≡ (if failing then LookFailed else seen (option_copied content.entry) head from max)) }
     ensures cause { IfOk result (λ look. look ≡ LookFailed → IsTrue failing) }
-    ensures bounds { IfOk result (λ look. KeepsBounds head from max look) }
+    ensures bounds { IfOk result (KeepsBounds head from max) }
+    ensures bytes { IfOk result FitsLook }
 {
     if failing {
         return Ok(Look::Failed);
@@ -232,24 +229,10 @@ pub fn look_answer(
     }
 }
 
-pub fn linked(failing: bool) -> Linked
-    ensures cause { result ≡ LinkFailed → IsTrue failing }
+/// What a server said, of which nothing more is the end.
+pub fn link_answer(alloc: Global, bytes: &[u8]) -> Result<LinkRead, NoMemory>
+    ensures { IfOk result (λ answer. answer ≡ (if length bytes.now == 0 then LinkEnd else LinkBytes bytes.now)) }
 {
-    if failing {
-        Linked::Failed
-    } else {
-        Linked::Connected
-    }
-}
-
-/// What a server sent, of which nothing more is the end.
-pub fn link_answer(alloc: Global, failing: bool, bytes: &[u8]) -> Result<LinkRead, NoMemory>
-    ensures value { IfOk result (λ answer. answer ≡ (if failing then LinkReadFailed else (if length bytes.now == 0 then LinkEnd else LinkBytes bytes.now))) }
-    ensures cause { IfOk result (λ answer. answer ≡ LinkReadFailed → IsTrue failing) }
-{
-    if failing {
-        return Ok(LinkRead::Failed);
-    }
     if bytes.is_empty() {
         return Ok(LinkRead::End);
     }
@@ -266,7 +249,7 @@ pub fn file_answer(
     content: Option<&[u8]>,
 ) -> Result<FileAnswer, NoMemory>
     ensures file { IfOk result (IsFile (option_copied content.entry)) }
-    ensures cause { IfOk result (λ answer. answer ≡ FileFailed → IsTrue failing) }
+    ensures fault { IfOk result (λ answer. file_fault answer ≡ (if failing then Some OfFiles else None)) }
     ensures bounds { IfOk result IsWholeFile }
 {
     if failing {
@@ -288,7 +271,7 @@ pub fn file_piece(
     max: u32,
 ) -> Result<FilePiece, NoMemory>
     ensures file { IfOk result (IsPieceAt (option_copied content.entry) at max) }
-    ensures cause { IfOk result (λ answer. answer ≡ FilePieceFailed → IsTrue failing) }
+    ensures fault { IfOk result (λ answer. piece_fault answer ≡ (if failing then Some OfFiles else None)) }
     ensures bounds { IfOk result (IsShort max) }
 {
     if failing {
@@ -305,10 +288,17 @@ pub fn file_piece(
 
 /// The answer to a reading of all files of a directory.
 pub fn tree_answer(
+    alloc: Global,
     failing: bool,
-    tree: Result<TreeAnswer, NoMemory>,
+    files: &[TreeFile],
+    dir: &str,
 ) -> Result<TreeAnswer, NoMemory>
-    ensures value { result ≡ (if failing then Ok TreeFailed else tree) }
+    ensures file { IfOk result (λ answer. IsTreeOf dir.now answer (file_in files.now)) }
+    ensures bounds { IfOk result KeepsTree }
+    ensures fault { IfOk result (λ answer. tree_fault answer ≡ (if failing then Some OfFiles else None)) }
 {
-    if failing { Ok(TreeAnswer::Failed) } else { tree }
+    if failing {
+        return Ok(TreeAnswer::Failed);
+    }
+    tree_of(alloc, files, dir)
 }

@@ -1,6 +1,7 @@
 //! The commands of a world in memory.
 
-use crate::answers::{count_after, poll_answer, start_answer};
+use crate::answers::{poll_answer, start_answer};
+use crate::counts::counted;
 use crate::events::start_event;
 use crate::world::MemWorld;
 use f2b_world::{Children, Event, PollAnswer, StartAnswer};
@@ -15,14 +16,14 @@ impl Children for MemWorld {
         let Ok(()) = self.stage.tell(event) else {
             return StartAnswer::NoMemory;
         };
-        self.faults.children = count_after(failing, self.faults.children);
+        self.faults.children = counted(self.faults.children, failing);
         answer
     }
 
     fn child_poll(&mut self, job: u64) -> PollAnswer {
         let failing = self.stage.is_failing();
         let answer = poll_answer(failing, self.stage.polled(job));
-        self.faults.children = count_after(failing, self.faults.children);
+        self.faults.children = counted(self.faults.children, failing);
         self.stage.tell_or_end(Event::ChildPoll { job, answer });
         answer
     }

@@ -1,5 +1,5 @@
 //! How much of a script was played.
-ghost use Rattle.std.specs.Prelude.{◌≡◌, true};
+ghost use Rattle.std.specs.Prelude.{◌≡◌, ◌≤◌, true};
 ghost use Rattle.f2b_mem.specs.Plays.{is_clock, is_config, is_pause};
 ghost use Rattle.f2b_mem.specs.Stages.{Counted};
 ghost use Rattle.f2b_mem.specs.Script.{counted};
@@ -17,7 +17,8 @@ pub struct Counts {
 
 /// A count that stays at the greatest number.
 pub fn counted(count: u64, more: bool) -> u64
-    ensures { result ≡ counted count more }
+    ensures value { result ≡ counted count more }
+    ensures steady { count ≤ result }
 {
     if more { count.saturating_add(1) } else { count }
 }
@@ -50,7 +51,9 @@ impl Counts {
     };
 
     /// One call more, of which nothing else is known.
-    pub fn skip(&mut self) {
+    pub fn skip(&mut self)
+        ensures { self.new ≡ record self.old { calls = counted self.old.calls true } }
+    {
         self.calls = counted(self.calls, true);
     }
 

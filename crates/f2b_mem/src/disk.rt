@@ -1,7 +1,8 @@
 //! The slots of a world in memory.
 ghost use Rattle.std.specs.Prelude.{◌≡◌};
 
-use crate::answers::{count_after, len_answer, piece_answer, synced, wrote};
+use crate::answers::{len_answer, piece_answer, synced, wrote};
+use crate::counts::counted;
 use crate::events::read_event;
 use crate::world::MemWorld;
 use f2b_world::{Disk, Event, Len, Piece, Synced, Wrote};
@@ -10,7 +11,7 @@ impl Disk for MemWorld {
     fn disk_len(&mut self, slot: u8) -> Len {
         let failing = self.stage.is_failing();
         let answer = len_answer(failing, self.stage.slot(slot).len() as u64);
-        self.faults.disk = count_after(failing, self.faults.disk);
+        self.faults.disk = counted(self.faults.disk, failing);
         self.stage.tell_or_end(Event::DiskLen { slot, answer });
         answer
     }
@@ -26,7 +27,7 @@ impl Disk for MemWorld {
         let Ok(()) = self.stage.tell(event) else {
             return Piece::NoMemory;
         };
-        self.faults.disk = count_after(failing, self.faults.disk);
+        self.faults.disk = counted(self.faults.disk, failing);
         answer
     }
 
@@ -39,14 +40,14 @@ impl Disk for MemWorld {
         else {
             return Wrote::NoMemory;
         };
-        self.faults.disk = count_after(failing, self.faults.disk);
+        self.faults.disk = counted(self.faults.disk, failing);
         answer
     }
 
     fn disk_sync(&mut self, slot: u8) -> Synced {
         let failing = self.stage.is_failing();
         let answer = synced(failing);
-        self.faults.disk = count_after(failing, self.faults.disk);
+        self.faults.disk = counted(self.faults.disk, failing);
         self.stage.tell_or_end(Event::DiskSync { slot, answer });
         answer
     }

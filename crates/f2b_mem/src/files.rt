@@ -1,11 +1,12 @@
 //! Files in memory.
-ghost use Rattle.std.specs.Prelude.{◌≡◌, Some, option_copied, IfOk};
+ghost use Rattle.std.specs.Prelude.{◌≡◌, [], Some, option_copied, IfOk};
+ghost use Rattle.f2b_world.specs.Faults.{Fault};
 ghost use Rattle.f2b_mem.specs.Files.{file_in};
 
-use crate::answers::{count_after, file_answer, file_piece,  is_too_big, made, tree_answer};
+use crate::answers::{file_answer, file_piece, is_too_big, made, tree_answer};
 use crate::book::Book;
+use crate::counts::counted;
 use crate::events::make_event;
-use crate::file_tree::tree_of;
 use f2b_base::{NoMemory, Seq, TreeAnswer, TreeFile};
 use f2b_world::{FileAnswer, FilePiece, Files, Made, Outside, Patterns};
 use std::alloc::Global;
@@ -36,11 +37,13 @@ fn file_in<'a>(files: &'a [TreeFile], path: &str) -> Option<&'a [u8]>
 }
 
 impl MemFiles {
-    ghost use Rattle.f2b_mem.specs.Shelved.{shelf_of};
+    ghost use Rattle.f2b_mem.specs.Shelved.{shelf_of, book_of, faults_of};
 
     /// These files, of which the first of a path counts. The calls at these places, from 0, fail.
     pub fn new(alloc: Global, files: Seq<TreeFile>, fails: Seq<u64>) -> Result<MemFiles, NoMemory>
-        ensures { IfOk result (λ m. shelf_of m ≡ Some (file_in files)) }
+        ensures shelf { IfOk result (λ m. shelf_of m ≡ Some (file_in files)) }
+        ensures made { IfOk result (λ m. book_of m ≡ Some []) }
+        ensures faults { IfOk result (λ m. (kind : Fault) → faults_of m kind ≡ 0) }
     {
         Ok(MemFiles {
             alloc,
@@ -60,9 +63,9 @@ impl MemFiles {
 
 impl Outside for MemFiles {
     ghost use Rattle.std.specs.Prelude.{None};
-    ghost use Rattle.f2b_mem.specs.Shelved.{made_of, shelf_of, file_counts};
+    ghost use Rattle.f2b_mem.specs.Shelved.{made_of, book_of, shelf_of, faults_of};
 
-    ghost stands = { λ m. record { told = made_of m.book; talk = None; shelf = shelf_of m; faults = file_counts m.pattern_faults m.file_faults } };
+    ghost stands = { λ m. record { told = made_of (book_of m); talk = None; shelf = shelf_of m; faults = faults_of m } };
 }
 
 impl Patterns for MemFiles {
@@ -75,7 +78,7 @@ impl Patterns for MemFiles {
             return Made::NoMemory;
         };
         self.book.add(event, true);
-        self.pattern_faults = count_after(is_too_big(&made), self.pattern_faults);
+        self.pattern_faults = counted(self.pattern_faults, is_too_big(&made));
         self.calls = self.calls.saturating_add(1);
         made
     }
@@ -88,7 +91,7 @@ impl Files for MemFiles {
         let Ok(answer) = file_answer(self.alloc, failing, content) else {
             return FileAnswer::NoMemory;
         };
-        self.file_faults = count_after(failing, self.file_faults);
+        self.file_faults = counted(self.file_faults, failing);
         self.calls = self.calls.saturating_add(1);
         answer
     }
@@ -99,18 +102,18 @@ impl Files for MemFiles {
         let Ok(answer) = file_piece(self.alloc, failing, content, at, max) else {
             return FilePiece::NoMemory;
         };
-        self.file_faults = count_after(failing, self.file_faults);
+        self.file_faults = counted(self.file_faults, failing);
         self.calls = self.calls.saturating_add(1);
         answer
     }
 
     fn tree(&mut self, dir: &str) -> TreeAnswer {
         let failing = self.is_failing();
-        let tree = tree_of(self.alloc, self.files.as_slice(), dir);
-        let Ok(answer) = tree_answer(failing, tree) else {
+        let files = self.files.as_slice();
+        let Ok(answer) = tree_answer(self.alloc, failing, files, dir) else {
             return TreeAnswer::NoMemory;
         };
-        self.file_faults = count_after(failing, self.file_faults);
+        self.file_faults = counted(self.file_faults, failing);
         self.calls = self.calls.saturating_add(1);
         answer
     }

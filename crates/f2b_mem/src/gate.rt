@@ -1,6 +1,7 @@
 //! The clients of a world in memory.
 
-use crate::answers::{accept_answer, count_after, listen_answer, receive_answer, write_answer};
+use crate::answers::{accept_answer, listen_answer, receive_answer, write_answer};
+use crate::counts::counted;
 use crate::events::{listen_event, receive_event, send_event};
 use crate::world::MemWorld;
 use f2b_world::{Accept, Event, Gate, GateRead, GateWrite, Listen};
@@ -9,7 +10,7 @@ impl Gate for MemWorld {
     fn gate_listen(&mut self, path: &str) -> Listen {
         let failing = self.stage.is_failing();
         let answer = listen_answer(failing);
-        self.faults.gate = count_after(failing, self.faults.gate);
+        self.faults.gate = counted(self.faults.gate, failing);
         self.stage.tell_made(listen_event(self.alloc, path, answer));
         answer
     }
@@ -17,7 +18,7 @@ impl Gate for MemWorld {
     fn gate_accept(&mut self) -> Accept {
         let failing = self.stage.is_failing();
         let answer = accept_answer(failing, self.stage.waiting());
-        self.faults.gate = count_after(failing, self.faults.gate);
+        self.faults.gate = counted(self.faults.gate, failing);
         self.stage.tell_or_end(Event::GateAccept { answer });
         answer
     }
@@ -34,14 +35,14 @@ impl Gate for MemWorld {
         let Ok(()) = self.stage.tell(event) else {
             return GateRead::NoMemory;
         };
-        self.faults.gate = count_after(failing, self.faults.gate);
+        self.faults.gate = counted(self.faults.gate, failing);
         answer
     }
 
     fn gate_write(&mut self, conn: u32, bytes: &[u8]) -> GateWrite {
         let failing = self.stage.is_failing();
         let answer = write_answer(failing, bytes.len() as u32);
-        self.faults.gate = count_after(failing, self.faults.gate);
+        self.faults.gate = counted(self.faults.gate, failing);
         self.stage
             .tell_made(send_event(self.alloc, conn, bytes, answer));
         answer

@@ -1,7 +1,8 @@
 //! Outsides in memory, for tests: a world, a link and files.
 //!
-//! A world plays a script and keeps its history as long as it finds memory for it. Where it finds none, in a call that has no answer
-//! for that, it tells nothing from then on and goes on with its script.
+//! A world plays a script and keeps its history as long as it finds memory for it. Where it finds none it answers so, and is as it was.
+//! Where a call has no answer for that, or a command that starts finds no room beside those that run, the world tells nothing from
+//! then on and goes on with its script.
 #![tactic(auto)]
 
 mod answers;
@@ -19,6 +20,7 @@ mod giving;
 mod link;
 mod logs;
 mod names;
+mod paths;
 mod pieces;
 mod plans;
 mod progress;
@@ -27,6 +29,7 @@ mod script;
 mod slots;
 mod stage;
 mod torn;
+mod tree_bounds;
 mod trees;
 mod waiting;
 mod world;

@@ -1,10 +1,16 @@
 //! A client's connection in memory.
-ghost use Rattle.std.specs.Prelude.{◌≡◌, ◌≤◌, ◌+◌, ◌-◌, ◌++◌, true, length, IsTrue};
+ghost use Rattle.std.specs.Prelude.{◌≡◌, ◌≢◌, ◌↔◌, ◌≤◌, ◌+◌, ◌-◌, ◌++◌, true, Some, if◌then◌else◌, length, IsTrue};
+ghost use Rattle.f2b_world.specs.Faults.{Counted, OfLink};
+ghost use Rattle.f2b_world.specs.Links.{Goes, Connects, Sends, Receives, IsReceivedOf, link_fault, read_fault};
+ghost use Rattle.f2b_world.specs.Told.{Spoken};
+ghost use Rattle.f2b_world.specs.declared.answer.Linked.TheVariants.{Connected, Failed as LinkFailed};
+ghost use Rattle.f2b_world.specs.declared.answer.LinkRead.TheVariants.{Failed as LinkReadFailed};
 
-use crate::answers::{count_after, link_answer, linked};
+use crate::answers::link_answer;
+use crate::counts::counted;
 use crate::pieces::piece_of;
 use crate::progress::both;
-use f2b_base::{Bytes, NoMemory, Seq};
+use f2b_base::{Bytes, NoMemory, Seq, Text};
 use f2b_world::{Link, LinkRead, Linked, Outside};
 use std::alloc::Global;
 
@@ -16,16 +22,30 @@ pub struct MemLink {
     bytes: Bytes,
     piece: u32,
     fails: Seq<u64>,
-    /// How many calls were made, but for those that found no memory.
+    /// How many calls were made.
     calls: u64,
     faults: u64,
     /// How many of the bytes were received.
     given: usize,
     ended: bool,
     told: bool,
+    server: Option<Text>,
     sent: Bytes,
     ghost some: { 1 ≤ piece },
     ghost over: { ended ≡ true → length bytes ≤ given },
+}
+
+// Keeps the path of the server, and answers whether there was memory for it.
+fn keep_server(alloc: Global, server: &mut Option<Text>, path: &str) -> bool
+    ensures { IsTrue result → server.new ≡ Some path.now }
+{
+    match Text::from_str(alloc, path) {
+        Ok(path) => {
+            *server = Some(path);
+            true
+        }
+        Err(NoMemory) => false,
+    }
 }
 
 // Adds what was sent, and answers whether there was memory for it.
@@ -44,8 +64,8 @@ fn given_after(size: usize, given: usize, count: usize) -> usize
 }
 
 impl MemLink {
-    ghost use Rattle.std.specs.Prelude.{false, Some, [], IfOk, IfSome};
-    ghost use Rattle.f2b_mem.specs.Talks.{talk_in};
+    ghost use Rattle.std.specs.Prelude.{ℕ, List, false, None, [], IfOk, IfSome};
+    ghost use Rattle.f2b_mem.specs.Talks.{talk_in, bytes_of, fails_next, link_counts};
 
     /// A connection on which nothing was said yet. The calls at these places, from 0, fail.
     pub fn new(
@@ -55,7 +75,8 @@ impl MemLink {
         fails: Seq<u64>,
     ) -> Result<MemLink, NoMemory>
         requires { 1 ≤ piece }
-        ensures { IfOk result (λ link. talk_in link ≡ Some (record { sent = []; received = []; ended = false })) }
+        ensures talk { IfOk result (λ link. talk_in link ≡ Some (record { server = None; sent = []; received = []; ended = false })) }
+        ensures bytes { IfOk result (λ link. bytes_of link ≡ bytes) }
     {
         Ok(MemLink {
             alloc,
@@ -67,6 +88,7 @@ impl MemLink {
             given: 0,
             ended: false,
             told: true,
+            server: None,
             sent: Bytes::new(alloc),
         })
     }
@@ -77,37 +99,38 @@ impl MemLink {
     {
         self.sent.as_slice()
     }
-}
 
-impl Outside for MemLink {
-    ghost use Rattle.std.specs.Prelude.{None};
-    ghost use Rattle.f2b_mem.specs.Talks.{talk_in, link_counts};
-
-    ghost stands = { λ m. record { told = None; talk = talk_in m; shelf = None; faults = link_counts m.faults } };
-}
-
-impl Link for MemLink {
-    fn connect(&mut self, _path: &str) -> Linked {
-        let failing = self.fails.as_slice().contains(&self.calls);
-        self.faults = count_after(failing, self.faults);
-        self.calls = self.calls.saturating_add(1);
-        linked(failing)
+    /// All that the server says. What was received is a front of it, and all of it where the end was seen.
+    pub fn bytes(&self) -> &[u8]
+        ensures all { result.now ≡ bytes_of self.now }
+        ensures front { IfSome (talk_in self.now) (λ talk. (rest : List ℕ) × (bytes_of self.now ≡ talk.received ++ rest)) }
+        ensures end { IfSome (talk_in self.now) (λ talk. talk.ended ≡ true → talk.received ≡ bytes_of self.now) }
+    {
+        self.bytes.as_slice()
     }
 
-    fn send(&mut self, bytes: &[u8]) -> Linked {
+    // Counts a call, and answers whether it fails.
+    fn is_failing(&mut self) -> bool
+        ensures failing { result ≡ fails_next self.old }
+        ensures talk { talk_in self.new ≡ talk_in self.old }
+        ensures bytes { bytes_of self.new ≡ bytes_of self.old }
+        ensures counts { Counted (if result then Some OfLink else None) (link_counts self.old.faults) (link_counts self.new.faults) }
+    {
         let failing = self.fails.as_slice().contains(&self.calls);
-        self.faults = count_after(failing, self.faults);
-        self.calls = self.calls.saturating_add(1);
-        if failing {
-            return Linked::Failed;
-        }
-        let kept = keep_sent(&mut self.sent, bytes);
-        self.told = both(self.told, kept);
-        Linked::Connected
+        self.faults = counted(self.faults, failing);
+        self.calls = counted(self.calls, true);
+        failing
     }
 
-    fn receive(&mut self, max: u32) -> LinkRead {
-        let failing = self.fails.as_slice().contains(&self.calls);
+    // Gives the next bytes, or the end where all were given.
+    fn give(&mut self, max: u32) -> LinkRead
+        requires { 1 ≤ max }
+        ensures talk { Goes (talk_in self.old) (talk_in self.new) (Receives result) }
+        ensures bounds { IsReceivedOf max result }
+        ensures bytes { bytes_of self.new ≡ bytes_of self.old }
+        ensures faults { self.new.faults ≡ self.old.faults }
+        ensures given { result ≢ LinkReadFailed }
+    {
         let piece = piece_of(
             self.bytes.as_slice(),
             self.given as u64,
@@ -115,16 +138,60 @@ impl Link for MemLink {
         );
         let next = given_after(self.bytes.len(), self.given, piece.len());
         let over = piece.is_empty();
-        let Ok(answer) = link_answer(self.alloc, failing, piece) else {
+        let Ok(answer) = link_answer(self.alloc, piece) else {
             return LinkRead::NoMemory;
         };
-        self.faults = count_after(failing, self.faults);
-        self.calls = self.calls.saturating_add(1);
-        if failing {
-            return answer;
-        }
         self.given = next;
         self.ended = over;
         answer
+    }
+}
+
+impl Outside for MemLink {
+    ghost use Rattle.f2b_mem.specs.Talks.{stands_of};
+
+    ghost stands = { stands_of };
+}
+
+impl Link for MemLink {
+    ghost use Rattle.f2b_mem.specs.Talks.{bytes_of, fails_next, stands_of};
+
+    fn connect(&mut self, path: &str) -> Linked
+        ensures talk { Spoken (stands_of self.old) (link_fault result) (Connects path.now result) (stands_of self.new) }
+        ensures answer { result ≡ (if fails_next self.old then LinkFailed else Connected) }
+        ensures bytes { bytes_of self.new ≡ bytes_of self.old }
+    {
+        if self.is_failing() {
+            return Linked::Failed;
+        }
+        let kept = keep_server(self.alloc, &mut self.server, path);
+        self.told = both(self.told, kept);
+        Linked::Connected
+    }
+
+    fn send(&mut self, bytes: &[u8]) -> Linked
+        ensures talk { Spoken (stands_of self.old) (link_fault result) (Sends bytes.now result) (stands_of self.new) }
+        ensures answer { result ≡ (if fails_next self.old then LinkFailed else Connected) }
+        ensures bytes { bytes_of self.new ≡ bytes_of self.old }
+    {
+        if self.is_failing() {
+            return Linked::Failed;
+        }
+        let kept = keep_sent(&mut self.sent, bytes);
+        self.told = both(self.told, kept);
+        Linked::Connected
+    }
+
+    fn receive(&mut self, max: u32) -> LinkRead
+        requires { 1 ≤ max }
+        ensures talk { Spoken (stands_of self.old) (read_fault result) (Receives result) (stands_of self.new) }
+        ensures bounds { IsReceivedOf max result }
+        ensures answer { (result ≡ LinkReadFailed) ↔ IsTrue (fails_next self.old) }
+        ensures bytes { bytes_of self.new ≡ bytes_of self.old }
+    {
+        if self.is_failing() {
+            return LinkRead::Failed;
+        }
+        self.give(max)
     }
 }

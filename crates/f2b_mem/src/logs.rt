@@ -1,6 +1,7 @@
 //! The files of a world in memory.
 
-use crate::answers::{count_after, look_answer};
+use crate::answers::look_answer;
+use crate::counts::counted;
 use crate::events::{look_event, names_event};
 use crate::names::names_answer;
 use crate::world::MemWorld;
@@ -19,7 +20,7 @@ impl Logs for MemWorld {
         let Ok(()) = self.stage.tell(event) else {
             return Look::NoMemory;
         };
-        self.faults.logs = count_after(failing, self.faults.logs);
+        self.faults.logs = counted(self.faults.logs, failing);
         answer
     }
 }
@@ -37,7 +38,7 @@ impl Directories for MemWorld {
         let Ok(()) = self.stage.tell(event) else {
             return NamesAnswer::NoMemory;
         };
-        self.faults.logs = count_after(failing, self.faults.logs);
+        self.faults.logs = counted(self.faults.logs, failing);
         answer
     }
 }

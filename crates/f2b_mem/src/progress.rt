@@ -1,6 +1,7 @@
 //! What of a script was played, but for the slots.
-ghost use Rattle.std.specs.Prelude.{◌≡◌, ◌==◌, ◌+◌, ◌++◌, ◌∷◌, ◌&&◌, [], ℕ, if◌then◌else◌, slice_index, IsTrue, IfOk};
+ghost use Rattle.std.specs.Prelude.{◌≡◌, ◌==◌, ◌+◌, ◌++◌, ◌∷◌, ◌&&◌, true, [], ℕ, if◌then◌else◌, slice_index, IsTrue, IfOk};
 ghost use Rattle.f2b_mem.specs.Plays.{accepted_in, given_to};
+ghost use Rattle.f2b_mem.specs.Script.{counted};
 ghost use Rattle.f2b_mem.specs.Stages.{Progresses, IsUnplayed};
 
 use crate::commands::Commands;
@@ -83,7 +84,10 @@ impl Progress {
     }
 
     /// A call more, of which nothing else is known.
-    pub fn skip(&mut self) {
+    pub fn skip(&mut self)
+        ensures counts { self.new.counts ≡ record self.old.counts { calls = counted self.old.counts.calls true } }
+        ensures others { self.new ≡ record self.old { counts = self.new.counts } }
+    {
         self.counts.skip();
     }
 

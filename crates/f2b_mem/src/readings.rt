@@ -1,8 +1,12 @@
 //! Readings and trees by their numbers.
 ghost use Rattle.std.specs.Prelude.{◌≡◌, ◌≢◌, if◌then◌else◌, IfOk, IsTrue};
-ghost use Rattle.f2b_base.specs.declared.outside.TreeAnswer.TheVariants.{Failed as TreeFailed};
+ghost use Rattle.f2b_base.specs.declared.outside.TreeAnswer.TheVariants.{Tree as ConfigTree, Failed as TreeFailed, TooLarge as ConfigTooLarge};
+ghost use Rattle.f2b_world.specs.Bounds.{FitsTree};
+ghost use Rattle.f2b_world.specs.Trees.{KeepsTree};
 ghost use Rattle.f2b_mem.specs.Script.{reading_at, tree_at, tree_or_too_large};
+ghost use Rattle.f2b_mem.specs.TreeBounds.{is_tree};
 
+use crate::tree_bounds::{is_tree, know_files};
 use f2b_base::{NoMemory, Plain, Reading, Seq, Tree, TreeAnswer};
 use std::alloc::Global;
 
@@ -16,13 +20,29 @@ pub fn reading_at(readings: &[Reading], number: u64) -> Reading
     readings[(number as usize).min(last)]
 }
 
+// A tree that keeps to the bounds of one, or too large.
+fn tree_within(tree: &Tree) -> Result<TreeAnswer, NoMemory>
+    ensures value { IfOk result (λ answer. answer ≡ (if is_tree tree.now.files then ConfigTree tree.now else ConfigTooLarge)) }
+    ensures bounds { IfOk result KeepsTree }
+    ensures texts { IfOk result FitsTree }
+{
+    let files = tree.files.as_slice();
+    if !is_tree(files) {
+        return Ok(TreeAnswer::TooLarge);
+    }
+    know_files(files);
+    Ok(TreeAnswer::Tree(tree.copy()?))
+}
+
 // A script's tree.
 fn copied(tree: &TreeAnswer) -> Result<TreeAnswer, NoMemory>
     ensures value { IfOk result (λ answer. answer ≡ tree_or_too_large tree.now) }
     ensures cause { IfOk result (λ answer. answer ≢ TreeFailed) }
+    ensures bounds { IfOk result KeepsTree }
+    ensures texts { IfOk result FitsTree }
 {
     match tree {
-        TreeAnswer::Tree(tree) => Ok(TreeAnswer::Tree(tree.copy()?)),
+        TreeAnswer::Tree(tree) => tree_within(tree),
         _ => Ok(TreeAnswer::TooLarge),
     }
 }
@@ -36,6 +56,8 @@ pub fn tree_at(
 ) -> Result<TreeAnswer, NoMemory>
     ensures value { IfOk result (λ answer. answer ≡ (if failing then TreeFailed else tree_at trees.now number)) }
     ensures cause { IfOk result (λ answer. answer ≡ TreeFailed → IsTrue failing) }
+    ensures bounds { IfOk result KeepsTree }
+    ensures texts { IfOk result FitsTree }
 {
     if failing {
         return Ok(TreeAnswer::Failed);

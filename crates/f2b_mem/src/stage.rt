@@ -3,9 +3,12 @@ ghost use Rattle.std.specs.Prelude.{false, ◌≡◌, ◌≢◌, ◌<◌, ◌≤
 ghost use Rattle.f2b_base.specs.declared.outside.TreeAnswer.TheVariants.{Failed as TreeFailed};
 ghost use Rattle.f2b_world.specs.declared.answer.PollAnswer.TheVariants.{Failed as PollFailed};
 ghost use Rattle.f2b_world.specs.declared.event.Event.TheVariants.{DiskWrite};
+ghost use Rattle.f2b_world.specs.Bounds.{FitsTree};
+ghost use Rattle.f2b_world.specs.Trees.{KeepsTree};
 ghost use Rattle.f2b_mem.specs.Books.{WhereTold, is_kept};
 ghost use Rattle.f2b_mem.specs.Commands.{polled, ran_in};
-ghost use Rattle.f2b_mem.specs.Plays.{played, fails, is_clock, is_config, is_pause, first_waiting, accepted_in, giving, given_to, slot_in, Plays};
+ghost use Rattle.f2b_mem.specs.Listings.{AreNames};
+ghost use Rattle.f2b_mem.specs.Plays.{played, fails, is_clock, is_config, is_pause, first_waiting, accepted_in, giving, given_to, slot_in, Lists, Plays};
 ghost use Rattle.f2b_mem.specs.Script.{reading_at, tree_at, content_at};
 ghost use Rattle.f2b_mem.specs.Stages.{PlaysOn, is_write};
 
@@ -108,6 +111,9 @@ impl Stage {
     pub fn tree(&self, alloc: Global, failing: bool) -> Result<TreeAnswer, NoMemory>
         ensures value { IfOk result (λ tree. WhereTold self.now.told (λ events. tree ≡ (if failing then TreeFailed else tree_at self.now.script.trees (count_by is_config events)))) }
         ensures cause { IfOk result (λ tree. tree ≡ TreeFailed → IsTrue failing) }
+        ensures failing { IfOk result (λ tree. IsTrue failing → tree ≡ TreeFailed) }
+        ensures bounds { IfOk result KeepsTree }
+        ensures texts { IfOk result FitsTree }
     {
         let trees = self.script.trees.as_slice();
         tree_at(alloc, trees, self.progress.counts.configs, failing)
@@ -124,9 +130,10 @@ impl Stage {
         )
     }
 
-    /// The names of the files that stand in a directory.
+    /// The names of the files that stand in a directory, in byte order.
     pub fn names(&self, alloc: Global, dir: &str) -> Result<Seq<Text>, NoMemory>
-        ensures { IfOk result (All IsUtf8) }
+        ensures listed { IfOk result (λ names. WhereTold self.now.told (λ events. AreNames self.now.script.changes dir.now (count_by is_pause events) names)) }
+        ensures texts { IfOk result (All IsUtf8) }
     {
         let changes = self.script.changes.as_slice();
         names_at(alloc, changes, dir, self.progress.counts.pauses)
@@ -176,6 +183,7 @@ impl Stage {
     /// Adds an event that the script plays, or changes nothing.
     pub fn tell(&mut self, event: Event) -> Result<(), NoMemory>
         requires played { WhereTold self.old.told (λ events. event ≡ played self.old.script events event) }
+        requires listed { WhereTold self.old.told (λ events. Lists self.old.script events event) }
         requires kind { is_write event ≡ false }
         ensures ok { OnOk result (PlaysOn self.old event self.new) }
         ensures err { OnErr result (self.new ≡ self.old) }
@@ -189,6 +197,7 @@ impl Stage {
     /// Adds an event that the script plays. Where there is no memory for it the history ends.
     pub fn tell_or_end(&mut self, event: Event)
         requires played { WhereTold self.old.told (λ events. event ≡ played self.old.script events event) }
+        requires listed { WhereTold self.old.told (λ events. Lists self.old.script events event) }
         requires kind { is_write event ≡ false }
         ensures { PlaysOn self.old event self.new }
     {
@@ -207,6 +216,7 @@ impl Stage {
     /// Adds an event that the script plays, where there was memory to make it. Where there was none the history ends.
     pub fn tell_made(&mut self, event: Result<Event, NoMemory>)
         requires played { IfOk event (λ e. WhereTold self.old.told (λ events. e ≡ played self.old.script events e)) }
+        requires listed { IfOk event (λ e. WhereTold self.old.told (λ events. Lists self.old.script events e)) }
         requires kind { IfOk event (λ e. is_write e ≡ false) }
         ensures ok { IfOk event (λ e. PlaysOn self.old e self.new) }
         ensures err { OnErr event (self.new ≡ record { script = self.old.script; told = None }) }

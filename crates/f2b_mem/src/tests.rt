@@ -162,6 +162,62 @@ fn serves(world: &mut MemWorld) -> bool {
         && took == GateWrite::Took(2)
 }
 
+// Whether a listing has two names, in byte order.
+fn lists(world: &mut MemWorld, first: &str, second: &str) -> bool {
+    match world.names("/d") {
+        NamesAnswer::Names(names) => match names.as_slice() {
+            [one, other] => one.as_str() == first && other.as_str() == second,
+            _ => false,
+        },
+        _ => false,
+    }
+}
+
+fn add_change(
+    alloc: Global,
+    changes: &mut Seq<FileChange>,
+    pauses: u64,
+    path: &str,
+    content: Option<Bytes>,
+) -> Result<(), NoMemory> {
+    let path = Text::from_str(alloc, path)?;
+    changes.push(FileChange {
+        pauses,
+        path,
+        content,
+    })
+}
+
+// The file `a` changes and stays, `c` is gone with the first pause, and `s/e` is not directly there.
+fn listed_changes(alloc: Global) -> Result<Seq<FileChange>, NoMemory> {
+    let mut changes = Seq::new(alloc);
+    add_change(alloc, &mut changes, 0, "/d/c", Some(Bytes::new(alloc)))?;
+    add_change(alloc, &mut changes, 0, "/d/b", Some(Bytes::new(alloc)))?;
+    add_change(alloc, &mut changes, 0, "/d/a", Some(Bytes::new(alloc)))?;
+    add_change(alloc, &mut changes, 0, "/d/s/e", Some(Bytes::new(alloc)))?;
+    add_change(alloc, &mut changes, 1, "/d/a", Some(Bytes::new(alloc)))?;
+    add_change(alloc, &mut changes, 1, "/d/c", None)?;
+    Ok(changes)
+}
+
+fn lists_names(alloc: Global) -> Result<bool, NoMemory> {
+    let script = script(
+        alloc,
+        Seq::new(alloc),
+        listed_changes(alloc)?,
+        Seq::new(alloc),
+    );
+    let mut world = MemWorld::new(alloc, script)?;
+    world.pause(250);
+    Ok(lists(&mut world, "a", "b"))
+}
+
+#[test]
+fn lists_names_once_and_in_order(rt: HostRuntime) -> Result<(), Fail> {
+    assert!(rt; lists_names(rt.alloc())?);
+    Ok(())
+}
+
 fn runs(world: &mut MemWorld) -> bool {
     let started = world.child_start(7, "true");
     let polls = [world.child_poll(7), world.child_poll(7)];
@@ -211,11 +267,13 @@ fn gives_a_link_in_pieces(rt: HostRuntime) -> Result<(), Fail> {
     let alloc = rt.alloc();
     let bytes = Bytes::from_slice(alloc, b"abc")?;
     let mut link = MemLink::new(alloc, bytes, 2, Seq::new(alloc))?;
+    assert_eq!(rt; link.connect("/s"), Linked::Connected);
     assert_eq!(rt; link.send(b"hi"), Linked::Connected);
     assert!(rt; receives(&mut link, b"ab"));
     assert!(rt; receives(&mut link, b"c"));
     assert!(rt; receives(&mut link, b""));
     assert_eq!(rt; link.sent(), b"hi".as_slice());
+    assert_eq!(rt; link.bytes(), b"abc".as_slice());
     Ok(())
 }
 
@@ -245,5 +303,50 @@ fn gives_files_in_pieces(rt: HostRuntime) -> Result<(), Fail> {
     })?;
     let mut files = MemFiles::new(alloc, list, Seq::new(alloc))?;
     assert!(rt; reads(&mut files, "/c/jail.d/a.conf"));
+    Ok(())
+}
+
+fn add_file(
+    alloc: Global,
+    files: &mut Seq<TreeFile>,
+    path: &str,
+    content: &[u8],
+) -> Result<(), NoMemory> {
+    let path = Text::from_str(alloc, path)?;
+    let content = Bytes::from_slice(alloc, content)?;
+    files.push(TreeFile { path, content })
+}
+
+// Two files of one path, one in a subdirectory, one too deep, one with another ending, and one elsewhere.
+fn tree_files(alloc: Global) -> Result<Seq<TreeFile>, NoMemory> {
+    let mut files = Seq::new(alloc);
+    add_file(alloc, &mut files, "/c/s/b.local", b"b")?;
+    add_file(alloc, &mut files, "/c/a.conf", b"first")?;
+    add_file(alloc, &mut files, "/c/a.conf", b"second")?;
+    add_file(alloc, &mut files, "/c/s/s/d.conf", b"d")?;
+    add_file(alloc, &mut files, "/c/e.txt", b"e")?;
+    add_file(alloc, &mut files, "/cf.conf", b"f")?;
+    Ok(files)
+}
+
+fn is_file(file: &TreeFile, path: &str, content: &[u8]) -> bool {
+    file.path.as_str() == path && file.content.as_slice() == content
+}
+
+fn gives_tree(alloc: Global, dir: &str) -> Result<bool, NoMemory> {
+    let mut files = MemFiles::new(alloc, tree_files(alloc)?, Seq::new(alloc))?;
+    let TreeAnswer::Tree(tree) = files.tree(dir) else {
+        return Ok(false);
+    };
+    match tree.files.as_slice() {
+        [one, other] => Ok(is_file(one, "a.conf", b"first") && is_file(other, "s/b.local", b"b")),
+        _ => Ok(false),
+    }
+}
+
+#[test]
+fn gives_a_tree_of_the_first_files(rt: HostRuntime) -> Result<(), Fail> {
+    assert!(rt; gives_tree(rt.alloc(), "/c")?);
+    assert!(rt; gives_tree(rt.alloc(), "/c/")?);
     Ok(())
 }

@@ -1,6 +1,6 @@
 //! The configuration of a world in memory, and the place of its slots.
 
-use crate::answers::count_after;
+use crate::counts::counted;
 use crate::events::{config_event, store_event};
 use crate::world::MemWorld;
 use f2b_base::TreeAnswer;
@@ -18,7 +18,7 @@ impl Configuration for MemWorld {
         let Ok(()) = self.stage.tell(event) else {
             return TreeAnswer::NoMemory;
         };
-        self.faults.configuration = count_after(failing, self.faults.configuration);
+        self.faults.configuration = counted(self.faults.configuration, failing);
         answer
     }
 }

@@ -3,7 +3,8 @@ ghost use Rattle.std.specs.Prelude.{◌≡◌, ◌<◌, ◌^◌, Some, [], lengt
 ghost use Rattle.f2b_mem.specs.Books.{WhereTold, is_kept};
 ghost use Rattle.f2b_mem.specs.Plays.{Plays};
 
-use crate::answers::{count_after, is_too_big, made, said};
+use crate::answers::{is_too_big, made, said};
+use crate::counts::counted;
 use crate::events::{make_event, say_event};
 use crate::script::{Image, Script};
 use crate::stage::Stage;
@@ -60,8 +61,8 @@ impl MemWorld {
         self.stage.is_told()
     }
 
-    /// The history, where it is whole. Each event in it has the answer that the script gives after the events before it, but for two
-    /// that the script leaves open: the names in a directory, and of a pattern that is not to fail whether it is built.
+    /// The history, where it is whole. Each event in it has the answer that the script gives after the events before it. One answer
+    /// the script leaves open: whether a pattern is built that is not to fail.
     pub fn events(&self) -> &[Event]
         ensures history { WhereTold (events_of self.now) (λ events. result.now ≡ events) }
         ensures plays { WhereTold (events_of self.now) (Plays (script_of self.now)) }
@@ -81,7 +82,7 @@ impl Sink for MemWorld {
     fn say(&mut self, bytes: &[u8]) -> Said {
         let failing = self.stage.is_failing();
         let answer = said(failing);
-        self.faults.sink = count_after(failing, self.faults.sink);
+        self.faults.sink = counted(self.faults.sink, failing);
         self.stage.tell_made(say_event(self.alloc, bytes, answer));
         answer
     }
@@ -97,7 +98,7 @@ impl Patterns for MemWorld {
         let Ok(()) = self.stage.tell(event) else {
             return Made::NoMemory;
         };
-        self.faults.patterns = count_after(is_too_big(&made), self.faults.patterns);
+        self.faults.patterns = counted(self.faults.patterns, is_too_big(&made));
         made
     }
 }

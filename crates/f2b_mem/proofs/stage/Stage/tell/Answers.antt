@@ -1,5 +1,4 @@
-use Rattle.std.proofs.Common.{◌≡◌, ◌∙◌, sym, subst}
-use Rattle.f2b_mem.specs.Stages.{Playing, PlaysOn}
+use Rattle.std.proofs.Common.{◌∙◌, sym}
 use Rattle.f2b_mem.proofs.StageLemmas.{goes_on, no_write, plays_on}
 use Rattle.f2b_mem.proofs.stage.Stage.tell.Goals as goal
 
@@ -8,10 +7,11 @@ invariant_of-self c = (c.self.invariant.0, λ events e. c.self.invariant.1 event
 
 pub invariant_of-self-2 : goal.invariant_of-self-2
 invariant_of-self-2 c =
-    let played = rw (← c.self.view_is) at c.requires.played in (
+    let played = rw (← c.self.view_is) at c.requires.played in
+    let listed = rw (← c.self.view_is) at c.requires.listed in (
       c.self.invariant.0,
       goes_on c.self.inside.script c.self.inside.progress c.note-noted.new.self c.self.inside.slots.zero c.self.inside.slots.one c.self.inside.slots.zero c.self.inside.slots.one
-          c.self.inside.book c.add.new.self c.args.event c.note-noted.result c.self.invariant.1 played c.note-noted.ensures (rw c.reserve.ensures at c.add.ensures.grows) c.add.ensures.noted c.add.ensures.short
+          c.self.inside.book c.add.new.self c.args.event c.note-noted.result c.self.invariant.1 played listed c.note-noted.ensures (rw c.reserve.ensures at c.add.ensures.grows) c.add.ensures.noted c.add.ensures.short
           (no_write c.self.inside.slots.zero c.self.inside.slots.one c.args.event c.requires.kind),
     )
 

@@ -1,0 +1,67 @@
+//! The bounds of a script's trees.
+ghost use Rattle.std.specs.Prelude.{◌≡◌, [], leb, All};
+ghost use Rattle.f2b_world.specs.Bounds.{FitsFile};
+ghost use Rattle.f2b_world.specs.Trees.{bytes_in};
+ghost use Rattle.f2b_mem.specs.TreeBounds.{are_ordered, is_tree};
+
+use crate::pieces::know_bytes;
+use f2b_base::TreeFile;
+
+/// The most files of a tree.
+const MOST_FILES: usize = 4096;
+/// The most bytes in them.
+const MOST_BYTES: usize = 16_777_216;
+
+// Whether the paths are in byte order.
+fn are_ordered(files: &[TreeFile]) -> bool
+    ensures { result ≡ are_ordered [] files.now }
+{
+    let mut before: &[u8] = &[];
+    for file in files {
+        let path = file.path.as_str().as_bytes();
+        if path.cmp(before).is_lt() {
+            return false;
+        }
+        before = path;
+    }
+    true
+}
+
+// Whether they have few enough bytes.
+fn are_small(files: &[TreeFile]) -> bool
+    ensures { result ≡ leb (bytes_in files.now) 16777216 }
+{
+    let mut room = MOST_BYTES;
+    for file in files {
+        let size = file.content.len();
+        if room < size {
+            return false;
+        }
+        room -= size;
+    }
+    true
+}
+
+/// Whether files keep to the bounds of a tree.
+pub fn is_tree(files: &[TreeFile]) -> bool
+    ensures { result ≡ is_tree files.now }
+{
+    files.len() <= MOST_FILES && are_small(files) && are_ordered(files)
+}
+
+// Its path is UTF-8, and its content bytes.
+fn know_file(file: &TreeFile)
+    ensures { FitsFile file.now }
+{
+    let _path = file.path.as_str();
+    know_bytes(file.content.as_slice());
+}
+
+/// Paths are UTF-8, and contents bytes.
+pub fn know_files(files: &[TreeFile])
+    ensures { All FitsFile files.now }
+{
+    for file in files {
+        know_file(file);
+    }
+}
