@@ -1,5 +1,5 @@
 -- The commands that run after some events, and what they answer.
-use Rattle.std.specs.Prelude.{ℕ, ◌≡◌, ◌==◌, ◌+◌, Bool, true, not, if◌then◌else◌, ltb, ℤ, pos, Option, Some, None, List, [], ◌∷◌, ◌++◌, map, filter, slice_get}
+use Rattle.std.specs.Prelude.{ℕ, ◌==◌, true, not, if◌then◌else◌, ltb, ℤ, pos, Option, Some, None, List, [], ◌∷◌, ◌++◌, map, filter, slice_get}
 use Rattle.f2b_world.specs.declared.answer.PollAnswer.{PollAnswer}
 use Rattle.f2b_world.specs.declared.answer.PollAnswer.TheVariants.{Running as StillRunning, Ended}
 use Rattle.f2b_world.specs.declared.answer.StartAnswer.TheVariants.{Started}

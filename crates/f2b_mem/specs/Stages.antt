@@ -1,8 +1,7 @@
 -- How far a script was played.
 use Rattle.std.specs.Prelude.{ℕ, ◌≡◌, ◌+◌, Bool, true, false, Option, Some, None, List, [], ◌∷◌, ◌++◌, length, slice_index, count_by}
-use Rattle.f2b_world.specs.declared.answer.Accept.TheVariants.{Conn}
 use Rattle.f2b_world.specs.declared.event.Event.{Event}
-use Rattle.f2b_world.specs.declared.event.Event.TheVariants.{DiskWrite, GateAccept}
+use Rattle.f2b_world.specs.declared.event.Event.TheVariants.{DiskWrite}
 use Rattle.f2b_world.specs.Told.{History, Adds, IsHonest}
 use Rattle.f2b_mem.specs.Plays.{is_clock, is_config, is_pause, accepted_in, given_to, slot_in, Plays}
 use Rattle.f2b_mem.specs.Commands.{Ran, ran_of, ran_step, ran_in}

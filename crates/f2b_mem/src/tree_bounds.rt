@@ -1,5 +1,5 @@
 //! The bounds of a script's trees.
-ghost use Rattle.std.specs.Prelude.{◌≡◌, [], leb, All};
+ghost use Rattle.std.specs.Prelude.{◌≡◌, ◌&&◌, [], leb, length, All};
 ghost use Rattle.f2b_world.specs.Bounds.{FitsFile};
 ghost use Rattle.f2b_world.specs.Trees.{bytes_in};
 ghost use Rattle.f2b_mem.specs.TreeBounds.{are_ordered, is_tree};
@@ -42,11 +42,18 @@ fn are_small(files: &[TreeFile]) -> bool
     true
 }
 
+/// Whether files are few enough for a tree, and have few enough bytes.
+pub fn are_bounded(files: &[TreeFile]) -> bool
+    ensures { result ≡ (leb (length files.now) 4096 && leb (bytes_in files.now) 16777216) }
+{
+    files.len() <= MOST_FILES && are_small(files)
+}
+
 /// Whether files keep to the bounds of a tree.
 pub fn is_tree(files: &[TreeFile]) -> bool
     ensures { result ≡ is_tree files.now }
 {
-    files.len() <= MOST_FILES && are_small(files) && are_ordered(files)
+    are_bounded(files) && are_ordered(files)
 }
 
 // Its path is UTF-8, and its content bytes.

@@ -1,4 +1,4 @@
-use Rattle.std.proofs.Common.{◌≡◌, sym, subst, take}
+use Rattle.std.proofs.Common.{sym, subst, take}
 use Rattle.f2b_world.specs.Slots.{Slot, settled, slot_after}
 use Rattle.f2b_mem.specs.Torn.{IsKept}
 use Rattle.f2b_mem.proofs.TornLemmas.{slot_after_more}

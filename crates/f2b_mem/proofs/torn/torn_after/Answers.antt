@@ -1,4 +1,4 @@
-use Rattle.std.proofs.Common.{◌≡◌, ◌∙◌, ap₂, List, ℕ}
+use Rattle.std.proofs.Common.{◌∙◌, ap₂, List, ℕ}
 use Rattle.f2b_mem.specs.Torn.{torn_from}
 use Rattle.f2b_mem.proofs.TornLemmas.{torn_is_permitted}
 use Rattle.f2b_mem.proofs.torn.torn_after.Goals as goal

@@ -1,4 +1,4 @@
-use Rattle.std.proofs.Common.{◌≡◌, ◌++◌, ◌≤◌, length, drop}
+use Rattle.std.proofs.Common.{◌≡◌, ◌++◌, drop}
 use Rattle.f2b_mem.specs.Torn.{torn_from}
 use Rattle.f2b_mem.proofs.torn.torn_bytes.Given as goal
 

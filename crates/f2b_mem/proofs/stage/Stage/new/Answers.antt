@@ -1,4 +1,3 @@
-use Rattle.std.proofs.Common.{◌≡◌}
 use Rattle.f2b_mem.proofs.StageLemmas.{begins}
 use Rattle.f2b_mem.proofs.stage.Stage.new.Goals as goal
 

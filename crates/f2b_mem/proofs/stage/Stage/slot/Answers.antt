@@ -1,4 +1,4 @@
-use Rattle.std.proofs.Common.{◌≡◌, ◌∙◌}
+use Rattle.std.proofs.Common.{◌∙◌}
 use Rattle.f2b_mem.proofs.stage.Stage.slot.Goals as goal
 
 pub returns : goal.returns
