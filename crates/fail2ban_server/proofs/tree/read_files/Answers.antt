@@ -10,6 +10,6 @@ loop-path-preserved g c = (
   grind (arith, common_steps),
   grind (arith, common_steps),
   rw c.in_ok-push.ensures.ok (All-append FitsFile c.loop-path.files _ c.loop-path.invariant.3 (λ k d h.
-    let first : k ≡ 0 = omega (arith, h) in
-    rw first (record { path = rw c.in_ok-from_str.ensures c.as_str-in-loop-path-2.utf8; content = c.in_ok-content.ensures.bytes }))),
+      let first : k ≡ 0 = omega (arith, h) in
+      rw first (record { path = rw c.in_ok-from_str.ensures c.as_str-in-loop-path-2.utf8; content = c.in_ok-content.ensures.bytes }))),
 )
