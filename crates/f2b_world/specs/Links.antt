@@ -28,9 +28,9 @@ read_fault _ = None
 abbrev pub Goes : Option Talk → Option Talk → (Talk → Talk → Type 0) → Type 0
 Goes old new P = IfSome new (λ after. (before : Talk) × (old ≡ Some before) × P before after)
 
--- The talk is with the server of that path, or, where that failed, as before.
+-- The talk is with the server of that path, which has not ended, or, where that failed, as before.
 abbrev pub Connects : List ℕ → Linked → Talk → Talk → Type 0
-Connects path Connected before after = after ≡ record before { server = Some path }
+Connects path Connected before after = after ≡ record before { server = Some path; ended = false }
 Connects path LinkFailed before after = after ≡ before
 
 -- a talk whose client sent these bytes more

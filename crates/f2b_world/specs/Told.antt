@@ -34,6 +34,7 @@ use Rattle.f2b_world.specs.Faults.{Fault, OfSink, OfDisk, OfPatterns, OfConfigur
 use Rattle.f2b_world.specs.Links.{Talk, Goes}
 use Rattle.f2b_world.specs.Shelves.{Shelf}
 use Rattle.f2b_world.specs.Slots.{Slot, settled, slot_after}
+use Rattle.f2b_world.specs.Trees.{IsInByteOrder}
 
 -- what the slots held as the history began, and the events since
 pub record History : Type 0 where
@@ -193,10 +194,15 @@ abbrev pub IsPieceOf : ℕ → Piece → Type 0
 IsPieceOf len (PieceBytes bytes) = length bytes ≡ len
 IsPieceOf len _ = Unit {0}
 
--- what a look gives is as long as it was asked, and stands in the file
+-- what a look gives is as long as it was asked, or all that stands in the file from there on
 abbrev pub KeepsBounds : ℕ → ℕ → ℕ → Look → Type 0
-KeepsBounds head from max (File file) = (length file.head ≡ min head file.size) × (length file.bytes ≤ max) × (length file.bytes ≤ file.size - from)
+KeepsBounds head from max (File file) = (length file.head ≡ min head file.size) × (length file.bytes ≡ min max (file.size - from))
 KeepsBounds head from max _ = Unit {0}
+
+-- the names in a directory are in byte order
+abbrev pub KeepsNames : NamesAnswer → Type 0
+KeepsNames (NamesGiven names) = IsInByteOrder names
+KeepsNames _ = Unit {0}
 
 -- a client's bytes are at least one, and at most as many as were asked for
 abbrev pub IsReceived : ℕ → GateRead → Type 0

@@ -19,11 +19,17 @@ paths = map (λ file. file.path)
 abbrev pub bytes_in : List TreeFile → ℕ
 bytes_in = sum_by (λ file. length file.content)
 
--- at most 4,096 files, with at most 16,777,216 bytes in all, in byte order of their paths
+-- a path that stands in the directory itself or in a direct subdirectory, and ends in `.conf` or `.local`
+pub record IsConfigured (path : List ℕ) : Type 0 where
+  pub near : count_by (λ byte. byte == 47) path ≤ 1
+  pub ending : ((stem : List ℕ) × (path ≡ stem ++ codes ".conf")) ⊎ ((stem : List ℕ) × (path ≡ stem ++ codes ".local"))
+
+-- at most 4,096 files of a configuration, with at most 16,777,216 bytes in all, in byte order of their paths
 pub record IsTree (tree : Tree) : Type 0 where
   pub few : length tree.files ≤ 4096
   pub small : bytes_in tree.files ≤ 16777216
   pub ordered : IsInByteOrder (paths tree.files)
+  pub configured : All IsConfigured (paths tree.files)
 
 -- a tree that is given keeps to its bounds, in every world
 abbrev pub KeepsTree : TreeAnswer → Type 0
@@ -31,11 +37,6 @@ KeepsTree (IsATree tree) = IsTree tree
 KeepsTree _ = Unit {0}
 
 -- What follows is said where files tell what they hold.
-
--- a path that stands in the directory itself or in a direct subdirectory, and ends in `.conf` or `.local`
-pub record IsConfigured (path : List ℕ) : Type 0 where
-  pub near : count_by (λ byte. byte == 47) path ≤ 1
-  pub ending : ((stem : List ℕ) × (path ≡ stem ++ codes ".conf")) ⊎ ((stem : List ℕ) × (path ≡ stem ++ codes ".local"))
 
 -- a directory's path, with a slash at its end
 abbrev pub with_slash : List ℕ → List ℕ

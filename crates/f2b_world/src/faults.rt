@@ -1,5 +1,5 @@
 //! Counts of faults.
-ghost use Rattle.std.specs.Prelude.{◌≡◌, ◌≤◌};
+ghost use Rattle.std.specs.Prelude.{◌≡◌, ◌+◌, ◌≤◌};
 ghost use Rattle.f2b_world.specs.Faults.{Rose};
 
 /// How often each kind of fault of the outside came. Each count stays at the greatest number once it is there.
@@ -32,6 +32,7 @@ impl Faults {
 pub fn raised(count: u64) -> u64
     ensures rose { Rose count result }
     ensures steady { count ≤ result }
+    ensures once { result ≤ count + 1 }
 {
     count.saturating_add(1)
 }

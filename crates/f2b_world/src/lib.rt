@@ -6,6 +6,7 @@
 #![tactic(auto)]
 
 mod answer;
+mod configured;
 mod event;
 mod faults;
 mod outside;
@@ -15,6 +16,7 @@ pub use answer::{
     Accept, FileAnswer, FilePiece, GateRead, GateWrite, Len, LinkRead, Linked, Listen, Look,
     MakeAnswer, NamesAnswer, Piece, PollAnswer, Said, StartAnswer, StoreAnswer, Synced, Wrote,
 };
+pub use configured::is_configured;
 pub use event::Event;
 pub use faults::{Faults, raised};
 pub use outside::{

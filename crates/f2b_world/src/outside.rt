@@ -3,7 +3,7 @@
 //! Each call has one clause that says what it adds to the history, that its fault was counted where it failed, and that all else is
 //! as before. What was said over a link and what files hold is said of worlds that tell it.
 ghost use Rattle.std.specs.Prelude.{◌≡◌, ◌+◌, ◌<◌, ◌≤◌, ◌^◌, length};
-ghost use Rattle.f2b_world.specs.Told.{Standing, Called, Asked, HasLength, KeepsBounds, IsPieceOf, IsReceived, IsTaken, read_event, write_event, make_event, config_event, store_event, names_event, look_event, start_event, receive_event};
+ghost use Rattle.f2b_world.specs.Told.{Standing, Called, Asked, HasLength, KeepsBounds, KeepsNames, IsPieceOf, IsReceived, IsTaken, read_event, write_event, make_event, config_event, store_event, names_event, look_event, start_event, receive_event};
 ghost use Rattle.f2b_world.specs.Told.{Spoken, Opened};
 ghost use Rattle.f2b_world.specs.Links.{Connects, Sends, Receives, IsReceivedOf, link_fault, read_fault};
 ghost use Rattle.f2b_world.specs.Shelves.{IsFile, IsPieceAt, IsWholeFile, IsShort, file_fault, piece_fault, tree_fault};
@@ -100,7 +100,8 @@ pub trait Logs: Outside {
 pub trait Directories: Outside {
     /// The names in a directory, in byte order.
     fn names(&mut self, dir: &str) -> NamesAnswer
-        ensures { Asked (Self.stands self.old) (names_event dir.now result) (Self.stands self.new) };
+        ensures event { Asked (Self.stands self.old) (names_event dir.now result) (Self.stands self.new) }
+        ensures bounds { KeepsNames result };
 }
 
 /// The place of the two slots.
