@@ -26,8 +26,8 @@ tells (Some before) (Some more) text answer grows =
 
 -- the count of the patterns that were refused, after one pattern more
 counts : (patterns files next : ℕ) (failing : Bool) → next ≡ counted patterns failing → patterns ≤ next → Counted (if failing then Some OfPatterns else None) (file_counts patterns files) (file_counts next files)
-counts patterns files next true is up = record { steady = grind (arith, common_steps); cause = grind (arith, common_steps); still = grind (arith, common_steps) }
-counts patterns files next false is up = record { steady = grind (arith, common_steps); cause = tt; still = grind (arith, common_steps) }
+counts patterns files next true is up = record { steady = grind (arith, common_steps); cause = grind (arith, common_steps); once = grind (arith, common_steps); still = grind (arith, common_steps) }
+counts patterns files next false is up = record { steady = grind (arith, common_steps); cause = tt; once = tt; still = grind (arith, common_steps) }
 
 abbrev standing : Option Shelf → Option (List Event) → ℕ → ℕ → Standing
 standing shelf told patterns files = record { told = made_of told; talk = None; shelf = shelf; faults = file_counts patterns files }

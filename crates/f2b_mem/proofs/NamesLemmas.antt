@@ -14,8 +14,8 @@ use Rattle.f2b_mem.specs.Stages.{Tells}
 use Rattle.f2b_mem.specs.Worlds.{counts}
 
 log_counts : (f : Faults) (next : ℕ) (failing : Bool) → next ≡ counted f.logs failing → f.logs ≤ next → Counted (if failing then Some OfLogs else None) (counts f) (counts (record f { logs = next }))
-log_counts f next true is up = record { steady = grind (arith, common_steps); cause = grind (arith, common_steps); still = grind (arith, common_steps) }
-log_counts f next false is up = record { steady = grind (arith, common_steps); cause = tt; still = grind (arith, common_steps) }
+log_counts f next true is up = record { steady = grind (arith, common_steps); cause = grind (arith, common_steps); once = grind (arith, common_steps); still = grind (arith, common_steps) }
+log_counts f next false is up = record { steady = grind (arith, common_steps); cause = tt; once = tt; still = grind (arith, common_steps) }
 
 abbrev standing : Option History → Faults → Standing
 standing told f = record { told = told; talk = None; shelf = None; faults = counts f }

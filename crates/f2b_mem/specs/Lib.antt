@@ -1,5 +1,6 @@
 pub mod Books
 pub mod Script
+pub mod Calls
 pub mod Listings
 pub mod Commands
 pub mod Plays

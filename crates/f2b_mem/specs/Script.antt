@@ -29,7 +29,7 @@ at_or_last items place none = get_or items (min place (length items - 1)) none
 abbrev pub reading_at : List Reading → ℕ → Reading
 reading_at readings number = at_or_last readings number (record { secs = 0; word = 0 })
 
--- a script's tree, or too large where it does not keep to the bounds of a tree
+-- a script's tree, or too large where it does not keep to the bounds of a tree or has a path that is none of a configuration
 abbrev pub tree_or_too_large : TreeAnswer → TreeAnswer
 tree_or_too_large (ConfigTree tree) = if is_tree tree.files then ConfigTree tree else ConfigTooLarge
 tree_or_too_large _ = ConfigTooLarge

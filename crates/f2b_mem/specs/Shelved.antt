@@ -3,8 +3,9 @@ use Rattle.std.specs.Prelude.{ℕ, Option, Some, None, List, []}
 use Rattle.f2b_world.specs.declared.event.Event.{Event}
 use Rattle.f2b_world.specs.Shelves.{Shelf}
 use Rattle.f2b_world.specs.Faults.{Fault, OfPatterns, OfFiles}
-use Rattle.f2b_world.specs.Told.{History}
+use Rattle.f2b_world.specs.Told.{History, Standing}
 use Rattle.f2b_mem.specs.Files.{file_in}
+use Rattle.f2b_mem.specs.declared.calls.Calls.{Calls}
 use Rattle.f2b_mem.specs.declared.files.MemFiles.{MemFiles}
 
 abbrev pub shelf_of : MemFiles → Option Shelf
@@ -27,3 +28,10 @@ file_counts patterns files _ = 0
 
 abbrev pub faults_of : MemFiles → Fault → ℕ
 faults_of m = file_counts m.pattern_faults m.file_faults
+
+-- which calls fail, and how many were made
+abbrev pub calls_of : MemFiles → Calls
+calls_of m = m.calls
+
+abbrev pub stands_of : MemFiles → Standing
+stands_of m = record { told = made_of (book_of m); talk = None; shelf = shelf_of m; faults = faults_of m }

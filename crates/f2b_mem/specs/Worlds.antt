@@ -20,6 +20,9 @@ counts f OfGate = f.gate
 counts f OfLink = 0
 counts f OfFiles = 0
 
+abbrev pub faults_of : MemWorld → Fault → ℕ
+faults_of world = counts world.faults
+
 -- the script that a world plays
 abbrev pub script_of : MemWorld → Script
 script_of world = world.stage.script

@@ -1,9 +1,12 @@
 //! The answers of a world in memory.
-ghost use Rattle.std.specs.Prelude.{◌≡◌, ◌≢◌, ◌≤◌, ◌==◌, false, if◌then◌else◌, length, take, drop, option_copied, None, Some, IfOk, IsTrue};
+ghost use Rattle.std.specs.Prelude.{◌≡◌, ◌≢◌, ◌↔◌, ◌≤◌, ◌==◌, false, if◌then◌else◌, length, take, drop, option_copied, None, Some, IfOk, IsTrue, OnErr};
 ghost use Rattle.f2b_world.specs.Faults.{OfFiles};
 ghost use Rattle.f2b_world.specs.Told.{KeepsBounds, IsPieceOf, IsReceived};
 ghost use Rattle.f2b_world.specs.Reading.{IsAnswerTo, IsMadeOf};
 ghost use Rattle.f2b_world.specs.Bounds.{FitsLook, FitsPiece, FitsRead};
+ghost use Rattle.f2b_base.specs.declared.outside.TreeAnswer.TheVariants.{Failed as TreeFailed};
+ghost use Rattle.f2b_world.specs.declared.answer.FileAnswer.TheVariants.{Failed as FileFailed};
+ghost use Rattle.f2b_world.specs.declared.answer.FilePiece.TheVariants.{Failed as FilePieceFailed};
 ghost use Rattle.f2b_world.specs.declared.answer.Accept.TheVariants.{Failed as AcceptFailed};
 ghost use Rattle.f2b_world.specs.declared.answer.GateRead.TheVariants.{Failed as ReadFailed};
 ghost use Rattle.f2b_world.specs.declared.answer.GateWrite.TheVariants.{Took, Failed as TookFailed};
@@ -251,6 +254,8 @@ pub fn file_answer(
     ensures file { IfOk result (IsFile (option_copied content.entry)) }
     ensures fault { IfOk result (λ answer. file_fault answer ≡ (if failing then Some OfFiles else None)) }
     ensures bounds { IfOk result IsWholeFile }
+    ensures failing { IfOk result (λ answer. (answer ≡ FileFailed) ↔ IsTrue failing) }
+    ensures memory { OnErr result (failing ≡ false) }
 {
     if failing {
         return Ok(FileAnswer::Failed);
@@ -273,6 +278,8 @@ pub fn file_piece(
     ensures file { IfOk result (IsPieceAt (option_copied content.entry) at max) }
     ensures fault { IfOk result (λ answer. piece_fault answer ≡ (if failing then Some OfFiles else None)) }
     ensures bounds { IfOk result (IsShort max) }
+    ensures failing { IfOk result (λ answer. (answer ≡ FilePieceFailed) ↔ IsTrue failing) }
+    ensures memory { OnErr result (failing ≡ false) }
 {
     if failing {
         return Ok(FilePiece::Failed);
@@ -296,6 +303,8 @@ pub fn tree_answer(
     ensures file { IfOk result (λ answer. IsTreeOf dir.now answer (file_in files.now)) }
     ensures bounds { IfOk result KeepsTree }
     ensures fault { IfOk result (λ answer. tree_fault answer ≡ (if failing then Some OfFiles else None)) }
+    ensures failing { IfOk result (λ answer. (answer ≡ TreeFailed) ↔ IsTrue failing) }
+    ensures memory { OnErr result (failing ≡ false) }
 {
     if failing {
         return Ok(TreeAnswer::Failed);

@@ -7,6 +7,7 @@
 
 mod answers;
 mod book;
+mod calls;
 mod children;
 mod commands;
 mod content;

@@ -1,5 +1,5 @@
 //! Pieces of bytes.
-ghost use Rattle.std.specs.Prelude.{◌≡◌, ◌≤◌, length, take, drop, ◌-◌, IfOk};
+ghost use Rattle.std.specs.Prelude.{◌≡◌, ◌≤◌, length, take, drop, min, ◌-◌, IfOk};
 ghost use Rattle.f2b_world.specs.Bounds.{AreBytes};
 
 use f2b_base::{Bytes, NoMemory};
@@ -9,6 +9,7 @@ use std::alloc::Global;
 pub fn piece_of(bytes: &[u8], from: u64, max: u32) -> &[u8]
     ensures value { result.now ≡ take max (drop from bytes.now) }
     ensures short { length result.now ≤ max }
+    ensures size { length result.now ≡ min max (length bytes.now - from) }
     ensures within { length result.now ≤ length bytes.now - from }
 {
     if from >= bytes.len() as u64 {

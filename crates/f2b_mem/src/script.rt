@@ -41,7 +41,7 @@ pub struct Script {
     /// The readings of the clock, in order. The last stays; with none a reading is 0 and 0.
     pub readings: Seq<Reading>,
     /// The trees that configurations give, in order. The last stays; with none a tree is empty. One that does not keep to the bounds
-    /// of a tree is TooLarge, and so is an answer that is no tree.
+    /// of a tree is TooLarge, and so is one with a path that is none of a configuration, and an answer that is no tree.
     pub trees: Seq<TreeAnswer>,
     /// The files. Of several changes of a file that fit, the last in the list counts.
     pub changes: Seq<FileChange>,

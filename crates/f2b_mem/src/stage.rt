@@ -4,7 +4,7 @@ ghost use Rattle.f2b_base.specs.declared.outside.TreeAnswer.TheVariants.{Failed 
 ghost use Rattle.f2b_world.specs.declared.answer.PollAnswer.TheVariants.{Failed as PollFailed};
 ghost use Rattle.f2b_world.specs.declared.event.Event.TheVariants.{DiskWrite};
 ghost use Rattle.f2b_world.specs.Bounds.{FitsTree};
-ghost use Rattle.f2b_world.specs.Trees.{KeepsTree};
+ghost use Rattle.f2b_world.specs.Trees.{IsInByteOrder, KeepsTree};
 ghost use Rattle.f2b_mem.specs.Books.{WhereTold, is_kept};
 ghost use Rattle.f2b_mem.specs.Commands.{polled, ran_in};
 ghost use Rattle.f2b_mem.specs.Listings.{AreNames};
@@ -134,6 +134,7 @@ impl Stage {
     pub fn names(&self, alloc: Global, dir: &str) -> Result<Seq<Text>, NoMemory>
         ensures listed { IfOk result (λ names. WhereTold self.now.told (λ events. AreNames self.now.script.changes dir.now (count_by is_pause events) names)) }
         ensures texts { IfOk result (All IsUtf8) }
+        ensures ordered { IfOk result IsInByteOrder }
     {
         let changes = self.script.changes.as_slice();
         names_at(alloc, changes, dir, self.progress.counts.pauses)

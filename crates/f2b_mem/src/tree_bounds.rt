@@ -2,10 +2,11 @@
 ghost use Rattle.std.specs.Prelude.{◌≡◌, ◌&&◌, [], leb, length, All};
 ghost use Rattle.f2b_world.specs.Bounds.{FitsFile};
 ghost use Rattle.f2b_world.specs.Trees.{bytes_in};
-ghost use Rattle.f2b_mem.specs.TreeBounds.{are_ordered, is_tree};
+ghost use Rattle.f2b_mem.specs.TreeBounds.{are_configured, are_ordered, is_configured, is_tree};
 
 use crate::pieces::know_bytes;
 use f2b_base::TreeFile;
+use f2b_world::is_configured;
 
 /// The most files of a tree.
 const MOST_FILES: usize = 4096;
@@ -23,6 +24,25 @@ fn are_ordered(files: &[TreeFile]) -> bool
             return false;
         }
         before = path;
+    }
+    true
+}
+
+// Whether a path is one of a configuration.
+fn is_of_configuration(path: &str) -> bool
+    ensures { result ≡ is_configured path.now }
+{
+    is_configured(path)
+}
+
+// Whether all paths are those of a configuration.
+fn are_configured(files: &[TreeFile]) -> bool
+    ensures { result ≡ are_configured files.now }
+{
+    for file in files {
+        if !is_of_configuration(file.path.as_str()) {
+            return false;
+        }
     }
     true
 }
@@ -49,11 +69,11 @@ pub fn are_bounded(files: &[TreeFile]) -> bool
     files.len() <= MOST_FILES && are_small(files)
 }
 
-/// Whether files keep to the bounds of a tree.
+/// Whether files keep to the bounds of a tree, and their paths are those of a configuration.
 pub fn is_tree(files: &[TreeFile]) -> bool
     ensures { result ≡ is_tree files.now }
 {
-    are_bounded(files) && are_ordered(files)
+    are_bounded(files) && are_ordered(files) && are_configured(files)
 }
 
 // Its path is UTF-8, and its content bytes.

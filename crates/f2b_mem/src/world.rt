@@ -21,13 +21,15 @@ pub struct MemWorld {
 }
 
 impl MemWorld {
-    ghost use Rattle.f2b_mem.specs.Worlds.{script_of, events_of};
+    ghost use Rattle.f2b_world.specs.Faults.{Fault};
+    ghost use Rattle.f2b_mem.specs.Worlds.{script_of, events_of, faults_of};
 
     /// A world in which nothing has happened yet. It is told, and its slots hold what the script says.
     pub fn new(alloc: Global, script: Script) -> Result<MemWorld, NoMemory>
         requires { length script.clients < 2 ^ 32 }
         ensures script { IfOk result (λ world. script_of world ≡ script) }
         ensures told { IfOk result (λ world. events_of world ≡ Some []) }
+        ensures faults { IfOk result (λ world. (kind : Fault) → faults_of world kind ≡ 0) }
     {
         Ok(MemWorld {
             alloc,
@@ -41,6 +43,7 @@ impl MemWorld {
         requires { length script.clients < 2 ^ 32 }
         ensures script { IfOk result (λ world. script_of world ≡ record script { image = image }) }
         ensures told { IfOk result (λ world. events_of world ≡ Some []) }
+        ensures faults { IfOk result (λ world. (kind : Fault) → faults_of world kind ≡ 0) }
     {
         let mut script = script;
         script.image = image;
