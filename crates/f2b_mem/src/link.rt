@@ -6,7 +6,6 @@ ghost use Rattle.f2b_world.specs.Told.{Spoken};
 ghost use Rattle.f2b_world.specs.declared.answer.Linked.TheVariants.{Connected, Failed as LinkFailed};
 ghost use Rattle.f2b_world.specs.declared.answer.LinkRead.TheVariants.{Failed as LinkReadFailed};
 ghost use Rattle.f2b_mem.specs.Calls.{fails_next, one_more};
-ghost use Rattle.f2b_mem.specs.Talks.{link_counts};
 
 use crate::answers::link_answer;
 use crate::calls::Calls;
@@ -56,17 +55,6 @@ fn keep_sent(sent: &mut Bytes, bytes: &[u8]) -> bool
     sent.push_slice(bytes).is_ok()
 }
 
-// Counts a call and its fault, and answers whether it fails.
-fn count_call(calls: &mut Calls, faults: &mut u64) -> bool
-    ensures failing { result ≡ fails_next calls.old }
-    ensures calls { calls.new ≡ one_more calls.old }
-    ensures counts { Counted (if result then Some OfLink else None) (link_counts faults.old) (link_counts faults.new) }
-{
-    let failing = calls.count();
-    *faults = counted(*faults, failing);
-    failing
-}
-
 // How many bytes were given after some more of them.
 fn given_after(size: usize, given: usize, count: usize) -> usize
     requires { count ≤ size - given }
@@ -79,7 +67,7 @@ impl MemLink {
     ghost use Rattle.std.specs.Prelude.{ℕ, List, false, [], min, IfOk, IfSome};
     ghost use Rattle.f2b_world.specs.Faults.{Fault};
     ghost use Rattle.f2b_mem.specs.Calls.{none_made};
-    ghost use Rattle.f2b_mem.specs.Talks.{talk_in, bytes_of, calls_of, faults_of, piece_of, rest_of, Gives};
+    ghost use Rattle.f2b_mem.specs.Talks.{talk_in, bytes_of, calls_of, faults_of, link_counts, piece_of, rest_of, Gives};
 
     /// A connection on which nothing was said yet. The calls at these places, from 0, fail.
     pub fn new(
@@ -125,6 +113,17 @@ impl MemLink {
         ensures end { IfSome (talk_in self.now) (λ talk. talk.ended ≡ true → talk.received ≡ bytes_of self.now) }
     {
         self.bytes.as_slice()
+    }
+
+    // Counts a call and its fault, and answers whether it fails.
+    fn count_call(calls: &mut Calls, faults: &mut u64) -> bool
+        ensures failing { result ≡ fails_next calls.old }
+        ensures calls { calls.new ≡ one_more calls.old }
+        ensures counts { Counted (if result then Some OfLink else None) (link_counts faults.old) (link_counts faults.new) }
+    {
+        let failing = calls.count();
+        *faults = counted(*faults, failing);
+        failing
     }
 
     // Gives the next bytes, or the end where all were given.
@@ -173,7 +172,7 @@ impl Link for MemLink {
         ensures piece { piece_of self.new ≡ piece_of self.old }
         ensures calls { calls_of self.new ≡ one_more (calls_of self.old) }
     {
-        if count_call(&mut self.calls, &mut self.faults) {
+        if MemLink::count_call(&mut self.calls, &mut self.faults) {
             return Linked::Failed;
         }
         let kept = keep_server(self.alloc, &mut self.server, path);
@@ -190,7 +189,7 @@ impl Link for MemLink {
         ensures piece { piece_of self.new ≡ piece_of self.old }
         ensures calls { calls_of self.new ≡ one_more (calls_of self.old) }
     {
-        if count_call(&mut self.calls, &mut self.faults) {
+        if MemLink::count_call(&mut self.calls, &mut self.faults) {
             return Linked::Failed;
         }
         let kept = keep_sent(&mut self.sent, bytes);
@@ -208,7 +207,7 @@ impl Link for MemLink {
         ensures piece { piece_of self.new ≡ piece_of self.old }
         ensures calls { calls_of self.new ≡ one_more (calls_of self.old) }
     {
-        if count_call(&mut self.calls, &mut self.faults) {
+        if MemLink::count_call(&mut self.calls, &mut self.faults) {
             return LinkRead::Failed;
         }
         self.give(max)
