@@ -2,14 +2,16 @@
 //!
 //! The tree is walked first, so that one that is too large is known before any of its files is read. Only regular files are
 //! opened: a directory or a pipe with the name of a file of a configuration is passed over, as a link that leads nowhere is.
-ghost use Rattle.std.specs.Prelude.{◌≤◌, IfOk, length, map, string_bytes, vec_len};
+ghost use Rattle.std.specs.Prelude.{◌≡◌, ◌≤◌, ◌↔◌, All, IfOk, IsTrue, length, map, string_bytes, vec_len};
 ghost use Rattle.f2b_base.specs.declared.outside.TreeAnswer.TheVariants.{Tree as ConfigTree};
 ghost use Rattle.f2b_world.specs.Bounds.{FitsTree};
-ghost use Rattle.f2b_world.specs.Trees.{IsInByteOrder, IsTree};
+ghost use Rattle.f2b_world.specs.Trees.{IsConfigured, IsInByteOrder, IsTree};
+ghost use Rattle.fail2ban_server.specs.Paths.{IsName, joined_path};
 
 use crate::fault::Fault;
 use crate::regular::open_regular;
 use f2b_base::{NoMemory, Seq, Text, Tree, TreeFile};
+use f2b_world::is_configured;
 use std::alloc::{AllocError, AllocFailed, AllocGlobal, Global};
 use std::fs::DirEntry;
 use std::io::ErrorKind;
@@ -71,10 +73,14 @@ struct Walk {
     /// The directories in the root itself.
     dirs: Vec<String>,
     ghost few: { length files.items ≤ 4096 },
+    ghost configured: { ∥ All (λ path. IsConfigured (string_bytes path)) files.items ∥₁ },
+    ghost direct: { All (λ dir. IsName (string_bytes dir)) dirs.items },
 }
 
 impl Walk {
-    fn add_file(&mut self, path: String, len: u64) -> Result<(), TreeFault> {
+    fn add_file(&mut self, path: String, len: u64) -> Result<(), TreeFault>
+        requires { IsConfigured (string_bytes path) }
+    {
         let bytes = self.bytes.saturating_add(len);
         if self.files.len() >= MOST_FILES || bytes > MOST_BYTES {
             return Err(TreeFault::TooLarge);
@@ -84,8 +90,17 @@ impl Walk {
         Ok(())
     }
 
+    fn add_dir(&mut self, dir: String) -> Result<(), TreeFault>
+        requires { IsName (string_bytes dir) }
+    {
+        self.dirs.push(dir)?;
+        Ok(())
+    }
+
     /// Takes out the directories.
-    fn take_dirs(&mut self, alloc: Global) -> Vec<String> {
+    fn take_dirs(&mut self, alloc: Global) -> Vec<String>
+        ensures { All (λ dir. IsName (string_bytes dir)) result.items }
+    {
         mem::replace(&mut self.dirs, Vec::new(alloc))
     }
 
@@ -93,6 +108,7 @@ impl Walk {
     fn into_paths(self) -> Result<Vec<String>, AllocError>
         ensures few { IfOk result (λ paths. vec_len paths ≤ 4096) }
         ensures ordered { IfOk result (λ paths. IsInByteOrder (map string_bytes paths.items)) }
+        ensures configured { IfOk result (λ paths. All IsConfigured (map string_bytes paths.items)) }
     {
         let Walk { mut files, .. } = self;
         files.sort()?;
@@ -128,7 +144,9 @@ fn walk_directory<R: Files + AllocGlobal + Clone + Drop>(
     root: &str,
     dir: &str,
     walk: &mut Walk,
-) -> Result<(), TreeFault> {
+) -> Result<(), TreeFault>
+    requires { IsName dir.now }
+{
     let place = joined(rt.alloc(), root, dir)?;
     for entry in fs::read_dir(rt, place.as_str())? {
         match entry {
@@ -146,9 +164,11 @@ fn walk_entry<R: Files + AllocGlobal>(
     entry: &DirEntry<R>,
     walk: &mut Walk,
 ) -> Result<(), TreeFault> {
-    let name = entry.file_name();
-    let is_configuration = name.ends_with(".conf") || name.ends_with(".local");
-    if !is_configuration && !dir.is_empty() {
+    // Both are asked of the path, since the library does not say that a name has no slash.
+    let path = joined(rt.alloc(), dir, entry.file_name())?;
+    let is_configuration = is_configured(path.as_str());
+    let is_in_root = is_name(path.as_str());
+    if !is_configuration && !is_in_root {
         return Ok(());
     }
     let metadata = match fs::metadata(rt, entry.path()) {
@@ -156,13 +176,19 @@ fn walk_entry<R: Files + AllocGlobal>(
         Err(e) if leads_nowhere(e.kind()) => return Ok(()),
         Err(e) => return Err(TreeFault::from(e)),
     };
-    let path = joined(rt.alloc(), dir, name)?;
     if metadata.is_file() && is_configuration {
         walk.add_file(path, metadata.len())?;
-    } else if metadata.is_dir() && dir.is_empty() {
-        walk.dirs.push(path)?;
+    } else if metadata.is_dir() && is_in_root {
+        walk.add_dir(path)?;
     }
     Ok(())
+}
+
+/// Whether a path has no slash.
+fn is_name(path: &str) -> bool
+    ensures { IsTrue result ↔ IsName path.now }
+{
+    path.as_bytes().iter().all(|byte| *byte != b'/')
 }
 
 /// Whether it is the error of a link to nothing, or of a file that has gone.
@@ -180,6 +206,7 @@ fn read_files<R: Files + AllocGlobal>(
 ) -> Result<Tree, TreeFault>
     requires few { length paths.now ≤ 4096 }
     requires ordered { IsInByteOrder (map string_bytes paths.now) }
+    requires configured { All IsConfigured (map string_bytes paths.now) }
     ensures tree { IfOk result IsTree }
     ensures fits { IfOk result (λ tree. FitsTree (ConfigTree tree)) }
 {
@@ -203,7 +230,9 @@ fn read_files<R: Files + AllocGlobal>(
 }
 
 /// A name in a directory as a path. Either may be empty.
-fn joined(alloc: Global, dir: &str, name: &str) -> Result<String, AllocError> {
+fn joined(alloc: Global, dir: &str, name: &str) -> Result<String, AllocError>
+    ensures { IfOk result (λ path. string_bytes path ≡ joined_path dir.now name.now) }
+{
     let mut path = String::from_str(alloc, dir)?;
     if !dir.is_empty() && !name.is_empty() {
         path.push('/')?;
