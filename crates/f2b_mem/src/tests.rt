@@ -277,6 +277,28 @@ fn gives_a_link_in_pieces(rt: HostRuntime) -> Result<(), Fail> {
     Ok(())
 }
 
+fn failing_second(alloc: Global) -> Result<Seq<u64>, NoMemory> {
+    let mut fails = Seq::new(alloc);
+    fails.push(1)?;
+    Ok(fails)
+}
+
+// The second call fails, and nothing is lost by it.
+fn receives_after_a_fault(alloc: Global) -> Result<bool, NoMemory> {
+    let bytes = Bytes::from_slice(alloc, b"ab")?;
+    let mut link = MemLink::new(alloc, bytes, 1, failing_second(alloc)?)?;
+    let first = receives(&mut link, b"a");
+    let second = link.receive(9) == LinkRead::Failed;
+    let third = receives(&mut link, b"b");
+    Ok(first && second && third)
+}
+
+#[test]
+fn goes_on_after_a_fault_of_a_link(rt: HostRuntime) -> Result<(), Fail> {
+    assert!(rt; receives_after_a_fault(rt.alloc())?);
+    Ok(())
+}
+
 fn reads(files: &mut MemFiles, path: &str) -> bool {
     let whole = match files.read(path) {
         FileAnswer::Bytes(bytes) => bytes.as_slice() == b"abc".as_slice(),
@@ -303,6 +325,22 @@ fn gives_files_in_pieces(rt: HostRuntime) -> Result<(), Fail> {
     })?;
     let mut files = MemFiles::new(alloc, list, Seq::new(alloc))?;
     assert!(rt; reads(&mut files, "/c/jail.d/a.conf"));
+    Ok(())
+}
+
+// The second call fails, and the next is answered as ever.
+fn reads_after_a_fault(alloc: Global) -> Result<bool, NoMemory> {
+    let mut list = Seq::new(alloc);
+    add_file(alloc, &mut list, "/c/a.conf", b"abc")?;
+    let mut files = MemFiles::new(alloc, list, failing_second(alloc)?)?;
+    let first = files.read("/c/none") == FileAnswer::Absent;
+    let second = files.read("/c/a.conf") == FileAnswer::Failed;
+    Ok(first && second && reads(&mut files, "/c/a.conf"))
+}
+
+#[test]
+fn goes_on_after_a_fault_of_files(rt: HostRuntime) -> Result<(), Fail> {
+    assert!(rt; reads_after_a_fault(rt.alloc())?);
     Ok(())
 }
 
