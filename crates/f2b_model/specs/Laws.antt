@@ -20,7 +20,7 @@ use Rattle.f2b_model.specs.Told.{jails_told}
 use Rattle.f2b_model.specs.Active.{held}
 use Rattle.f2b_model.specs.LaneSound.{IsBanStep, is_banned_in}
 use Rattle.f2b_model.specs.Jobs.{pending, settled, head}
-use Rattle.f2b_model.specs.Turns.{bans_and_unbans, Alternate, last_is_ban}
+use Rattle.f2b_model.specs.Turns.{kinds_of, Alternate, last_is_ban}
 use Rattle.f2b_model.specs.Views.{spread, gathered, view_of, back, empty_view}
 use Rattle.f2b_model.specs.Whole.{State, Now, now_of, step, steps, step_now, told, told_now, empty_state}
 use Rattle.f2b_model.specs.Windows.{IsRising, IsFullBy, HasRun}
@@ -94,9 +94,9 @@ pub record WholeLaw : Type 0 where
   pub kept_sound : (v : View) (input : Input) → IsFit input → IsSoundView v → IsSoundView (spread (step_now (gathered v) input))
   -- what a step tells depends on the view alone
   pub told_alike : (s t : State) (input : Input) → IsFit input → IsSound s → IsSound t → view_of s ≡ view_of t → told s input ≡ told t input
-  -- over all jobs that were ever made, the bans and unbans of an address in a lane alternate, beginning with a ban
-  pub alternate : (inputs : List Input) → AllOf IsFit inputs → (id : LaneId) (addr : Addr) → Alternate false (bans_and_unbans id addr (steps empty_state inputs).lanes.jobs.made)
-  -- where a lane has no pending job, the addresses whose last settled job is a ban are the active ones of its family where it is up, and none where it is down
+  -- over all jobs that were ever made, in each epoch of a lane bans and unbans of an address alternate, beginning with a ban or a ban once more
+  pub alternate : (inputs : List Input) → AllOf IsFit inputs → (id : LaneId) (addr : Addr) → Alternate false (kinds_of id addr (steps empty_state inputs).lanes.jobs.made)
+  -- where a lane has no pending job, the addresses whose last settled job of its last epoch bans are the active ones of its family where it is up, and none where it is down
   pub settled : (inputs : List Input) → AllOf IsFit inputs → (id : LaneId) (addr : Addr) → head id (pending (steps empty_state inputs).lanes.jobs) ≡ None
-      → last_is_ban false (bans_and_unbans id addr (settled (steps empty_state inputs).lanes.jobs))
+      → last_is_ban false (kinds_of id addr (settled (steps empty_state inputs).lanes.jobs))
       ≡ is_banned_in (steps empty_state inputs).lanes.up (held moves (steps empty_state inputs).world) id addr

@@ -18,10 +18,14 @@ mod fill;
 mod happening;
 mod jail_now;
 mod job_laws;
+mod lane_happening;
 mod laws;
+mod told;
 
 pub use fill::Fill;
 pub use happening::Happening;
 pub use jail_now::JailNow;
 pub use job_laws::{job_law, render_law};
+pub use lane_happening::LaneHappening;
 pub use laws::{full_law, jails_law, whole_law};
+pub use told::Told;
