@@ -27,6 +27,9 @@ pub mod ToldOrderLemmas
 pub mod InLemmas
 pub mod LaneStepLemmas
 pub mod LaneOrderLemmas
+pub mod IdLemmas
+pub mod CheckLemmas
+pub mod ShownLemmas
 pub mod LaneNowLemmas
 pub mod LaneBackLemmas
 pub mod LaneLawLemmas

@@ -8,11 +8,7 @@ pub enum Happening {
     /// A failure of the address was counted.
     Counts { jail: Text, addr: Addr },
     /// A ban began. `matches` has the lines of the failures that led to it, as its commands show them.
-    Begins {
-        jail: Text,
-        ban: Ban,
-        matches: Text,
-    },
+    Begins { jail: Text, ban: Ban, matches: Text },
     /// A ban ended, by time or by command.
     Ends { jail: Text, ban: Ban },
 }

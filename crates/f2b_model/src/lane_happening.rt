@@ -13,9 +13,14 @@ pub enum LaneHappening {
         last: bool,
     },
     /// The check of the lane failed.
-    CheckFails { lane: LaneId, outcome: Outcome },
+    CheckFails {
+        lane: LaneId,
+        outcome: Outcome,
+    },
     /// The lane stops and starts anew, since its check failed.
-    Restarts { lane: LaneId },
+    Restarts {
+        lane: LaneId,
+    },
 }
 
 impl Plain for LaneHappening {
