@@ -12,6 +12,7 @@ pub mod ToldLemmas
 pub mod NumberLemmas
 pub mod WatchLemmas
 pub mod WindowLemmas
+pub mod JoinLemmas
 pub mod StandLemmas
 pub mod PartLemmas
 pub mod Rows

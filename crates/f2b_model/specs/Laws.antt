@@ -23,7 +23,7 @@ use Rattle.f2b_model.specs.Jobs.{pending, settled, head}
 use Rattle.f2b_model.specs.Turns.{kinds_of, Alternate, last_is_ban}
 use Rattle.f2b_model.specs.Views.{spread, gathered, view_of, back, empty_view}
 use Rattle.f2b_model.specs.Whole.{State, Now, now_of, step, steps, step_now, told, told_now, empty_state}
-use Rattle.f2b_model.specs.Windows.{IsRising, IsFullBy, HasRun}
+use Rattle.f2b_model.specs.Windows.{IsRising, IsFullBy, HasRun, times_of}
 
 -- in each jail the serials of the active bans rise, and all are below the next one
 abbrev pub AreNumbered : JailsNow → Type 0
@@ -66,6 +66,8 @@ pub record FullLaw : Type 0 where
   pub neighbours : (findtime maxretry : ℕ) (ts : List ℕ) → IsRising ts → 1 ≤ maxretry → IsFullBy findtime maxretry ts ↔ HasRun findtime maxretry ts
   pub short : (findtime maxretry now : ℕ) (ts : List ℕ) → 1 ≤ maxretry → (IsFullBy findtime maxretry ts → ⊥)
       → AllOf (λ t. (t ≤ now) × (now < t + 2 * findtime)) ts → length ts ≤ 2 * maxretry - 2
+  -- so the three forms are one: an address is full exactly where of its failures, in order of time, some `maxretry` side by side are close
+  pub joined : (findtime maxretry : ℕ) (addr : Addr) (fs : List Failure) → 1 ≤ maxretry → IsFull findtime maxretry addr fs ↔ HasRun findtime maxretry (times_of addr fs)
   -- a window stands for all failures since it began, and is full where they are
   pub added : (last now findtime : ℕ) (kept whole : List Failure) (f : Failure) → StandsFor last findtime kept whole → last ≤ now → now < f.time + findtime
       → StandsFor now findtime (filter (is_late now findtime) (placed comes_before f kept)) (whole ++ f ∷ [])

@@ -1,4 +1,5 @@
 use Rattle.f2b_model.specs.Lanes.{books}
+use Rattle.f2b_model.proofs.CheckLemmas.{voids_leave}
 use Rattle.f2b_model.proofs.ConfiguredLemmas.{configured_up}
 use Rattle.f2b_model.proofs.LaneBackLemmas.{pending_bounds, lanes_again, back_sound, now_bounds}
 use Rattle.f2b_model.proofs.LaneLawLemmas.{alternates, settled_bans, stand_pushed, stand_ended, next_due_is_next}
@@ -14,6 +15,7 @@ returns c = record {
   settled = settled_bans;
   pushed = stand_pushed;
   ended = stand_ended;
+  voids = voids_leave;
   next = next_due_is_next;
   now = λ base held at what mid after told l sound. lanes_now_step at what mid after told l (ordered_below l sound.jobs);
   up = configured_up books;
