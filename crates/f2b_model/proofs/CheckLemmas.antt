@@ -10,7 +10,7 @@ use Rattle.f2b_base.specs.declared.job.UpLane.{UpLane}
 use Rattle.f2b_base.specs.Limits.{last_moment}
 use Rattle.f2b_model.specs.Checks.{is_closing, is_stop, lane_of, checked_lane, void_ids, left_by_check, voided_at}
 use Rattle.f2b_model.specs.Families.{same_lane}
-use Rattle.f2b_model.specs.Jobs.{Ending, Ledger, pending, head, has_id, settle_in, with_ending, ArePending}
+use Rattle.f2b_model.specs.Jobs.{Ending, Ledger, pending, head, has_id, settle_in, with_ending, AreById}
 use Rattle.f2b_model.specs.LaneSound.{IsHeldOnce, IsInTurn, IsOrdered}
 use Rattle.f2b_model.specs.Lanes.{Books, Lanes, books, books_now, issue, void_all, restarted, lane_failed, failed_in, check_failed}
 use Rattle.f2b_model.specs.Lists.{IsIn}
@@ -18,17 +18,18 @@ use Rattle.f2b_model.specs.Orders.{Held, lane_id, is_lane, is_up, restart_orders
 use Rattle.f2b_model.proofs.InLemmas.{in_any}
 use Rattle.f2b_model.proofs.JobLemmas.{pending-with_ending}
 use Rattle.f2b_model.proofs.LaneMoveLemmas.{restart_keeps}
-use Rattle.f2b_model.proofs.OrderLemmas.{ArePending_from, ending_keeps, jobs_keep, pending_ordered}
+use Rattle.f2b_model.proofs.ByIdLemmas.{by_id_from, by_id_pending}
+use Rattle.f2b_model.proofs.OrderLemmas.{ending_keeps, jobs_keep, pending_ordered}
 use Rattle.f2b_model.proofs.SameLemmas.{same_lane-same}
 
 -- ---- the jobs that are voided
 
 -- an ending of a job in front of these changes none of them
-stays : (e : Ending) (from : ℕ) (jobs : List Job) (next : ℕ) → ArePending from jobs next → e.job < from → settle_in e jobs ≡ jobs
+stays : (e : Ending) (from : ℕ) (jobs : List Job) (next : ℕ) → AreById from jobs next → e.job < from → settle_in e jobs ≡ jobs
 stays e from [] next rise less = refl
 stays e from (job ∷ jobs) next rise less =
     let no : (e.job == job.id) ≡ false = ne_eqb e.job job.id (λ same. absurd (omega (arith, same, rise.0, less))) in
-    rw no (ap (λ rest. job ∷ rest) (stays e (job.id + 1) jobs next rise.2 (omega (arith, rise.0, less))))
+    rw no (ap (λ rest. job ∷ rest) (stays e (job.id + 1) jobs next rise.1 (omega (arith, rise.0, less))))
 
 -- the first job that is voided is the first of the lane, and without it the others are voided
 record VoidsFirst (at : ℕ) (lane : LaneId) (from : ℕ) (jobs : List Job) (next n : ℕ) (rest : List ℕ) : Type 0 where
@@ -36,9 +37,9 @@ record VoidsFirst (at : ℕ) (lane : LaneId) (from : ℕ) (jobs : List Job) (nex
   above : from ≤ n
   then_rest : void_ids lane (settle_in (voided_at n at) jobs) ≡ rest
   left : left_by_check lane (settle_in (voided_at n at) jobs) ≡ left_by_check lane jobs
-  still : ArePending from (settle_in (voided_at n at) jobs) next
+  still : AreById from (settle_in (voided_at n at) jobs) next
 
-voids_first : (at : ℕ) (lane : LaneId) (from : ℕ) (jobs : List Job) (next n : ℕ) (rest : List ℕ) → ArePending from jobs next → void_ids lane jobs ≡ n ∷ rest → VoidsFirst at lane from jobs next n rest
+voids_first : (at : ℕ) (lane : LaneId) (from : ℕ) (jobs : List Job) (next n : ℕ) (rest : List ℕ) → AreById from jobs next → void_ids lane jobs ≡ n ∷ rest → VoidsFirst at lane from jobs next n rest
 voids_first at lane from [] next n rest rise is = absurd (let w : [] ≡ n ∷ rest = is in cc)
 voids_first at lane from (job ∷ jobs) next n rest rise is = elim (cases_Bool (same_lane job.lane lane)) [
   | inl h ↦ elim (cases_Bool (is_stop job.kind)) [
@@ -48,24 +49,24 @@ voids_first at lane from (job ∷ jobs) next n rest rise is = elim (cases_Bool (
         let id : job.id ≡ n = cc in
         let ids : void_ids lane jobs ≡ rest = cc in
         let here : (n == job.id) ≡ true = eq-eqb n job.id (sym id) in
-        let same : settle_in (voided_at n at) jobs ≡ jobs = stays (voided_at n at) (job.id + 1) jobs next rise.2 (omega (arith, id)) in
+        let same : settle_in (voided_at n at) jobs ≡ jobs = stays (voided_at n at) (job.id + 1) jobs next rise.1 (omega (arith, id)) in
         record {
           first = rw h (eq-eqb job.id n id);
           above = omega (arith, id, rise.0);
           then_rest = rw here (ap (void_ids lane) same ∙ ids);
           left = rw (here, h, k) (ap (left_by_check lane) same);
-          still = rw here (subst (λ (js : List Job). ArePending from js next) (sym same) (ArePending_from from (job.id + 1) jobs next (omega (arith, rise.0)) rise.2));
+          still = rw here (subst (λ (js : List Job). AreById from js next) (sym same) (by_id_from from (job.id + 1) jobs next (omega (arith, rise.0)) rise.1));
         }
   ]
   | inr h ↦
-      let on : VoidsFirst at lane (job.id + 1) jobs next n rest = voids_first at lane (job.id + 1) jobs next n rest rise.2 (rw h at is) in
+      let on : VoidsFirst at lane (job.id + 1) jobs next n rest = voids_first at lane (job.id + 1) jobs next n rest rise.1 (rw h at is) in
       let no : (n == job.id) ≡ false = ne_eqb n job.id (λ same. absurd (omega (arith, same, on.above))) in
       record {
         first = rw h on.first;
         above = omega (arith, on.above, rise.0);
         then_rest = rw (no, h) on.then_rest;
         left = rw (no, h) (ap (λ js. job ∷ js) on.left);
-        still = rw no (rise.0, rise.1, on.still);
+        still = rw no (rise.0, on.still);
       }
 ]
 
@@ -80,13 +81,13 @@ left_same lane (job ∷ jobs) is = elim (cases_Bool (same_lane job.lane lane)) [
 ]
 
 -- of pending jobs those are left that are not voided
-left_ids : (at : ℕ) (lane : LaneId) (ids : List ℕ) (from next : ℕ) (n : Lanes (List Job)) → ArePending from n.jobs next → void_ids lane n.jobs ≡ ids → (void_all books_now at ids n).jobs ≡ left_by_check lane n.jobs
+left_ids : (at : ℕ) (lane : LaneId) (ids : List ℕ) (from next : ℕ) (n : Lanes (List Job)) → AreById from n.jobs next → void_ids lane n.jobs ≡ ids → (void_all books_now at ids n).jobs ≡ left_by_check lane n.jobs
 left_ids at lane [] from next n rise is = left_same lane n.jobs is
 left_ids at lane (id ∷ ids) from next n rise is =
     let one = voids_first at lane from n.jobs next id ids rise is in
     left_ids at lane ids from next (record n { jobs = settle_in (voided_at id at) n.jobs }) one.still one.then_rest ∙ one.left
 
-pub voids_leave : (at : ℕ) (lane : LaneId) (from next : ℕ) (n : Lanes (List Job)) → ArePending from n.jobs next → (void_all books_now at (void_ids lane n.jobs) n).jobs ≡ left_by_check lane n.jobs
+pub voids_leave : (at : ℕ) (lane : LaneId) (from next : ℕ) (n : Lanes (List Job)) → AreById from n.jobs next → (void_all books_now at (void_ids lane n.jobs) n).jobs ≡ left_by_check lane n.jobs
 voids_leave at lane from next n rise = left_ids at lane (void_ids lane n.jobs) from next n rise refl
 
 -- ---- what stays the same
@@ -170,7 +171,7 @@ check_turn base at held job l once is = failed_in_turn base at held (checked_lan
 void_all_ordered : (at : ℕ) (lane : LaneId) (ids : List ℕ) (l : Lanes Ledger) → IsOrdered l.jobs l.next_job → void_ids lane (pending l.jobs) ≡ ids → IsOrdered (void_all books at ids l).jobs (void_all books at ids l).next_job
 void_all_ordered at lane [] l h is = h
 void_all_ordered at lane (id ∷ ids) l h is =
-    let one = voids_first at lane 0 (pending l.jobs) l.next_job id ids (pending_ordered l.jobs l.next_job h) is in
+    let one = voids_first at lane 0 (pending l.jobs) l.next_job id ids (by_id_pending 0 (pending l.jobs) l.next_job (pending_ordered l.jobs l.next_job h)) is in
     void_all_ordered at lane ids (record l { jobs = with_ending l.jobs (voided_at id at) }) (ending_keeps l.jobs l.next_job (voided_at id at) lane h one.first)
     (ap (void_ids lane) (pending-with_ending l.jobs (voided_at id at)) ∙ one.then_rest)
 

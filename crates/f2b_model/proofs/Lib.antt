@@ -29,7 +29,11 @@ pub mod InLemmas
 pub mod LaneStepLemmas
 pub mod LaneOrderLemmas
 pub mod IdLemmas
+pub mod ByIdLemmas
 pub mod CheckLemmas
+pub mod CarryLemmas
+pub mod DueLemmas
+pub mod StartLemmas
 pub mod ShownLemmas
 pub mod LaneNowLemmas
 pub mod LaneBackLemmas

@@ -10,7 +10,7 @@ use Rattle.f2b_base.specs.declared.job.LaneId.{LaneId}
 use Rattle.f2b_base.specs.declared.job.UpLane.{UpLane}
 use Rattle.f2b_model.specs.declared.happening.Happening.{Happening}
 use Rattle.f2b_model.specs.Checks.{void_ids, left_by_check}
-use Rattle.f2b_model.specs.Jobs.{Ending, Ledger, pending, settled, head, next_due, settle_in, with_jobs, with_ending, StandFor, ArePending}
+use Rattle.f2b_model.specs.Jobs.{Ending, Ledger, pending, settled, head, next_due, settle_in, with_jobs, with_ending, StandFor, ArePending, AreById}
 use Rattle.f2b_model.specs.LaneSound.{AreApart, AreSoundLanes, IsBanStep, IsFitForLanes, IsOrdered, is_banned_in, never}
 use Rattle.f2b_model.specs.Lanes.{Lanes, books, books_now, void_all, lanes_step, first_lanes, lanes_of, lanes_now, lanes_from}
 use Rattle.f2b_model.specs.Lists.{IsIn}
@@ -46,7 +46,7 @@ pub record JobLaw : Type 0 where
       → StandFor (jobs ++ numbered next at os) (with_jobs l (numbered next at os))
   pub ended : (jobs : List Job) (l : Ledger) (e : Ending) → StandFor jobs l → StandFor (settle_in e jobs) (with_ending l e)
   -- a check that fails voids the jobs of its lane up to its first Stop, and leaves all others as they are
-  pub voids : (at : ℕ) (lane : LaneId) (from top : ℕ) (n : Lanes (List Job)) → ArePending from n.jobs top → (void_all books_now at (void_ids lane n.jobs) n).jobs ≡ left_by_check lane n.jobs
+  pub voids : (at : ℕ) (lane : LaneId) (from top : ℕ) (n : Lanes (List Job)) → AreById from n.jobs top → (void_all books_now at (void_ids lane n.jobs) n).jobs ≡ left_by_check lane n.jobs
   -- the job that is tried next is the least of those that may be
   pub next : (now : ℕ) (running : List ℕ) (jobs : List Job) (from top : ℕ) → ArePending from jobs top → IsNext now running jobs (next_due now running jobs)
   -- the step of lanes is seen in their pending jobs as its step

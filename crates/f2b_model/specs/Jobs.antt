@@ -129,6 +129,11 @@ abbrev pub AllIdsBelow : ℕ → List Job → Type 0
 AllIdsBelow next [] = Unit {0}
 AllIdsBelow next (job ∷ jobs) = (job.id < next) × AllIdsBelow next jobs
 
+-- the ids rise, from a number on and below another
+abbrev pub AreById : ℕ → List Job → ℕ → Type 0
+AreById from [] next = from ≤ next
+AreById from (job ∷ jobs) next = (from ≤ job.id) × AreById (job.id + 1) jobs next
+
 -- ---- what an ending does to pending jobs
 
 -- how many seconds a job waits after a failed try, by the failed tries before it

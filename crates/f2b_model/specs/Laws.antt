@@ -15,6 +15,7 @@ use Rattle.f2b_model.specs.State.{JailsState}
 use Rattle.f2b_model.specs.Nows.{comes_before, JailsNow, jails_now_of, jails_from}
 use Rattle.f2b_model.specs.Steps.{moves, moves_now, is_spent, at_reading, jails_step, jails_steps, jails_step_now, first_jails, first_jails_now}
 use Rattle.f2b_model.specs.Sound.{AreFitDefs, IsFit, IsNumbered, IsSound, IsSoundView, AreSoundJails}
+use Rattle.f2b_model.specs.Starts.{IsStartsLaw}
 use Rattle.f2b_model.specs.Stands.{StandsFor, IsShown}
 use Rattle.f2b_model.specs.Told.{jails_told}
 use Rattle.f2b_model.specs.Active.{held}
@@ -102,3 +103,5 @@ pub record WholeLaw : Type 0 where
   pub settled : (inputs : List Input) → AllOf IsFit inputs → (id : LaneId) (addr : Addr) → head id (pending (steps empty_state inputs).lanes.jobs) ≡ None
       → last_is_ban false (kinds_of id addr (settled (steps empty_state inputs).lanes.jobs))
       ≡ is_banned_in (steps empty_state inputs).lanes.up (held moves (steps empty_state inputs).world) id addr
+  -- starts that fail come to an end: each leaves fewer tries or fewer checks
+  pub starts : IsStartsLaw

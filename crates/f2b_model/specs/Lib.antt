@@ -25,6 +25,7 @@ pub mod LanesTold
 pub mod LaneSound
 pub mod Active
 pub mod Whole
+pub mod Starts
 pub mod Views
 pub mod JobLaws
 pub mod RenderLaws
