@@ -34,6 +34,7 @@ pub mod CheckLemmas
 pub mod CarryLemmas
 pub mod DueLemmas
 pub mod StartLemmas
+pub mod LaterLemmas
 pub mod ShownLemmas
 pub mod LaneNowLemmas
 pub mod LaneBackLemmas

@@ -225,7 +225,7 @@ restarted_checks at hs None l = refl
 restarted_checks at hs (Some lane) l =
     let new = numbered l.next_job at (restart_orders lane hs) in
     let both : checks_left (l.jobs ++ new) ≡ checks_left l.jobs + checks_left new = checks_both l.jobs new in
-    let none : checks_left new ≡ 0 = none_checked l.next_job at (restart_orders lane hs) (refl, refl, rebans lane (filter (takes lane) hs)) in
+    let none : checks_left new ≡ 0 = none_checked l.next_job at (restart_orders lane hs) (refl, (refl, rebans lane (filter (takes lane) hs))) in
     omega (arith, both, none)
 
 failed_checks : (at : ℕ) (hs : List Held) (lane : LaneId) (l : Lanes (List Job)) (job : Job) → AreById 0 l.jobs l.next_job → head lane l.jobs ≡ Some job → has_check job.kind ≡ true

@@ -1,5 +1,5 @@
 -- What is proved of the model.
-use Rattle.std.specs.Prelude.{◌≡◌, ℕ, ◌+◌, ◌-◌, ◌*◌, ◌<◌, ◌≤◌, ◌↔◌, true, false, List, [], ◌∷◌, ◌++◌, length, filter, map, None}
+use Rattle.std.specs.Prelude.{◌≡◌, ℕ, ◌+◌, ◌-◌, ◌*◌, ◌<◌, ◌≤◌, ◌↔◌, true, false, List, [], ◌∷◌, ◌++◌, length, filter, map, None, is_some}
 use Rattle.f2b_base.specs.declared.addr.Addr.{Addr}
 use Rattle.f2b_base.specs.declared.ban.Failure.{Failure}
 use Rattle.f2b_base.specs.declared.input.Input.{Input}
@@ -20,7 +20,7 @@ use Rattle.f2b_model.specs.Stands.{StandsFor, IsShown}
 use Rattle.f2b_model.specs.Told.{jails_told}
 use Rattle.f2b_model.specs.Active.{held}
 use Rattle.f2b_model.specs.LaneSound.{IsBanStep, is_banned_in}
-use Rattle.f2b_model.specs.Jobs.{pending, settled, head}
+use Rattle.f2b_model.specs.Jobs.{AreById, pending, settled, head, is_head_id, job_by_id}
 use Rattle.f2b_model.specs.Turns.{kinds_of, Alternate, last_is_ban}
 use Rattle.f2b_model.specs.Views.{spread, gathered, view_of, back, empty_view}
 use Rattle.f2b_model.specs.Whole.{State, Now, now_of, step, steps, step_now, told, told_now, empty_state}
@@ -105,3 +105,6 @@ pub record WholeLaw : Type 0 where
       ≡ is_banned_in (steps empty_state inputs).lanes.up (held moves (steps empty_state inputs).world) id addr
   -- starts that fail come to an end: each leaves fewer tries or fewer checks
   pub starts : IsStartsLaw
+  -- the first job of its lane stays so through each step after which it is pending, that is, until it is settled or voided: so a child of it may run on
+  pub stays_first : (n : Now) (input : Input) (id : ℕ) → AreById 0 n.lanes.jobs n.lanes.next_job → is_head_id id n.lanes.jobs ≡ true → is_some (job_by_id id (step_now n input).lanes.jobs) ≡ true
+      → is_head_id id (step_now n input).lanes.jobs ≡ true
