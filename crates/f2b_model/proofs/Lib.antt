@@ -35,6 +35,7 @@ pub mod CarryLemmas
 pub mod DueLemmas
 pub mod StartLemmas
 pub mod LaterLemmas
+pub mod StorableLemmas
 pub mod ShownLemmas
 pub mod LaneNowLemmas
 pub mod LaneBackLemmas
@@ -48,4 +49,5 @@ pub mod FitLemmas
 pub mod WholeLemmas
 mod Histories
 pub mod RenderLemmas
+pub mod MatchLemmas
 mod LaneRows

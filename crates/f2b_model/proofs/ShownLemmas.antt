@@ -11,6 +11,7 @@ use Rattle.f2b_model.specs.NowMoves.{counted_now, shown_now}
 use Rattle.f2b_model.specs.Nows.{addr_before, comes_before, jail_now}
 use Rattle.f2b_model.specs.State.{Jail, open_of, active_of}
 use Rattle.f2b_model.specs.declared.jail_now.JailNow.{JailNow}
+use Rattle.f2b_model.proofs.EndLemmas.{all_placed}
 use Rattle.f2b_model.proofs.FullLemmas.{both_true, lt_true}
 use Rattle.f2b_model.proofs.ListLemmas.{by_test}
 use Rattle.f2b_model.proofs.MarkLemmas.{addr_not_both}
@@ -22,10 +23,6 @@ use Rattle.f2b_model.proofs.SameLemmas.{same_addr-true}
 placed_agree : {A : Type 0} (P : A → Type 0) (less more : A → A → Bool) → ((x y : A) → P x → P y → less x y ≡ more x y) → (x : A) (ys : List A) → P x → AllOf P ys → placed less x ys ≡ placed more x ys
 placed_agree P less more same x [] p all = refl
 placed_agree P less more same x (y ∷ ys) p all = rw (same x y p all.0, placed_agree P less more same x ys p all.1) refl
-
-all_placed : {A : Type 0} (P : A → Type 0) (less : A → A → Bool) (x : A) (ys : List A) → P x → AllOf P ys → AllOf P (placed less x ys)
-all_placed P less x [] p all = (p, tt)
-all_placed P less x (y ∷ ys) p all = by_test (less x y) _ (λ e. rw e (p, all)) (λ e. rw e (all.0, all_placed P less x ys p all.1))
 
 placed_all_agree : {A : Type 0} (P : A → Type 0) (less more : A → A → Bool) → ((x y : A) → P x → P y → less x y ≡ more x y) → (done xs : List A) → AllOf P done → AllOf P xs
     → placed_all less done xs ≡ placed_all more done xs

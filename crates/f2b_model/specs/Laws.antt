@@ -9,6 +9,7 @@ use Rattle.f2b_base.specs.declared.view.WatchView.{WatchView}
 use Rattle.f2b_base.specs.declared.job.LaneId.{LaneId}
 use Rattle.f2b_base.specs.declared.view.View.{View}
 use Rattle.f2b_model.specs.declared.jail_now.JailNow.{JailNow}
+use Rattle.f2b_base.specs.Limits.{last_moment}
 use Rattle.f2b_model.specs.Lists.{AllOf, placed}
 use Rattle.f2b_model.specs.Full.{IsFull, IsFullByChoice, is_full, is_late}
 use Rattle.f2b_model.specs.State.{JailsState}
@@ -17,6 +18,7 @@ use Rattle.f2b_model.specs.Steps.{moves, moves_now, is_spent, at_reading, jails_
 use Rattle.f2b_model.specs.Sound.{AreFitDefs, IsFit, IsNumbered, IsSound, IsSoundView, AreSoundJails}
 use Rattle.f2b_model.specs.Starts.{IsStartsLaw}
 use Rattle.f2b_model.specs.Stands.{StandsFor, IsShown}
+use Rattle.f2b_model.specs.Storable.{IsStorableJail, IsStorableInput}
 use Rattle.f2b_model.specs.Told.{jails_told}
 use Rattle.f2b_model.specs.Active.{held}
 use Rattle.f2b_model.specs.LaneSound.{IsBanStep, is_banned_in}
@@ -58,6 +60,8 @@ pub record JailsLaw : Type 0 where
   -- bans stay numbered, and paths watched
   pub numbered : (n : JailsNow) (input : Input) → AreNumbered n → AreNumbered (jails_step_now n input)
   pub watched : (n : JailsNow) (input : Input) → AreWatched n → AreWatched (jails_step_now n input)
+  -- what is stored of jails stays within its bounds
+  pub stored : (n : JailsNow) (input : Input) → n.at ≤ last_moment → IsStorableInput input → AllOf IsStorableJail n.jails → AllOf IsStorableJail (jails_step_now n input).jails
 
 pub record FullLaw : Type 0 where
   -- full by choice is full by spans, and the test decides it

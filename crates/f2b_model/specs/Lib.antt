@@ -26,6 +26,7 @@ pub mod LaneSound
 pub mod Active
 pub mod Whole
 pub mod Starts
+pub mod Storable
 pub mod Views
 pub mod JobLaws
 pub mod RenderLaws

@@ -16,7 +16,7 @@ last_ones number xs = drop (length xs - number) xs
 abbrev pub joined : List (List ℕ) → List ℕ
 joined [] = []
 joined (line ∷ []) = line
-joined (line ∷ next ∷ lines) = line ++ codes " / " ++ joined (next ∷ lines)
+joined (line ∷ next ∷ lines) = line ++ (codes " / " ++ joined (next ∷ lines))
 
 -- of the lines the last ones, as many as fit
 abbrev pub fitting : List (List ℕ) → List (List ℕ)
