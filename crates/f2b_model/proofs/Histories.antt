@@ -513,6 +513,15 @@ tells_the_restart : (told (steps empty_state second_ban) (check_fails 1004 2)).l
 unfolding plain_span span_of rendered printed octets digits
 tells_the_restart = refl
 
+-- as is a try that failed, and that it was the last
+tells_a_failed_try : (told (steps empty_state second_ban) (ends 1004 2 TimedOut)).lanes ≡ TryFails lane Ban TimedOut false ∷ []
+unfolding plain_span span_of rendered printed octets digits
+tells_a_failed_try = refl
+
+tells_the_last_try : (told (steps empty_state (second_ban ++ ends 1004 2 TimedOut ∷ ends 1006 2 NotStarted ∷ [])) (ends 1010 2 (Status (pos 1)))).lanes ≡ TryFails lane Ban (Status (pos 1)) true ∷ []
+unfolding plain_span span_of rendered printed octets digits
+tells_the_last_try = refl
+
 -- neither a Stop nor a Reban is checked, nor what is not the first of its lane
 stop_unchecked : check_before 3 (second_ban ++ check_fails 1004 2 ∷ []) ≡ None
 unfolding plain_span span_of rendered printed octets digits

@@ -42,7 +42,7 @@ module _ {J L : Type 0} (m : Moves J) (b : Books L) where
       let told = jails_told m w.world input in
       record { jails = told; lanes = lanes_told b after.at input.what (lanes_issued b after.at told w.lanes) })
 
--- the state: all that ever happened
+-- the state: all that happened in the jails that are there, and all jobs that were ever made with all their endings
 abbrev pub State : Type 0
 State = Whole Jail Ledger
 
