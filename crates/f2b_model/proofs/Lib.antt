@@ -36,6 +36,7 @@ pub mod DueLemmas
 pub mod StartLemmas
 pub mod LaterLemmas
 pub mod StorableLemmas
+pub mod StorableLaneLemmas
 pub mod ShownLemmas
 pub mod LaneNowLemmas
 pub mod LaneBackLemmas

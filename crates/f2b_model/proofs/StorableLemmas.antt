@@ -86,7 +86,7 @@ begun_stored at word serial addr failures j h a p = record {
   past = p.past;
 }
 
-found_stored : (at word n : ℕ) (f : Failure) (j : JailNow) → at ≤ last_moment → IsStorableFailure f → IsStorableJail j → IsStorableJail (found_now at word n f j).jail
+pub found_stored : (at word n : ℕ) (f : Failure) (j : JailNow) → at ≤ last_moment → IsStorableFailure f → IsStorableJail j → IsStorableJail (found_now at word n f j).jail
 found_stored at word n f j h one p =
     by_test (counts at j.definition j.bans f) _
     (λ e. rw e (
@@ -97,7 +97,7 @@ found_stored at word n f j h one p =
     (λ t. rw t counted)))
     (λ e. rw e p)
 
-banned_stored : (at word n : ℕ) (addr : Addr) (j : JailNow) → at ≤ last_moment → IsAddr addr → IsStorableJail j → IsStorableJail (banned_now at word n addr j).jail
+pub banned_stored : (at word n : ℕ) (addr : Addr) (j : JailNow) → at ≤ last_moment → IsAddr addr → IsStorableJail j → IsStorableJail (banned_now at word n addr j).jail
 banned_stored at word n addr j h a p = by_test (is_banned addr j.bans) _ (λ e. rw e p) (λ e. rw e (begun_stored at word n addr 0 j h a p))
 
 ended_stored : (addr : Addr) (moment : ℕ) (j : JailNow) → IsAddr addr → moment ≤ last_moment → IsStorableJail j → IsStorableJail (ended_now addr moment j)
@@ -123,7 +123,7 @@ end_all_stored : (moment : Ban → ℕ) (ds : List Ban) (j : JailNow) → AllOf 
 end_all_stored moment [] j all p = p
 end_all_stored moment (d ∷ ds) j all p = end_all_stored moment ds (ended_now d.addr (moment d) j) all.1 (ended_stored d.addr (moment d) j all.0.0 all.0.1 p)
 
-by_time_stored : (at : ℕ) (j : JailNow) → IsStorableJail j → IsStorableJail (ended_by_time moves_now at j)
+pub by_time_stored : (at : ℕ) (j : JailNow) → IsStorableJail j → IsStorableJail (ended_by_time moves_now at j)
 by_time_stored at j p =
     let due = filter (is_due at) j.bans in
     let well : AllOf (EndsWell own_end) due =
@@ -246,7 +246,7 @@ ignored_stored cidr false d c s = masks_stored (filter (λ (m : Cidr). not (same
 
 -- ---- logs
 
-watches_stored : (ws : List WatchView) (j : JailNow) → AllOf IsStorableWatch ws → IsStorableJail j → IsStorableJail (record j { watches = ws })
+pub watches_stored : (ws : List WatchView) (j : JailNow) → AllOf IsStorableWatch ws → IsStorableJail j → IsStorableJail (record j { watches = ws })
 watches_stored ws j all p = record {
   definition = p.definition;
   total_failed = p.total_failed;
@@ -258,7 +258,7 @@ watches_stored ws j all p = record {
   past = p.past;
 }
 
-place_stored : (path : List ℕ) (place : Place) (ws : List WatchView) → IsStorablePlace place → AllOf IsStorableWatch ws → AllOf IsStorableWatch (with_place path place ws)
+pub place_stored : (path : List ℕ) (place : Place) (ws : List WatchView) → IsStorablePlace place → AllOf IsStorableWatch ws → AllOf IsStorableWatch (with_place path place ws)
 place_stored path place [] s all = tt
 place_stored path place (w ∷ ws) s all =
     by_test (bytes_eq w.path path) _
@@ -305,7 +305,7 @@ in_jail_stored name f e n [] a = tt
 in_jail_stored name f e n (j ∷ js) a =
     by_test (bytes_eq j.definition.name name) _ (λ t. rw t (e n j a.0, a.1)) (λ t. rw t (a.0, in_jail_stored name f e n js a.1))
 
-at_jail_stored : (name : List ℕ) (f : ℕ → JailNow → Out JailNow) (w : JailsNow) → ((n : ℕ) (j : JailNow) → IsStorableJail j → IsStorableJail (f n j).jail) → AreStored w → AreStored (at_jail moves_now name f w)
+pub at_jail_stored : (name : List ℕ) (f : ℕ → JailNow → Out JailNow) (w : JailsNow) → ((n : ℕ) (j : JailNow) → IsStorableJail j → IsStorableJail (f n j).jail) → AreStored w → AreStored (at_jail moves_now name f w)
 at_jail_stored name f w e a = in_jail_stored name f e w.next_ban w.jails a
 
 found_all_stored : (word : ℕ) (name : List ℕ) (fs : List Failure) (w : JailsNow) → w.at ≤ last_moment → AllOf IsStorableFailure fs → AreStored w → AreStored (found_all moves_now word name fs w)
@@ -328,6 +328,9 @@ configured_stored (d ∷ ds) js all a = (one js a, configured_stored ds js all.1
     one [] b = fresh_stored d all.0
     one (k ∷ ks) b = by_test (bytes_eq k.definition.name d.name) _ (λ t. rw t (kept_stored d k all.0 b.0)) (λ t. rw t (one ks b.1))
 
+pub attempt_stored : (addr : Addr) (at : ℕ) → IsAddr addr → at ≤ last_moment → IsStorableFailure (record { addr = addr; time = at; line = [] })
+attempt_stored addr at a h = record { addr = a; time = h; line = (IsUtf8-nil, omega arith) }
+
 done_stored : (word : ℕ) (what : What) (w : JailsNow) → w.at ≤ last_moment → IsStorableWhat what → AreStored w → AreStored (done moves_now word what w)
 done_stored word Tick w h s a = a
 done_stored word (Read jail path place fs) w h s a =
@@ -340,7 +343,7 @@ done_stored word (Unban jail addrs) w h s a =
     all_of-map IsStorableJail IsStorableJail (λ j. cond (is_meant_jail jail j.definition) (unbanned moves_now w.at addrs j) j)
     (λ j p. by_test (is_meant_jail jail j.definition) _ (λ t. rw t (unbanned_stored w.at addrs j h p)) (λ t. rw t p)) w.jails a
 done_stored word (Attempt jail addr) w h s a =
-    found_all_stored word jail (record { addr = addr; time = w.at; line = [] } ∷ []) w h (record { addr = s; time = h; line = (IsUtf8-nil, omega arith) }, tt) a
+    found_all_stored word jail (record { addr = addr; time = w.at; line = [] } ∷ []) w h (attempt_stored addr w.at s h, tt) a
 done_stored word (Findtime jail secs) w h s a =
     at_jail_stored jail (alone moves_now (λ j. limited_now secs j.definition.maxretry j)) w (λ n j p. limited_stored secs j.definition.maxretry j s p.definition.maxretry p) a
 done_stored word (Bantime jail secs) w h s a =

@@ -25,9 +25,14 @@ use Rattle.f2b_base.specs.declared.jail.JailDef.{JailDef}
 use Rattle.f2b_base.specs.declared.jail.Place.{Place}
 use Rattle.f2b_base.specs.declared.jail.Place.TheVariants.{Tail, Pos}
 use Rattle.f2b_base.specs.declared.jail.WatchDef.{WatchDef}
+use Rattle.f2b_base.specs.declared.job.Job.{Job}
+use Rattle.f2b_base.specs.declared.job.LaneId.{LaneId}
+use Rattle.f2b_base.specs.declared.job.UpLane.{UpLane}
 use Rattle.f2b_base.specs.declared.view.WatchView.{WatchView}
 use Rattle.f2b_model.specs.declared.jail_now.JailNow.{JailNow}
+use Rattle.f2b_model.specs.Lanes.{Lanes}
 use Rattle.f2b_model.specs.Lists.{AllOf}
+use Rattle.f2b_model.specs.Whole.{Now}
 
 -- ---- numbers and texts
 
@@ -164,6 +169,37 @@ pub record IsStorableJail (j : JailNow) : Type 0 where
   pub failures : AllOf IsStorableFailure j.failures
   pub bans : AllOf IsStorableBan j.bans
   pub past : AllOf IsStorablePast j.past
+
+-- ---- lanes and jobs
+
+abbrev pub IsStorableAddr : Option Addr → Type 0
+IsStorableAddr None = Unit {0}
+IsStorableAddr (Some addr) = IsAddr addr
+
+pub record IsStorableLane (l : LaneId) : Type 0 where
+  pub jail : IsJailName l.jail
+  pub action : IsUtf8 l.action
+
+pub record IsStorableUp (u : UpLane) : Type 0 where
+  pub jail : IsJailName u.jail
+  pub action : IsStorableAction u.action
+
+-- a job, but for its text; its tries and its due moment are those of a pending job
+pub record IsStorableJob (j : Job) : Type 0 where
+  pub lane : IsStorableLane j.lane
+  pub addr : IsStorableAddr j.addr
+  pub timeout : IsSpanOfTime j.timeout
+
+pub record AreStorableLanes (l : Lanes (List Job)) : Type 0 where
+  pub up : AllOf IsStorableUp l.up
+  pub jobs : AllOf IsStorableJob l.jobs
+
+-- ---- all
+
+-- all that is stored, but for the texts of jobs
+pub record IsStorable (n : Now) : Type 0 where
+  pub jails : AllOf IsStorableJail n.world.jails
+  pub lanes : AreStorableLanes n.lanes
 
 -- ---- inputs
 
