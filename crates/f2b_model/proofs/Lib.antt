@@ -51,4 +51,5 @@ pub mod WholeLemmas
 mod Histories
 pub mod RenderLemmas
 pub mod MatchLemmas
+pub mod Utf8Lemmas
 mod LaneRows
