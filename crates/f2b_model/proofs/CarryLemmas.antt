@@ -10,7 +10,7 @@ use Rattle.f2b_base.specs.declared.job.UpLane.{UpLane}
 use Rattle.f2b_model.specs.declared.happening.Happening.{Happening}
 use Rattle.f2b_model.specs.Checks.{is_closing, lane_of, checked_lane, void_ids, voided_at}
 use Rattle.f2b_model.specs.Jobs.{Ending, Tried, is_head_id, settle_in}
-use Rattle.f2b_model.specs.Lanes.{Lanes, books_now, issue, lane_down, lane_up, all_down, all_up, try_ended, void_all, restarted, lane_failed, failed_in, check_failed, stopped, others_down, missing_up, lanes_configured, lanes_issued, lanes_done, lanes_step, lanes_of, is_among}
+use Rattle.f2b_model.specs.Lanes.{Lanes, books_now, issue, lane_down, lane_up, all_down, all_up, try_ended, void_all, restarted, failed_in, stopped, others_down, missing_up, lanes_configured, lanes_issued, lanes_done, lanes_step, lanes_of, is_among}
 use Rattle.f2b_model.specs.Orders.{Held, lane_id, is_lane, is_up, down_orders, up_orders, restart_orders, told_orders}
 use Rattle.f2b_model.specs.Turns.{Order}
 

@@ -12,7 +12,7 @@ use Rattle.f2b_model.specs.Checks.{is_closing, is_stop, lane_of, checked_lane, v
 use Rattle.f2b_model.specs.Families.{same_lane}
 use Rattle.f2b_model.specs.Jobs.{Ending, Ledger, pending, head, has_id, settle_in, with_ending, AreById}
 use Rattle.f2b_model.specs.LaneSound.{IsHeldOnce, IsInTurn, IsOrdered}
-use Rattle.f2b_model.specs.Lanes.{Books, Lanes, books, books_now, issue, void_all, restarted, lane_failed, failed_in, check_failed}
+use Rattle.f2b_model.specs.Lanes.{Books, Lanes, books, books_now, void_all, restarted, failed_in, check_failed}
 use Rattle.f2b_model.specs.Lists.{IsIn}
 use Rattle.f2b_model.specs.Orders.{Held, lane_id, is_lane, is_up, restart_orders}
 use Rattle.f2b_model.proofs.InLemmas.{in_any}

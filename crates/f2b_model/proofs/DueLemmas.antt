@@ -1,9 +1,8 @@
 -- Once the bans that are due have ended none is due.
-use Rattle.std.proofs.Common.{ℕ, ◌≡◌, ◌||◌, ◌&&◌, not, map, filter, Bool, true, false, List, [], ◌∷◌, inl, inr, refl, sym, ap, ◌∙◌, subst}
+use Rattle.std.proofs.Common.{ℕ, ◌≡◌, ◌||◌, not, filter, Bool, true, false, List, [], ◌∷◌, inl, inr, refl, sym, ap, ◌∙◌, subst}
 use Rattle.std.specs.List.{list_any}
 use Rattle.f2b_base.specs.declared.ban.Ban.{Ban}
 use Rattle.f2b_base.specs.declared.addr.Addr.{Addr}
-use Rattle.f2b_base.specs.Addresses.{same_addr}
 use Rattle.f2b_model.specs.Lists.{IsIn, in_order, placed, placed_all}
 use Rattle.f2b_model.specs.Moves.{ban_of, is_banned}
 use Rattle.f2b_model.specs.NowMoves.{ended_now}

@@ -31,7 +31,6 @@ use Rattle.f2b_base.specs.declared.job.UpLane.{UpLane}
 use Rattle.f2b_base.specs.declared.job.LaneId.{LaneId}
 use Rattle.f2b_base.specs.declared.view.JailView.{JailView}
 use Rattle.f2b_base.specs.declared.view.View.{View}
-use Rattle.f2b_model.specs.declared.lane_happening.LaneHappening.{LaneHappening}
 use Rattle.f2b_model.specs.declared.lane_happening.LaneHappening.TheVariants.{TryFails, CheckFails, Restarts}
 use Rattle.f2b_base.specs.Addresses.{printed, octets, groups}
 use Rattle.f2b_base.specs.Span.{growth, plain_span, span_of}

@@ -1,5 +1,5 @@
 -- What a ban shows is short, and means nothing to a shell.
-use Rattle.std.proofs.Common.{◌≡◌, ℕ, ◌-◌, ◌≤◌, ◌&&◌, Bool, true, false, nat_le, List, [], ◌∷◌, ◌++◌, length, map, drop, refl, ap, ◌∙◌, zero, suc, arith}
+use Rattle.std.proofs.Common.{◌≡◌, ℕ, ◌≤◌, true, nat_le, List, [], ◌∷◌, ◌++◌, length, map, refl, arith}
 use Rattle.std.specs.Prelude.{codes}
 use Rattle.std.specs.List.{list_all}
 use Rattle.std.specs.Str.{chars}

@@ -7,7 +7,7 @@ use Rattle.f2b_model.specs.Full.{is_of, is_late}
 use Rattle.f2b_model.specs.Lists.{AllOf, placed, placed_all, in_order}
 use Rattle.f2b_model.specs.Matches.{matches_of}
 use Rattle.f2b_model.specs.Moves.{counts, counted, earlier, is_near, shown}
-use Rattle.f2b_model.specs.NowMoves.{counted_now, shown_now}
+use Rattle.f2b_model.specs.NowMoves.{shown_now}
 use Rattle.f2b_model.specs.Nows.{addr_before, comes_before, jail_now}
 use Rattle.f2b_model.specs.State.{Jail, open_of, active_of}
 use Rattle.f2b_model.specs.declared.jail_now.JailNow.{JailNow}

@@ -1,8 +1,8 @@
 -- Starts that fail come to an end, also where bans are due and lanes have checks.
-use Rattle.std.proofs.Common.{ℕ, ◌≡◌, ◌+◌, ◌-◌, ◌==◌, ◌<◌, ◌≤◌, ◌++◌, ◌||◌, ◌&&◌, ◌^◌, max, map, filter, find, nat_lt, nat_le, Bool, true, false, cond, Option, Some, None, List, [], ◌∷◌, length, refl, sym, ap, ap₂, ◌∙◌, subst, append-nil, inl, inr, arith}
+use Rattle.std.proofs.Common.{ℕ, ◌≡◌, ◌+◌, ◌==◌, ◌<◌, ◌≤◌, ◌++◌, ◌||◌, ◌&&◌, ◌^◌, max, map, filter, find, nat_lt, nat_le, Bool, true, false, cond, Option, Some, None, List, [], ◌∷◌, refl, sym, ap, ap₂, ◌∙◌, subst, append-nil, arith}
 use Rattle.std.specs.Prelude.{option_and_then}
-use Rattle.std.specs.List.{filter_map, list_any, cons_option}
-use Rattle.std.proofs.lemmas.Bool.{cases_Bool, and_parts, eq-eqb, eqb-true, eqb-false, leb-false, ne_eqb}
+use Rattle.std.specs.List.{list_any, cons_option}
+use Rattle.std.proofs.lemmas.Bool.{and_parts, eq-eqb, eqb-true, eqb-false, leb-false, ne_eqb}
 use Rattle.std.proofs.lemmas.Option.{same_Some}
 use Rattle.f2b_base.specs.declared.input.Input.{Input}
 use Rattle.f2b_base.specs.declared.input.What.{What}
@@ -19,7 +19,7 @@ use Rattle.f2b_model.specs.Active.{held}
 use Rattle.f2b_model.specs.Checks.{has_check, is_closing, is_stop, lane_of, checked_lane_in, checked_lane, with_check, check_of, void_ids, left_by_check}
 use Rattle.f2b_model.specs.Families.{same_lane}
 use Rattle.f2b_model.specs.Jobs.{Ending, Tried, AreById, after_try, has_id, head, is_head, is_head_id, job_by_id, leads, next_due, settle_in, settled_as}
-use Rattle.f2b_model.specs.Lanes.{Lanes, books_now, issue, void_all, restarted, failed_in, lanes_done, lanes_issued, lanes_step, try_ended}
+use Rattle.f2b_model.specs.Lanes.{Lanes, books_now, void_all, restarted, failed_in, lanes_done, lanes_issued, try_ended}
 use Rattle.f2b_model.specs.Lists.{AllOf, AreDistinct}
 use Rattle.f2b_model.specs.NowMoves.{dropped_now}
 use Rattle.f2b_model.specs.Nows.{JailsNow}

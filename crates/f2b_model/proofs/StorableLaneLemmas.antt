@@ -14,7 +14,6 @@ use Rattle.f2b_base.specs.declared.input.Input.{Input}
 use Rattle.f2b_base.specs.declared.input.What.{What}
 use Rattle.f2b_base.specs.declared.input.What.TheVariants.{Tick, Read, Ended, Config, Stop as StopAll, Ban as BanThese, Unban as UnbanThese, Attempt, Ignore, Findtime, Bantime, Maxretry, Idle, CheckFailed}
 use Rattle.f2b_base.specs.declared.jail.ActionDef.{ActionDef}
-use Rattle.f2b_base.specs.declared.jail.Defs.{Defs}
 use Rattle.f2b_base.specs.declared.jail.JailDef.{JailDef}
 use Rattle.f2b_base.specs.declared.job.Job.{Job}
 use Rattle.f2b_base.specs.declared.job.JobKind.{JobKind}
@@ -30,14 +29,14 @@ use Rattle.f2b_model.specs.declared.jail_now.JailNow.{JailNow}
 use Rattle.f2b_model.specs.Active.{held, held_by, held_in}
 use Rattle.f2b_model.specs.Checks.{is_closing, lane_of, checked_lane, void_ids, voided_at}
 use Rattle.f2b_model.specs.Jobs.{Ending, Tried, after_try, is_head_id, settle_in, settled_as}
-use Rattle.f2b_model.specs.Lanes.{Lanes, books_now, issue, lane_down, lane_up, all_down, all_up, try_ended, void_all, restarted, failed_in, stopped, others_down, missing_up, lanes_configured, lanes_issued, lanes_done, lanes_step, lanes_of_jail, lanes_of, is_among}
+use Rattle.f2b_model.specs.Lanes.{Lanes, books_now, issue, lane_down, lane_up, all_down, all_up, try_ended, void_all, restarted, failed_in, others_down, lanes_configured, lanes_issued, lanes_done, lanes_step, lanes_of_jail, lanes_of, is_among}
 use Rattle.f2b_model.specs.Lists.{AllOf, in_order}
-use Rattle.f2b_model.specs.Moves.{Out, counts}
+use Rattle.f2b_model.specs.Moves.{counts}
 use Rattle.f2b_model.specs.NowMoves.{found_now, banned_now, shown_now}
 use Rattle.f2b_model.specs.Nows.{JailsNow}
 use Rattle.f2b_model.specs.Orders.{Held, addr_in, lane_id, is_lane, is_up, takes, order, order_showing, ban_orders, lane_orders, down_orders, up_orders, restart_orders, told_orders}
-use Rattle.f2b_model.specs.Steps.{moves_now, named, is_spent, is_due, ends_before, is_meant, is_meant_jail, at_jail, at_reading, is_followed, followed_to, ended_by_time, each_jail, step_by}
-use Rattle.f2b_model.specs.Storable.{IsSpanOfTime, IsStorableAction, IsStorableAddr, IsStorableBan, IsStorableDef, IsStorableFailure, IsStorableInput, IsStorableJail, IsStorableJob, IsStorableLane, IsStorableUp, AreStorableLanes, AreStorableDefs, IsStorable, IsStorableWhat}
+use Rattle.f2b_model.specs.Steps.{moves_now, named, is_spent, is_due, ends_before, is_meant, is_meant_jail, at_jail, at_reading, is_followed, followed_to, ended_by_time, step_by}
+use Rattle.f2b_model.specs.Storable.{IsSpanOfTime, IsStorableAction, IsStorableAddr, IsStorableBan, IsStorableDef, IsStorableFailure, IsStorableInput, IsStorableJail, IsStorableJob, IsStorableLane, IsStorableUp, AreStorableLanes, IsStorable, IsStorableWhat}
 use Rattle.f2b_model.specs.Told.{begins, told_each, told_new, told_found, told_banned, told_ends, told_unbanned, told_in, told_all_found, told_all_banned, told_done, jails_told}
 use Rattle.f2b_model.specs.Turns.{Order, numbered}
 use Rattle.f2b_model.specs.Watches.{with_place}
@@ -45,7 +44,7 @@ use Rattle.f2b_model.specs.Whole.{Now, is_whole_spent, step_now}
 use Rattle.f2b_model.proofs.EndLemmas.{all_placed_all}
 use Rattle.f2b_model.proofs.ListLemmas.{by_test}
 use Rattle.f2b_model.proofs.OrderlyLemmas.{all_of-filter, all_of-push}
-use Rattle.f2b_model.proofs.StepLemmas.{all_of-map, all_of-more}
+use Rattle.f2b_model.proofs.StepLemmas.{all_of-map}
 use Rattle.f2b_model.proofs.StorableLemmas.{at_jail_stored, banned_stored, by_time_stored, found_stored, place_stored, step_stored, watches_stored, attempt_stored}
 
 -- ---- lists

@@ -1,11 +1,11 @@
 -- A step keeps what is stored of jails within its bounds.
-use Rattle.std.proofs.Common.{◌≡◌, ℕ, suc, ◌+◌, ◌-◌, ◌^◌, ◌<◌, ◌≤◌, min, max, Bool, true, false, cond, not, ◌&&◌, ◌==◌, List, [], ◌∷◌, ◌++◌, length, map, refl, ap, ◌∙◌, ℤ, pos, negsuc, arith}
-use Rattle.std.specs.Prelude.{bytes_eq, Option, Some, None}
+use Rattle.std.proofs.Common.{ℕ, ◌^◌, ◌<◌, ◌≤◌, Bool, true, false, cond, not, ◌&&◌, ◌==◌, List, [], ◌∷◌, ◌++◌, length, refl, ℤ, arith}
+use Rattle.std.specs.Prelude.{bytes_eq, Option}
 use Rattle.std.specs.List.{filter, list_any}
 use Rattle.std.specs.Str.{IsUtf8}
 use Rattle.std.proofs.lemmas.Str.{IsUtf8-nil}
 use Rattle.f2b_base.specs.Addresses.{IsAddr}
-use Rattle.f2b_base.specs.Limits.{last_moment, kept_line_bytes}
+use Rattle.f2b_base.specs.Limits.{last_moment}
 use Rattle.f2b_base.specs.Masks.{IsCidr}
 use Rattle.f2b_base.specs.Span.{span_of}
 use Rattle.f2b_base.specs.declared.addr.Addr.{Addr}
@@ -28,11 +28,11 @@ use Rattle.f2b_model.specs.declared.jail_now.JailNow.{JailNow}
 use Rattle.f2b_model.specs.Full.{is_full, is_late, is_of}
 use Rattle.f2b_model.specs.Lists.{AllOf, in_order, placed}
 use Rattle.f2b_model.specs.Moves.{Out, up_64, up_to_32, counts, is_banned, is_near, is_stale, ban_of, new_ban, past_of, same_cidr, spanned, ignored}
-use Rattle.f2b_model.specs.NowMoves.{found_now, counted_now, begun_now, banned_now, ended_now, dropped_now, limited_now, followed_now, kept_now, fresh_now}
+use Rattle.f2b_model.specs.NowMoves.{found_now, counted_now, begun_now, banned_now, ended_now, dropped_now, limited_now, kept_now, fresh_now}
 use Rattle.f2b_model.specs.Nows.{comes_before, JailsNow}
 use Rattle.f2b_model.specs.Steps.{moves_now, is_spent, is_due, own_end, end_of, ends_before, is_meant, is_meant_jail, end_all, ended_by_time, unbanned, in_jail, find_jail, kept_or_fresh, configured, at_jail, alone, is_followed, followed_to, found_all, ban_all, done, each_jail, raised, jails_step_now}
-use Rattle.f2b_model.specs.Storable.{IsSpanOfTime, IsWithin, IsBase, IsStorableFailure, IsStorableUntil, IsStorableBan, IsStorablePast, IsStorablePlace, IsStorableWatch, IsStorableDef, AreStorableDefs, IsStorableJail, IsStorableWhat, IsStorableInput}
-use Rattle.f2b_model.specs.Until.{until_after, until_of}
+use Rattle.f2b_model.specs.Storable.{IsSpanOfTime, IsWithin, IsBase, IsStorableFailure, IsStorableUntil, IsStorableBan, IsStorablePast, IsStorablePlace, IsStorableWatch, IsStorableDef, IsStorableJail, IsStorableWhat, IsStorableInput}
+use Rattle.f2b_model.specs.Until.{until_after}
 use Rattle.f2b_model.specs.Watches.{first_place, place_in, watches_of, with_place}
 use Rattle.f2b_model.proofs.EndLemmas.{all_placed, all_placed_all}
 use Rattle.f2b_model.proofs.ListLemmas.{by_test}

@@ -1,13 +1,12 @@
 -- What can be stored: a word for each type of stored values, which says the bounds of a value by itself. How values of a list stand to
 -- each other, as rising serials, is told by other words; and the lengths of lists that only memory bounds are left out.
-use Rattle.std.specs.Prelude.{◌≡◌, ℕ, ◌+◌, ◌-◌, ◌%◌, ◌^◌, ◌<◌, ◌≤◌, ◌==◌, ◌&&◌, ◌||◌, nat_le, Bool, true, min, List, length, Option, Some, None, ℤ, pos, negsuc}
+use Rattle.std.specs.Prelude.{◌≡◌, ℕ, ◌+◌, ◌%◌, ◌^◌, ◌<◌, ◌≤◌, ◌==◌, ◌&&◌, ◌||◌, nat_le, Bool, true, min, List, length, Option, Some, None, ℤ, pos, negsuc}
 use Rattle.std.specs.List.{list_all}
 use Rattle.std.specs.Str.{IsUtf8}
 use Rattle.f2b_base.specs.Addresses.{IsAddr}
 use Rattle.f2b_base.specs.Limits.{last_moment, head_bytes, kept_line_bytes}
 use Rattle.f2b_base.specs.Masks.{IsCidr}
 use Rattle.f2b_base.specs.declared.addr.Addr.{Addr}
-use Rattle.f2b_base.specs.declared.addr.Cidr.{Cidr}
 use Rattle.f2b_base.specs.declared.ban.Ban.{Ban}
 use Rattle.f2b_base.specs.declared.ban.BanRule.{BanRule}
 use Rattle.f2b_base.specs.declared.ban.Failure.{Failure}
@@ -16,10 +15,10 @@ use Rattle.f2b_base.specs.declared.ban.Until.{Until}
 use Rattle.f2b_base.specs.declared.ban.Until.TheVariants.{Never, At}
 use Rattle.f2b_base.specs.declared.input.Input.{Input}
 use Rattle.f2b_base.specs.declared.input.What.{What}
-use Rattle.f2b_base.specs.declared.input.What.TheVariants.{Tick, Read, Ended, Config, Stop, Ban as BanThese, Unban, Attempt, Ignore, Findtime, Bantime, Maxretry, Idle, CheckFailed}
+use Rattle.f2b_base.specs.declared.input.What.TheVariants.{Read, Config, Ban as BanThese, Attempt, Ignore, Findtime, Bantime, Maxretry}
 use Rattle.f2b_base.specs.declared.jail.ActionDef.{ActionDef}
 use Rattle.f2b_base.specs.declared.jail.DateSpec.{DateSpec}
-use Rattle.f2b_base.specs.declared.jail.DateSpec.TheVariants.{Default, Anchored, NoDate, Epoch, Iso, Pattern, AnchoredPattern}
+use Rattle.f2b_base.specs.declared.jail.DateSpec.TheVariants.{Pattern, AnchoredPattern}
 use Rattle.f2b_base.specs.declared.jail.Defs.{Defs}
 use Rattle.f2b_base.specs.declared.jail.JailDef.{JailDef}
 use Rattle.f2b_base.specs.declared.jail.Place.{Place}
