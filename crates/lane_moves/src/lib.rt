@@ -11,6 +11,7 @@ mod families;
 mod fills;
 mod held;
 mod orders;
+mod tells;
 #[cfg(test)]
 mod tests;
 mod texts;
