@@ -9,6 +9,7 @@
 //! a job was made: the caller says what time it is and what runs.
 #![tactic(auto)]
 
+mod checks;
 mod due;
 mod entries;
 mod lanes;
@@ -19,4 +20,5 @@ mod tests;
 mod tests_many;
 mod tries;
 
+pub use checks::CheckEnd;
 pub use lanes::Lanes;
