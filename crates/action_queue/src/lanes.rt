@@ -6,13 +6,12 @@ ghost use Rattle.f2b_base.specs.Limits.{last_moment};
 ghost use Rattle.f2b_model.specs.Checks.{is_closing, checked_lane};
 ghost use Rattle.f2b_model.specs.Jobs.{head, job_by_id, is_head_id, next_due, AllIdsBelow, settled_as, settle_in};
 ghost use Rattle.action_queue.specs.Checks.{left_in, voided_in, end_in, IsVoided};
-ghost use Rattle.action_queue.specs.Due.{is_number};
 ghost use Rattle.action_queue.specs.Tries.{ending_of};
 
-use crate::checks::CheckEnd;
+use crate::checks::{CheckEnd, fail, is_checked, is_closing};
 use crate::due::least_due;
 use crate::entries::{apply, enter};
-use crate::queue::{Queue, first_id};
+use crate::queue::{Queue, first_id, is_number};
 use crate::tries::settled_as;
 use f2b_base::{Job, LaneId, NoMemory, Outcome, Plain, Seq, Settled};
 use std::alloc::Global;
@@ -135,7 +134,7 @@ impl Lanes {
     pub fn closing(&self, lane: &LaneId) -> bool
         ensures { result ≡ is_closing lane.now self.now }
     {
-        false
+        is_closing(&self.queues, lane)
     }
 
     /// The lane of the job of that id, where a check is asked for before a try of it: the job is a Ban or an Unban and the first of
@@ -143,7 +142,14 @@ impl Lanes {
     pub fn checked(&self, id: u64) -> Option<&LaneId>
         ensures { option_copied result ≡ checked_lane id self.now }
     {
-        None
+        match self.jobs.get(&id) {
+            Some(job) => if is_checked(job, &self.queues, id) {
+                Some(&job.lane)
+            } else {
+                None
+            },
+            None => None,
+        }
     }
 
     /// Takes the end of a check that failed before a try of the job of that id, and says what it did to the job's lane: the job and
@@ -156,7 +162,14 @@ impl Lanes {
         // The same by endings: each of those jobs is voided in turn.
         ensures voided { IsVoided (voided_in (checked_lane id self.old) self.old) self.old self.new }
     {
-        CheckEnd::Unchecked
+        match self.jobs.get(&id) {
+            Some(job) => if is_checked(job, &self.queues, id) {
+                fail(&mut self.jobs, &mut self.queues, id)
+            } else {
+                CheckEnd::Unchecked
+            },
+            None => CheckEnd::Unchecked,
+        }
     }
 
     /// The job to start next at `now`, in seconds since 1970: that of the least id among the first jobs of lanes that are due and
@@ -179,15 +192,5 @@ impl Lanes {
             jobs.push(job.copy()?)?;
         }
         Ok(jobs)
-    }
-}
-
-/// Whether the id is there, and this one.
-fn is_number(number: Option<u64>, id: u64) -> bool
-    ensures { result ≡ is_number id number }
-{
-    match number {
-        Some(number) => number == id,
-        None => false,
     }
 }

@@ -12,6 +12,7 @@
 mod checks;
 mod due;
 mod entries;
+mod kinds;
 mod lanes;
 mod queue;
 #[cfg(test)]
