@@ -8,9 +8,8 @@ use Rattle.f2b_base.specs.declared.job.Job.{Job}
 use Rattle.f2b_model.specs.Families.{same_lane}
 use Rattle.f2b_model.specs.Jobs.{head, has_id, job_by_id, leads, is_head_id, AllIdsBelow}
 use Rattle.action_queue.specs.declared.queue.Queue.{Queue}
-use Rattle.action_queue.specs.Due.{is_number}
 use Rattle.action_queue.specs.Index.{jobs_of, job_at, ids_in, IsKeyed, IsIndex}
-use Rattle.action_queue.specs.Queues.{ids_of, Added, SameIds}
+use Rattle.action_queue.specs.Queues.{is_number, ids_of, Added, SameIds}
 use Rattle.action_queue.proofs.KeyLemmas.{found_at, key_found, key_missing, keyed_last, jobs_last}
 
 -- ---- the first job of a lane

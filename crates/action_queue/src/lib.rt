@@ -9,8 +9,10 @@
 //! a job was made: the caller says what time it is and what runs.
 #![tactic(auto)]
 
+mod checks;
 mod due;
 mod entries;
+mod kinds;
 mod lanes;
 mod queue;
 #[cfg(test)]
@@ -19,4 +21,5 @@ mod tests;
 mod tests_many;
 mod tries;
 
+pub use checks::CheckEnd;
 pub use lanes::Lanes;
