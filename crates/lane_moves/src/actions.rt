@@ -144,7 +144,7 @@ impl Actions {
         if self.book.is_closing(lane) {
             return None;
         }
-        with_check(lane_of(self.up.as_slice(), lane))
+        with_check(self.up.as_slice(), lane)
     }
 
     /// Takes it that the check of a job failed, with these bans, and tells of it. It counts where the job is a Ban or an Unban and the

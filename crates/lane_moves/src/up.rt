@@ -30,11 +30,11 @@ pub(crate) fn is_up_by_name(up: &[UpLane], id: &LaneId) -> bool
     up.iter().any(|lane| has_name(lane, id))
 }
 
-/// A lane that is up, if it has a check.
-pub(crate) fn with_check(lane: Option<&UpLane>) -> Option<&UpLane>
-    ensures { option_copied result ≡ with_check (option_copied lane) }
+/// The lane of that name, if it is up and has a check.
+pub(crate) fn with_check<'a>(up: &'a [UpLane], id: &LaneId) -> Option<&'a UpLane>
+    ensures { option_copied result ≡ with_check (lane_of id.now up.now) }
 {
-    match lane {
+    match lane_of(up, id) {
         Some(lane) => if lane.action.check.as_str() == "" {
             None
         } else {
