@@ -1,7 +1,8 @@
 //! The check of a lane: whether a job has one, and the jobs that it voids where it fails.
-ghost use Rattle.std.specs.Prelude.{◌≡◌, ◌&&◌, Some, is_some, slice_get};
-ghost use Rattle.std.specs.Option.{ForSome};
+ghost use Rattle.std.specs.Prelude.{◌≡◌, ◌&&◌, if◌then◌else◌, Some, None, is_some, slice_get};
+ghost use Rattle.std.specs.Option.{ForSome, option_copied};
 ghost use Rattle.f2b_model.specs.Checks.{has_check};
+ghost use Rattle.action_queue.specs.declared.checks.CheckEnd.TheVariants.{Closing, Open};
 ghost use Rattle.action_queue.specs.Checks.{end_in, goes, void_front, IsChecked, Voids};
 ghost use Rattle.action_queue.specs.Index.{jobs_of, job_at, IsIndex};
 ghost use Rattle.action_queue.specs.Queues.{is_number, ids_of, stop_of};
@@ -30,6 +31,17 @@ pub(crate) fn is_checked(job: &Job, queues: &[Queue], id: u64) -> bool
     is_number(first_id(queues, &job.lane), id) && has_check(job.kind)
 }
 
+/// The lane of a job, of that id, where it is checked.
+pub(crate) fn checked_lane<'a>(job: &'a Job, queues: &[Queue], id: u64) -> Option<&'a LaneId>
+    ensures { option_copied result ≡ (if is_number id (slice_get (ids_of job.now.lane queues.now) 0) && has_check job.now.kind then Some job.now.lane else None) }
+{
+    if is_checked(job, queues, id) {
+        Some(&job.lane)
+    } else {
+        None
+    }
+}
+
 /// Voids a job that is checked and those behind it, up to its lane's first Stop, and says what that did to the lane.
 pub(crate) fn fail(jobs: &mut BTreeMap<u64, Job>, queues: &mut Vec<Queue>, id: u64) -> CheckEnd
     requires index { IsIndex jobs.old.entries queues.old.items }
@@ -40,13 +52,20 @@ pub(crate) fn fail(jobs: &mut BTreeMap<u64, Job>, queues: &mut Vec<Queue>, id: u
     match take_out(jobs, queues, id) {
         Some(job) => {
             void(jobs, queues, &job.lane);
-            if is_closing(queues, &job.lane) {
-                CheckEnd::Closing
-            } else {
-                CheckEnd::Open
-            }
+            end_of(queues, &job.lane)
         }
         None => CheckEnd::Unchecked,
+    }
+}
+
+/// What it did to the lane, whose jobs are gone up to its first Stop.
+fn end_of(queues: &[Queue], lane: &LaneId) -> CheckEnd
+    ensures { result ≡ (if is_some (stop_of lane.now queues.now) then Closing else Open) }
+{
+    if is_closing(queues, lane) {
+        CheckEnd::Closing
+    } else {
+        CheckEnd::Open
     }
 }
 

@@ -8,7 +8,7 @@ ghost use Rattle.f2b_model.specs.Jobs.{head, job_by_id, is_head_id, next_due, Al
 ghost use Rattle.action_queue.specs.Checks.{left_in, voided_in, end_in, IsVoided};
 ghost use Rattle.action_queue.specs.Tries.{ending_of};
 
-use crate::checks::{CheckEnd, fail, is_checked, is_closing};
+use crate::checks::{CheckEnd, checked_lane, fail, is_checked, is_closing};
 use crate::due::least_due;
 use crate::entries::{apply, enter};
 use crate::queue::{Queue, first_id, is_number};
@@ -143,11 +143,7 @@ impl Lanes {
         ensures { option_copied result ≡ checked_lane id self.now }
     {
         match self.jobs.get(&id) {
-            Some(job) => if is_checked(job, &self.queues, id) {
-                Some(&job.lane)
-            } else {
-                None
-            },
+            Some(job) => checked_lane(job, &self.queues, id),
             None => None,
         }
     }
