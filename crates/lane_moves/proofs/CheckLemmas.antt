@@ -49,8 +49,8 @@ closing_left at job held lane old book checked closing is = rw closing (left at 
 pub open_left : (at job : ℕ) (held : List Held) (lane : LaneId) (old : Lanes (List Job)) (book : Pending) (new : Lanes (List Job)) → checked_lane job old.jobs ≡ Some lane → is_closing lane old.jobs ≡ false
     → book ≡ record { jobs = void_each at (voided_in (checked_lane job old.jobs) old.jobs) old.jobs; next = old.next_job }
     → new ≡ restarted books_now at held (lane_of lane old.up) (record old { jobs = book.jobs; next_job = book.next }) → new ≡ lane_failed books_now at held lane old
-open_left at job held lane old book new checked open is one =
-    rw open (one ∙ ap (restarted books_now at held (lane_of lane old.up)) (left at job lane old book checked is))
+open_left at job held lane old book new checked still is one =
+    rw still (one ∙ ap (restarted books_now at held (lane_of lane old.up)) (left at job lane old book checked is))
 
 -- ---- what is told
 

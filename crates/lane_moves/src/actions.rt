@@ -225,7 +225,8 @@ impl Actions {
         if closing {
             return Ok(());
         }
-        self.restart(held, lane, at)
+        self.restart(held, lane, at)?;
+        Ok(())
     }
 
     /// Starts a lane anew where it is up, with these bans: it stops, starts, and takes them again.
