@@ -12,6 +12,7 @@ pub mod ToldLemmas
 pub mod NumberLemmas
 pub mod WatchLemmas
 pub mod WindowLemmas
+pub mod JoinLemmas
 pub mod StandLemmas
 pub mod PartLemmas
 pub mod Rows
@@ -27,6 +28,16 @@ pub mod ToldOrderLemmas
 pub mod InLemmas
 pub mod LaneStepLemmas
 pub mod LaneOrderLemmas
+pub mod IdLemmas
+pub mod ByIdLemmas
+pub mod CheckLemmas
+pub mod CarryLemmas
+pub mod DueLemmas
+pub mod StartLemmas
+pub mod LaterLemmas
+pub mod StorableLemmas
+pub mod StorableLaneLemmas
+pub mod ShownLemmas
 pub mod LaneNowLemmas
 pub mod LaneBackLemmas
 pub mod LaneLawLemmas
@@ -39,4 +50,6 @@ pub mod FitLemmas
 pub mod WholeLemmas
 mod Histories
 pub mod RenderLemmas
+pub mod MatchLemmas
+pub mod Utf8Lemmas
 mod LaneRows

@@ -1,0 +1,218 @@
+-- What can be stored: a word for each type of stored values, which says the bounds of a value by itself. How values of a list stand to
+-- each other, as rising serials, is told by other words; and the lengths of lists that only memory bounds are left out.
+use Rattle.std.specs.Prelude.{◌≡◌, ℕ, ◌+◌, ◌%◌, ◌^◌, ◌<◌, ◌≤◌, ◌==◌, ◌&&◌, ◌||◌, nat_le, Bool, true, min, List, length, Option, Some, None, ℤ, pos, negsuc}
+use Rattle.std.specs.List.{list_all}
+use Rattle.std.specs.Str.{IsUtf8}
+use Rattle.f2b_base.specs.Addresses.{IsAddr}
+use Rattle.f2b_base.specs.Limits.{last_moment, head_bytes, kept_line_bytes}
+use Rattle.f2b_base.specs.Masks.{IsCidr}
+use Rattle.f2b_base.specs.declared.addr.Addr.{Addr}
+use Rattle.f2b_base.specs.declared.ban.Ban.{Ban}
+use Rattle.f2b_base.specs.declared.ban.BanRule.{BanRule}
+use Rattle.f2b_base.specs.declared.ban.Failure.{Failure}
+use Rattle.f2b_base.specs.declared.ban.Past.{Past}
+use Rattle.f2b_base.specs.declared.ban.Until.{Until}
+use Rattle.f2b_base.specs.declared.ban.Until.TheVariants.{Never, At}
+use Rattle.f2b_base.specs.declared.input.Input.{Input}
+use Rattle.f2b_base.specs.declared.input.What.{What}
+use Rattle.f2b_base.specs.declared.input.What.TheVariants.{Read, Config, Ban as BanThese, Attempt, Ignore, Findtime, Bantime, Maxretry}
+use Rattle.f2b_base.specs.declared.jail.ActionDef.{ActionDef}
+use Rattle.f2b_base.specs.declared.jail.DateSpec.{DateSpec}
+use Rattle.f2b_base.specs.declared.jail.DateSpec.TheVariants.{Pattern, AnchoredPattern}
+use Rattle.f2b_base.specs.declared.jail.Defs.{Defs}
+use Rattle.f2b_base.specs.declared.jail.JailDef.{JailDef}
+use Rattle.f2b_base.specs.declared.jail.Place.{Place}
+use Rattle.f2b_base.specs.declared.jail.Place.TheVariants.{Tail, Pos}
+use Rattle.f2b_base.specs.declared.jail.WatchDef.{WatchDef}
+use Rattle.f2b_base.specs.declared.job.Job.{Job}
+use Rattle.f2b_base.specs.declared.job.LaneId.{LaneId}
+use Rattle.f2b_base.specs.declared.job.UpLane.{UpLane}
+use Rattle.f2b_base.specs.declared.view.WatchView.{WatchView}
+use Rattle.f2b_model.specs.declared.jail_now.JailNow.{JailNow}
+use Rattle.f2b_model.specs.Lanes.{Lanes}
+use Rattle.f2b_model.specs.Lists.{AllOf}
+use Rattle.f2b_model.specs.Whole.{Now}
+
+-- ---- numbers and texts
+
+-- the most seconds that a word of time can mean
+abbrev pub longest_span : ℕ
+longest_span = 3153600000
+
+-- from one number to another
+abbrev pub IsWithin : ℕ → ℕ → ℕ → Type 0
+IsWithin least most n = (least ≤ n) × (n ≤ most)
+
+-- how long something lasts that lasts
+abbrev pub IsSpanOfTime : ℕ → Type 0
+IsSpanOfTime secs = IsWithin 1 longest_span secs
+
+-- how long a ban lasts by its rule: a negative span never ends, and none is 0
+abbrev pub IsBase : ℤ → Type 0
+IsBase (pos secs) = IsSpanOfTime secs
+IsBase (negsuc n) = n < longest_span
+
+-- how far a zone is ahead of UTC: whole minutes, less than a day either way
+abbrev pub IsZone : ℤ → Type 0
+IsZone (pos secs) = (secs % 60 ≡ 0) × (secs < 86400)
+IsZone (negsuc n) = ((n + 1) % 60 ≡ 0) × (n + 1 < 86400)
+
+-- a text, at most so long
+abbrev pub IsShortText : ℕ → List ℕ → Type 0
+IsShortText most text = IsUtf8 text × (length text ≤ most)
+
+-- a pattern of lines or dates
+abbrev pub IsPattern : List ℕ → Type 0
+IsPattern text = IsShortText 8192 text
+
+-- one of A-Z a-z 0-9 _ . -
+abbrev pub is_name_byte : ℕ → Bool
+is_name_byte b = (nat_le 65 b && nat_le b 90) || ((nat_le 97 b && nat_le b 122) || ((nat_le 48 b && nat_le b 57) || (b == 95 || (b == 46 || b == 45))))
+
+-- the name of a jail
+pub record IsJailName (name : List ℕ) : Type 0 where
+  pub long : IsWithin 1 64 (length name)
+  pub bytes : list_all is_name_byte name ≡ true
+
+-- ---- failures, bans and places
+
+pub record IsStorableFailure (f : Failure) : Type 0 where
+  pub addr : IsAddr f.addr
+  pub time : f.time ≤ last_moment
+  pub line : IsShortText kept_line_bytes f.line
+
+abbrev pub IsStorableUntil : Until → Type 0
+IsStorableUntil Never = Unit {0}
+IsStorableUntil (At end) = end ≤ last_moment
+
+pub record IsStorableBan (b : Ban) : Type 0 where
+  pub addr : IsAddr b.addr
+  pub begin : b.begin ≤ last_moment
+  pub until : IsStorableUntil b.until
+  pub count : b.count < 2 ^ 32
+  pub failures : b.failures < 2 ^ 32
+
+pub record IsStorablePast (p : Past) : Type 0 where
+  pub addr : IsAddr p.addr
+  pub end : p.end ≤ last_moment
+
+-- a log's head is as long as the log was followed, and no longer than the first bytes that tell which log it is
+abbrev pub IsStorablePlace : Place → Type 0
+IsStorablePlace Tail = Unit {0}
+IsStorablePlace (Pos position head) = (position < 2 ^ 64) × (length head ≡ min head_bytes position)
+
+pub record IsStorableWatch (w : WatchView) : Type 0 where
+  pub path : IsUtf8 w.path
+  pub place : IsStorablePlace w.place
+
+-- ---- definitions
+
+pub record IsStorableRule (r : BanRule) : Type 0 where
+  pub base : IsBase r.base
+  pub factor : IsWithin 1 1000000 r.factor
+  pub multipliers : AllOf (IsWithin 1 1000000) r.multipliers
+  pub most : length r.multipliers ≤ 64
+  pub maxtime : IsSpanOfTime r.maxtime
+  pub rndtime : r.rndtime ≤ 1000000
+
+abbrev pub IsStorableDate : DateSpec → Type 0
+IsStorableDate (Pattern text) = IsPattern text
+IsStorableDate (AnchoredPattern text) = IsPattern text
+IsStorableDate _ = Unit {0}
+
+abbrev pub IsStorablePref : Option (List ℕ) → Type 0
+IsStorablePref None = Unit {0}
+IsStorablePref (Some text) = IsPattern text
+
+pub record IsStorableAction (a : ActionDef) : Type 0 where
+  pub name : IsUtf8 a.name
+  pub start : IsUtf8 a.start
+  pub stop : IsUtf8 a.stop
+  pub ban : IsUtf8 a.ban
+  pub unban : IsUtf8 a.unban
+  pub check : IsUtf8 a.check
+  pub timeout : IsSpanOfTime a.timeout
+
+pub record IsStorableDef (d : JailDef) : Type 0 where
+  pub name : IsJailName d.name
+  pub watches : AllOf (λ (w : WatchDef). IsUtf8 w.path) d.watches
+  pub logs : length d.watches ≤ 4096
+  pub zone : IsZone d.zone
+  pub date : IsStorableDate d.date
+  pub pref : IsStorablePref d.pref
+  pub fail : AllOf IsPattern d.fail
+  pub fails : length d.fail ≤ 512
+  pub ignore_lines : AllOf IsPattern d.ignore_lines
+  pub ignores : length d.ignore_lines ≤ 512
+  pub ignore : AllOf IsCidr d.ignore
+  pub findtime : IsSpanOfTime d.findtime
+  pub maxretry : IsWithin 1 100000 d.maxretry
+  pub maxmatches : d.maxmatches ≤ 1000
+  pub rule : IsStorableRule d.rule
+  pub actions : AllOf IsStorableAction d.actions
+  pub most : length d.actions ≤ 32
+
+pub record AreStorableDefs (defs : Defs) : Type 0 where
+  pub purge : defs.purge ≤ longest_span
+  pub jails : AllOf IsStorableDef defs.jails
+  pub most : length defs.jails ≤ 256
+
+-- ---- jails
+
+pub record IsStorableJail (j : JailNow) : Type 0 where
+  pub definition : IsStorableDef j.definition
+  pub total_failed : j.total_failed < 2 ^ 64
+  pub total_banned : j.total_banned < 2 ^ 64
+  pub moment : j.moment ≤ last_moment
+  pub watches : AllOf IsStorableWatch j.watches
+  pub failures : AllOf IsStorableFailure j.failures
+  pub bans : AllOf IsStorableBan j.bans
+  pub past : AllOf IsStorablePast j.past
+
+-- ---- lanes and jobs
+
+abbrev pub IsStorableAddr : Option Addr → Type 0
+IsStorableAddr None = Unit {0}
+IsStorableAddr (Some addr) = IsAddr addr
+
+pub record IsStorableLane (l : LaneId) : Type 0 where
+  pub jail : IsJailName l.jail
+  pub action : IsUtf8 l.action
+
+pub record IsStorableUp (u : UpLane) : Type 0 where
+  pub jail : IsJailName u.jail
+  pub action : IsStorableAction u.action
+
+-- a job, but for its text; its tries and its due moment are those of a pending job
+pub record IsStorableJob (j : Job) : Type 0 where
+  pub lane : IsStorableLane j.lane
+  pub addr : IsStorableAddr j.addr
+  pub timeout : IsSpanOfTime j.timeout
+
+pub record AreStorableLanes (l : Lanes (List Job)) : Type 0 where
+  pub up : AllOf IsStorableUp l.up
+  pub jobs : AllOf IsStorableJob l.jobs
+
+-- ---- all
+
+-- all that is stored, but for the texts of jobs
+pub record IsStorable (n : Now) : Type 0 where
+  pub jails : AllOf IsStorableJail n.world.jails
+  pub lanes : AreStorableLanes n.lanes
+
+-- ---- inputs
+
+abbrev pub IsStorableWhat : What → Type 0
+IsStorableWhat (Read jail path place fs) = IsStorablePlace place × AllOf IsStorableFailure fs
+IsStorableWhat (Config defs) = AreStorableDefs defs
+IsStorableWhat (BanThese jail addrs) = AllOf IsAddr addrs
+IsStorableWhat (Attempt jail addr) = IsAddr addr
+IsStorableWhat (Ignore jail cidr add) = IsCidr cidr
+IsStorableWhat (Findtime jail secs) = IsSpanOfTime secs
+IsStorableWhat (Bantime jail secs) = IsBase secs
+IsStorableWhat (Maxretry jail number) = IsWithin 1 100000 number
+IsStorableWhat _ = Unit {0}
+
+pub record IsStorableInput (input : Input) : Type 0 where
+  pub secs : input.secs ≤ last_moment
+  pub what : IsStorableWhat input.what
