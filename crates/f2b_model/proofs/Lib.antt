@@ -52,4 +52,5 @@ mod Histories
 pub mod RenderLemmas
 pub mod MatchLemmas
 pub mod Utf8Lemmas
+pub mod ShownTextLemmas
 mod LaneRows

@@ -2,8 +2,10 @@
 use Rattle.std.proofs.Common.{◌≡◌, ℕ, ◌+◌, ◌≤◌, max, Bool, true, false, cond, not, find, inl, inr, Option, Some, None, List, [], ◌∷◌, ◌++◌, length, drop, map, filter, refl, arith}
 use Rattle.std.specs.Prelude.{bytes_eq, ◌==◌}
 use Rattle.std.specs.List.{flat_map, cons_option}
+use Rattle.std.specs.Str.{IsUtf8}
 use Rattle.std.proofs.lemmas.Bool.{cases_Bool}
 use Rattle.std.proofs.lemmas.Option.{same_Some}
+use Rattle.std.proofs.lemmas.Str.{IsUtf8-nil}
 use Rattle.std.proofs.Common.{subst}
 use Rattle.f2b_base.specs.Addresses.{IsAddr}
 use Rattle.f2b_base.specs.Limits.{last_moment}
@@ -31,10 +33,10 @@ use Rattle.f2b_model.specs.Checks.{is_closing, lane_of, checked_lane, void_ids, 
 use Rattle.f2b_model.specs.Jobs.{Ending, Tried, after_try, is_head_id, settle_in, settled_as}
 use Rattle.f2b_model.specs.Lanes.{Lanes, books_now, issue, lane_down, lane_up, all_down, all_up, try_ended, void_all, restarted, failed_in, others_down, lanes_configured, lanes_issued, lanes_done, lanes_step, lanes_of_jail, lanes_of, is_among}
 use Rattle.f2b_model.specs.Lists.{AllOf, in_order}
-use Rattle.f2b_model.specs.Moves.{counts}
-use Rattle.f2b_model.specs.NowMoves.{found_now, banned_now, shown_now}
+use Rattle.f2b_model.specs.Moves.{counts, is_near}
+use Rattle.f2b_model.specs.NowMoves.{counted_now, found_now, banned_now, shown_now}
 use Rattle.f2b_model.specs.Nows.{JailsNow}
-use Rattle.f2b_model.specs.Orders.{Held, addr_in, lane_id, is_lane, is_up, takes, order, order_showing, ban_orders, lane_orders, down_orders, up_orders, restart_orders, told_orders}
+use Rattle.f2b_model.specs.Orders.{Held, addr_in, fill_of, template, lane_id, is_lane, is_up, takes, order, order_showing, ban_orders, lane_orders, down_orders, up_orders, restart_orders, told_orders}
 use Rattle.f2b_model.specs.Steps.{moves_now, named, is_spent, is_due, ends_before, is_meant, is_meant_jail, at_jail, at_reading, is_followed, followed_to, ended_by_time, step_by}
 use Rattle.f2b_model.specs.Storable.{IsSpanOfTime, IsStorableAction, IsStorableAddr, IsStorableBan, IsStorableDef, IsStorableFailure, IsStorableInput, IsStorableJail, IsStorableJob, IsStorableLane, IsStorableUp, AreStorableLanes, IsStorable, IsStorableWhat}
 use Rattle.f2b_model.specs.Told.{begins, told_each, told_new, told_found, told_banned, told_ends, told_unbanned, told_in, told_all_found, told_all_banned, told_done, jails_told}
@@ -44,7 +46,9 @@ use Rattle.f2b_model.specs.Whole.{Now, is_whole_spent, step_now}
 use Rattle.f2b_model.proofs.EndLemmas.{all_placed_all}
 use Rattle.f2b_model.proofs.ListLemmas.{by_test}
 use Rattle.f2b_model.proofs.OrderlyLemmas.{all_of-filter, all_of-push}
+use Rattle.f2b_model.proofs.ShownTextLemmas.{IsStorableOf, matches_utf8, values_utf8}
 use Rattle.f2b_model.proofs.StepLemmas.{all_of-map}
+use Rattle.f2b_model.proofs.Utf8Lemmas.{rendered_utf8}
 use Rattle.f2b_model.proofs.StorableLemmas.{at_jail_stored, banned_stored, by_time_stored, found_stored, place_stored, step_stored, watches_stored, attempt_stored}
 
 -- ---- lists
@@ -67,54 +71,72 @@ all_found P p (y ∷ ys) x a is = elim (cases_Bool (p y)) [
 
 -- ---- orders
 
--- the address of an active ban is an address
-abbrev HasAddr : Held → Type 0
-HasAddr h = IsAddr h.ban.addr
+-- an active ban that can be stored
+abbrev IsStorableHeld : Held → Type 0
+IsStorableHeld h = IsStorableBan h.ban
 
 record IsStorableOrder (o : Order) : Type 0 where
   lane : IsStorableLane o.lane
   addr : IsStorableAddr o.addr
+  text : IsUtf8 o.text
   timeout : IsSpanOfTime o.timeout
 
-order_stored : (lines : List ℕ) (kind : JobKind) (of : Option Held) (u : UpLane) → IsStorableUp u → IsStorableAddr (addr_in of) → IsStorableOrder (order_showing lines kind of u)
-order_stored lines kind of u s a = record { lane = record { jail = s.jail; action = s.action.name }; addr = a; timeout = s.action.timeout }
+addr_stored : (of : Option Held) → IsStorableOf of → IsStorableAddr (addr_in of)
+addr_stored None s = tt
+addr_stored (Some h) s = s.addr
 
-ban_orders_stored : (lines : List ℕ) (kind : JobKind) (h : Held) (up : List UpLane) → AllOf IsStorableUp up → HasAddr h → AllOf IsStorableOrder (ban_orders lines kind h up)
-ban_orders_stored lines kind h up s a =
-    all_of-map IsStorableUp IsStorableOrder (order_showing lines kind (Some h)) (λ u v. order_stored lines kind (Some h) u v a) (filter (λ u. takes u h) up) (all_of-filter IsStorableUp (λ u. takes u h) up s)
+template_utf8 : (kind : JobKind) (a : ActionDef) → IsStorableAction a → IsUtf8 (template kind a)
+template_utf8 Start a s = s.start
+template_utf8 Stop a s = s.stop
+template_utf8 Ban a s = s.ban
+template_utf8 Unban a s = s.unban
+template_utf8 Reban a s = s.ban
 
-lane_orders_stored : (kind : JobKind) (u : UpLane) (hs : List Held) → IsStorableUp u → AllOf HasAddr hs → AllOf IsStorableOrder (lane_orders kind u hs)
+order_stored : (lines : List ℕ) (kind : JobKind) (of : Option Held) (u : UpLane) → IsUtf8 lines → IsStorableUp u → IsStorableOf of → IsStorableOrder (order_showing lines kind of u)
+order_stored lines kind of u shown s b = record {
+  lane = record { jail = s.jail; action = s.action.name };
+  addr = addr_stored of b;
+  text = rendered_utf8 (template kind u.action) (record (fill_of u.action.family of) { matches = lines }) (template_utf8 kind u.action s.action) (values_utf8 lines u.action.family of shown b);
+  timeout = s.action.timeout;
+}
+
+ban_orders_stored : (lines : List ℕ) (kind : JobKind) (h : Held) (up : List UpLane) → IsUtf8 lines → AllOf IsStorableUp up → IsStorableHeld h → AllOf IsStorableOrder (ban_orders lines kind h up)
+ban_orders_stored lines kind h up shown s b =
+    all_of-map IsStorableUp IsStorableOrder (order_showing lines kind (Some h)) (λ u v. order_stored lines kind (Some h) u shown v b) (filter (λ u. takes u h) up)
+    (all_of-filter IsStorableUp (λ u. takes u h) up s)
+
+lane_orders_stored : (kind : JobKind) (u : UpLane) (hs : List Held) → IsStorableUp u → AllOf IsStorableHeld hs → AllOf IsStorableOrder (lane_orders kind u hs)
 lane_orders_stored kind u hs s a =
-    all_of-map HasAddr IsStorableOrder (λ h. order kind (Some h) u) (λ h b. order_stored [] kind (Some h) u s b) (filter (takes u) hs) (all_of-filter HasAddr (takes u) hs a)
+    all_of-map IsStorableHeld IsStorableOrder (λ h. order kind (Some h) u) (λ h b. order_stored [] kind (Some h) u IsUtf8-nil s b) (filter (takes u) hs) (all_of-filter IsStorableHeld (takes u) hs a)
 
-down_stored : (u : UpLane) (hs : List Held) → IsStorableUp u → AllOf HasAddr hs → AllOf IsStorableOrder (down_orders u hs)
-down_stored u hs s a = all_of-push IsStorableOrder (lane_orders Unban u hs) (order Stop None u) (lane_orders_stored Unban u hs s a) (order_stored [] Stop None u s tt)
+down_stored : (u : UpLane) (hs : List Held) → IsStorableUp u → AllOf IsStorableHeld hs → AllOf IsStorableOrder (down_orders u hs)
+down_stored u hs s a = all_of-push IsStorableOrder (lane_orders Unban u hs) (order Stop None u) (lane_orders_stored Unban u hs s a) (order_stored [] Stop None u IsUtf8-nil s tt)
 
-up_stored : (u : UpLane) (hs : List Held) → IsStorableUp u → AllOf HasAddr hs → AllOf IsStorableOrder (up_orders u hs)
-up_stored u hs s a = (order_stored [] Start None u s tt, lane_orders_stored Ban u hs s a)
+up_stored : (u : UpLane) (hs : List Held) → IsStorableUp u → AllOf IsStorableHeld hs → AllOf IsStorableOrder (up_orders u hs)
+up_stored u hs s a = (order_stored [] Start None u IsUtf8-nil s tt, lane_orders_stored Ban u hs s a)
 
-restart_stored : (u : UpLane) (hs : List Held) → IsStorableUp u → AllOf HasAddr hs → AllOf IsStorableOrder (restart_orders u hs)
-restart_stored u hs s a = (order_stored [] Stop None u s tt, (order_stored [] Start None u s tt, lane_orders_stored Reban u hs s a))
+restart_stored : (u : UpLane) (hs : List Held) → IsStorableUp u → AllOf IsStorableHeld hs → AllOf IsStorableOrder (restart_orders u hs)
+restart_stored u hs s a = (order_stored [] Stop None u IsUtf8-nil s tt, (order_stored [] Start None u IsUtf8-nil s tt, lane_orders_stored Reban u hs s a))
 
--- what is told is of addresses
+-- what is told is of bans that can be stored, and of lines that are a text
 abbrev IsToldWell : Happening → Type 0
 IsToldWell (Counts jail addr) = Unit {0}
-IsToldWell (Begins jail ban lines) = IsAddr ban.addr
-IsToldWell (Ends jail ban) = IsAddr ban.addr
+IsToldWell (Begins jail ban lines) = IsStorableBan ban × IsUtf8 lines
+IsToldWell (Ends jail ban) = IsStorableBan ban
 
 told_orders_stored : (up : List UpLane) (told : List Happening) → AllOf IsStorableUp up → AllOf IsToldWell told → AllOf IsStorableOrder (told_orders up told)
 told_orders_stored up [] s a = tt
 told_orders_stored up (Counts jail addr ∷ told) s a = told_orders_stored up told s a.1
 told_orders_stored up (Begins jail ban lines ∷ told) s a =
-    all_both IsStorableOrder (ban_orders lines Ban (record { jail = jail; ban = ban }) up) (told_orders up told) (ban_orders_stored lines Ban (record { jail = jail; ban = ban }) up s a.0) (told_orders_stored up told s a.1)
+    all_both IsStorableOrder (ban_orders lines Ban (record { jail = jail; ban = ban }) up) (told_orders up told) (ban_orders_stored lines Ban (record { jail = jail; ban = ban }) up a.0.1 s a.0.0) (told_orders_stored up told s a.1)
 told_orders_stored up (Ends jail ban ∷ told) s a =
-    all_both IsStorableOrder (ban_orders [] Unban (record { jail = jail; ban = ban }) up) (told_orders up told) (ban_orders_stored [] Unban (record { jail = jail; ban = ban }) up s a.0) (told_orders_stored up told s a.1)
+    all_both IsStorableOrder (ban_orders [] Unban (record { jail = jail; ban = ban }) up) (told_orders up told) (ban_orders_stored [] Unban (record { jail = jail; ban = ban }) up IsUtf8-nil s a.0) (told_orders_stored up told s a.1)
 
 -- ---- jobs
 
 numbered_stored : (next at : ℕ) (os : List Order) → AllOf IsStorableOrder os → AllOf IsStorableJob (numbered next at os)
 numbered_stored next at [] a = tt
-numbered_stored next at (o ∷ os) a = (record { lane = a.0.lane; addr = a.0.addr; timeout = a.0.timeout }, numbered_stored (next + 1) at os a.1)
+numbered_stored next at (o ∷ os) a = (record { lane = a.0.lane; addr = a.0.addr; text = a.0.text; timeout = a.0.timeout }, numbered_stored (next + 1) at os a.1)
 
 issue_stored : (at : ℕ) (os : List Order) (l : Lanes (List Job)) → AllOf IsStorableOrder os → AreStorableLanes l → AreStorableLanes (issue books_now at os l)
 issue_stored at os l a s = record { up = s.up; jobs = all_both IsStorableJob l.jobs (numbered l.next_job at os) s.jobs (numbered_stored l.next_job at os a) }
@@ -122,7 +144,7 @@ issue_stored at os l a s = record { up = s.up; jobs = all_both IsStorableJob l.j
 one_settled : (job : Job) (o : Settled) (jobs : List Job) → IsStorableJob job → AllOf IsStorableJob jobs → AllOf IsStorableJob (cons_option (after_try job o) jobs)
 one_settled job Done jobs one a = a
 one_settled job GivenUp jobs one a = a
-one_settled job (Again due) jobs one a = (record { lane = one.lane; addr = one.addr; timeout = one.timeout }, a)
+one_settled job (Again due) jobs one a = (record { lane = one.lane; addr = one.addr; text = one.text; timeout = one.timeout }, a)
 
 settle_stored : (e : Ending) (jobs : List Job) → AllOf IsStorableJob jobs → AllOf IsStorableJob (settle_in e jobs)
 settle_stored e [] a = tt
@@ -133,13 +155,13 @@ settle_stored e (job ∷ jobs) a = elim (cases_Bool (e.job == job.id)) [
 
 -- ---- lanes
 
-all_down_stored : (at : ℕ) (hs : List Held) (ls : List UpLane) (l : Lanes (List Job)) → AllOf HasAddr hs → AllOf IsStorableUp ls → AreStorableLanes l → AreStorableLanes (all_down books_now at hs ls l)
+all_down_stored : (at : ℕ) (hs : List Held) (ls : List UpLane) (l : Lanes (List Job)) → AllOf IsStorableHeld hs → AllOf IsStorableUp ls → AreStorableLanes l → AreStorableLanes (all_down books_now at hs ls l)
 all_down_stored at hs [] l a b s = s
 all_down_stored at hs (u ∷ ls) l a b s =
     let issued = issue_stored at (down_orders u hs) l (down_stored u hs b.0 a) s in
     all_down_stored at hs ls (lane_down books_now at hs u l) a b.1 (record { up = all_of-filter IsStorableUp (λ other. not (is_lane (lane_id u) other)) l.up s.up; jobs = issued.jobs })
 
-all_up_stored : (at : ℕ) (hs : List Held) (ls : List UpLane) (l : Lanes (List Job)) → AllOf HasAddr hs → AllOf IsStorableUp ls → AreStorableLanes l → AreStorableLanes (all_up books_now at hs ls l)
+all_up_stored : (at : ℕ) (hs : List Held) (ls : List UpLane) (l : Lanes (List Job)) → AllOf IsStorableHeld hs → AllOf IsStorableUp ls → AreStorableLanes l → AreStorableLanes (all_up books_now at hs ls l)
 all_up_stored at hs [] l a b s = s
 all_up_stored at hs (u ∷ ls) l a b s =
     let issued = issue_stored at (up_orders u hs) l (up_stored u hs b.0 a) s in
@@ -149,12 +171,12 @@ void_all_stored : (at : ℕ) (ids : List ℕ) (l : Lanes (List Job)) → AreStor
 void_all_stored at [] l s = s
 void_all_stored at (id ∷ ids) l s = void_all_stored at ids (record l { jobs = settle_in (voided_at id at) l.jobs }) (record { up = s.up; jobs = settle_stored (voided_at id at) l.jobs s.jobs })
 
-restarted_stored : (at : ℕ) (hs : List Held) (o : Option UpLane) (l : Lanes (List Job)) → AllOf HasAddr hs → ((u : UpLane) → o ≡ Some u → IsStorableUp u) → AreStorableLanes l
+restarted_stored : (at : ℕ) (hs : List Held) (o : Option UpLane) (l : Lanes (List Job)) → AllOf IsStorableHeld hs → ((u : UpLane) → o ≡ Some u → IsStorableUp u) → AreStorableLanes l
     → AreStorableLanes (restarted books_now at hs o l)
 restarted_stored at hs None l a each s = s
 restarted_stored at hs (Some u) l a each s = issue_stored at (restart_orders u hs) l (restart_stored u hs (each u refl) a) s
 
-failed_in_stored : (at : ℕ) (hs : List Held) (o : Option LaneId) (l : Lanes (List Job)) → AllOf HasAddr hs → AreStorableLanes l → AreStorableLanes (failed_in books_now at hs o l)
+failed_in_stored : (at : ℕ) (hs : List Held) (o : Option LaneId) (l : Lanes (List Job)) → AllOf IsStorableHeld hs → AreStorableLanes l → AreStorableLanes (failed_in books_now at hs o l)
 failed_in_stored at hs None l a s = s
 failed_in_stored at hs (Some lane) l a s =
     let left : Lanes (List Job) = void_all books_now at (void_ids lane l.jobs) l in
@@ -177,7 +199,7 @@ lanes_stored : (ds : List JailDef) → AllOf IsStorableDef ds → AllOf IsStorab
 lanes_stored [] a = tt
 lanes_stored (d ∷ ds) a = all_both IsStorableUp (lanes_of_jail d) (flat_map lanes_of_jail ds) (jail_lanes_stored d a.0) (lanes_stored ds a.1)
 
-configured_stored : (at : ℕ) (mid after : List Held) (new : List UpLane) (l : Lanes (List Job)) → AllOf HasAddr mid → AllOf HasAddr after → AllOf IsStorableUp new → AreStorableLanes l
+configured_stored : (at : ℕ) (mid after : List Held) (new : List UpLane) (l : Lanes (List Job)) → AllOf IsStorableHeld mid → AllOf IsStorableHeld after → AllOf IsStorableUp new → AreStorableLanes l
     → AreStorableLanes (lanes_configured books_now at mid after new l)
 configured_stored at mid after new l m a b s =
     let open_lanes : Lanes (List Job) = record l { stopping = false } in
@@ -185,7 +207,7 @@ configured_stored at mid after new l m a b s =
     let down = all_down_stored at mid (filter (λ lane. not (is_among new lane)) l.up) open_lanes m (all_of-filter IsStorableUp (λ lane. not (is_among new lane)) l.up s.up) (record { up = s.up; jobs = s.jobs }) in
     all_up_stored at after (filter (λ lane. not (is_up fewer.up (lane_id lane))) new) fewer a (all_of-filter IsStorableUp (λ lane. not (is_up fewer.up (lane_id lane))) new b) down
 
-lanes_done_stored : (at : ℕ) (what : What) (mid after : List Held) (l : Lanes (List Job)) → AllOf HasAddr mid → AllOf HasAddr after → IsStorableWhat what → AreStorableLanes l
+lanes_done_stored : (at : ℕ) (what : What) (mid after : List Held) (l : Lanes (List Job)) → AllOf IsStorableHeld mid → AllOf IsStorableHeld after → IsStorableWhat what → AreStorableLanes l
     → AreStorableLanes (lanes_done books_now at what mid after l)
 lanes_done_stored at (Ended job outcome) mid after l m a w s = try_stored at job outcome l s
 lanes_done_stored at StopAll mid after l m a w s = let down = all_down_stored at mid l.up l m s.up s in record { up = down.up; jobs = down.jobs }
@@ -202,30 +224,33 @@ lanes_done_stored at (Bantime jail secs) mid after l m a w s = s
 lanes_done_stored at (Maxretry jail number) mid after l m a w s = s
 lanes_done_stored at (Idle jail idle) mid after l m a w s = s
 
-lanes_step_stored : (at : ℕ) (what : What) (mid after : List Held) (told : List Happening) (l : Lanes (List Job)) → AllOf HasAddr mid → AllOf HasAddr after → AllOf IsToldWell told → IsStorableWhat what → AreStorableLanes l
+lanes_step_stored : (at : ℕ) (what : What) (mid after : List Held) (told : List Happening) (l : Lanes (List Job)) → AllOf IsStorableHeld mid → AllOf IsStorableHeld after → AllOf IsToldWell told → IsStorableWhat what → AreStorableLanes l
     → AreStorableLanes (lanes_step books_now at what mid after told l)
 lanes_step_stored at what mid after told l m a t w s =
     lanes_done_stored at what mid after (lanes_issued books_now at told l) m a w (issue_stored at (told_orders l.up told) l (told_orders_stored l.up told s.up t) s)
 
 -- ---- what jails hold and tell
 
-held_stored : (js : List JailNow) → AllOf IsStorableJail js → AllOf HasAddr (held_by moves_now js)
+held_stored : (js : List JailNow) → AllOf IsStorableJail js → AllOf IsStorableHeld (held_by moves_now js)
 held_stored [] a = tt
 held_stored (j ∷ js) a =
-    all_both HasAddr (held_in moves_now j) (held_by moves_now js)
-    (all_of-map IsStorableBan HasAddr (λ (b : Banned). record { jail = named moves_now j; ban = b }) (λ b s. s.addr) j.bans a.0.bans) (held_stored js a.1)
+    all_both IsStorableHeld (held_in moves_now j) (held_by moves_now js)
+    (all_of-map IsStorableBan IsStorableHeld (λ (b : Banned). record { jail = named moves_now j; ban = b }) (λ b s. s) j.bans a.0.bans) (held_stored js a.1)
 
-told_new_well : (lines : List ℕ) (old new : JailNow) → IsStorableJail new → AllOf IsToldWell (told_new moves_now lines old new)
-told_new_well lines old new s = all_of-map IsStorableBan IsToldWell (begins lines (named moves_now new)) (λ b t. t.addr) (drop (length old.bans) new.bans) (all_drop IsStorableBan old.bans new.bans s.bans)
+told_new_well : (lines : List ℕ) (old new : JailNow) → IsUtf8 lines → IsStorableJail new → AllOf IsToldWell (told_new moves_now lines old new)
+told_new_well lines old new shown s = all_of-map IsStorableBan IsToldWell (begins lines (named moves_now new)) (λ b t. (t, shown)) (drop (length old.bans) new.bans) (all_drop IsStorableBan old.bans new.bans s.bans)
 
 where_told : (b : Bool) (told : List Happening) → AllOf IsToldWell told → AllOf IsToldWell (cond b told [])
 where_told true told a = a
 where_told false told a = tt
 
+shown_utf8 : (at : ℕ) (f : Failure) (j : JailNow) → IsUtf8 (shown_now at f j)
+shown_utf8 at f j = matches_utf8 j.definition.maxmatches (filter (is_near j.definition.findtime f) (counted_now at f j).failures)
+
 told_found_well : (at word n : ℕ) (f : Failure) (j : JailNow) → at ≤ last_moment → IsStorableFailure f → IsStorableJail j → AllOf IsToldWell (told_found moves_now at word f n j)
 told_found_well at word n f j h one s =
     where_told (counts at j.definition j.bans f) (Counts (named moves_now j) f.addr ∷ told_new moves_now (shown_now at f j) j (found_now at word n f j).jail)
-    (tt, told_new_well (shown_now at f j) j (found_now at word n f j).jail (found_stored at word n f j h one s))
+    (tt, told_new_well (shown_now at f j) j (found_now at word n f j).jail (shown_utf8 at f j) (found_stored at word n f j h one s))
 
 told_in_well : (name : List ℕ) (t : JailNow → List Happening) → ((j : JailNow) → IsStorableJail j → AllOf IsToldWell (t j)) → (js : List JailNow) → AllOf IsStorableJail js → AllOf IsToldWell (told_in moves_now name t js)
 told_in_well name t each [] a = tt
@@ -248,11 +273,11 @@ all_banned_well word name [] w h b a = tt
 all_banned_well word name (addr ∷ addrs) w h b a =
     let next = at_jail moves_now name (λ n j. banned_now w.at word n addr j) w in
     all_both IsToldWell (told_in moves_now name (told_banned moves_now w.at word addr w.next_ban) w.jails) (told_all_banned moves_now word name addrs next)
-    (told_in_well name (told_banned moves_now w.at word addr w.next_ban) (λ j s. told_new_well [] j (banned_now w.at word w.next_ban addr j).jail (banned_stored w.at word w.next_ban addr j h b.0 s)) w.jails a)
+    (told_in_well name (told_banned moves_now w.at word addr w.next_ban) (λ j s. told_new_well [] j (banned_now w.at word w.next_ban addr j).jail IsUtf8-nil (banned_stored w.at word w.next_ban addr j h b.0 s)) w.jails a)
     (all_banned_well word name addrs next h b.1 (at_jail_stored name (λ n j. banned_now w.at word n addr j) w (λ n j s. banned_stored w.at word n addr j h b.0 s) a))
 
 ends_well : (name : List ℕ) (bs : List Banned) → AllOf IsStorableBan bs → AllOf IsToldWell (map (Ends name) bs)
-ends_well name bs a = all_of-map IsStorableBan IsToldWell (Ends name) (λ b s. s.addr) bs a
+ends_well name bs a = all_of-map IsStorableBan IsToldWell (Ends name) (λ b s. s) bs a
 
 told_ends_well : (at : ℕ) (j : JailNow) → IsStorableJail j → AllOf IsToldWell (told_ends moves_now at j)
 told_ends_well at j s =

@@ -183,10 +183,11 @@ pub record IsStorableUp (u : UpLane) : Type 0 where
   pub jail : IsJailName u.jail
   pub action : IsStorableAction u.action
 
--- a job, but for its text; its tries and its due moment are those of a pending job
+-- a job; its tries and its due moment are those of a pending job
 pub record IsStorableJob (j : Job) : Type 0 where
   pub lane : IsStorableLane j.lane
   pub addr : IsStorableAddr j.addr
+  pub text : IsUtf8 j.text
   pub timeout : IsSpanOfTime j.timeout
 
 pub record AreStorableLanes (l : Lanes (List Job)) : Type 0 where
@@ -195,7 +196,7 @@ pub record AreStorableLanes (l : Lanes (List Job)) : Type 0 where
 
 -- ---- all
 
--- all that is stored, but for the texts of jobs
+-- all that is stored
 pub record IsStorable (n : Now) : Type 0 where
   pub jails : AllOf IsStorableJail n.world.jails
   pub lanes : AreStorableLanes n.lanes
