@@ -35,6 +35,8 @@ pub mod CarryLemmas
 pub mod DueLemmas
 pub mod StartLemmas
 pub mod LaterLemmas
+pub mod SerialLemmas
+pub mod BesideLemmas
 pub mod StorableLemmas
 pub mod StorableLaneLemmas
 pub mod ShownLemmas

@@ -1,5 +1,5 @@
 -- A step keeps what is stored of lanes and jobs within its bounds.
-use Rattle.std.proofs.Common.{◌≡◌, ℕ, ◌+◌, ◌≤◌, max, Bool, true, false, cond, not, find, inl, inr, Option, Some, None, List, [], ◌∷◌, ◌++◌, length, drop, map, filter, refl, arith}
+use Rattle.std.proofs.Common.{◌≡◌, ℕ, ◌+◌, ◌<◌, ◌^◌, ◌≤◌, max, Bool, true, false, cond, not, find, inl, inr, Option, Some, None, List, [], ◌∷◌, ◌++◌, length, drop, map, filter, refl, arith}
 use Rattle.std.specs.Prelude.{bytes_eq, ◌==◌}
 use Rattle.std.specs.List.{flat_map, cons_option}
 use Rattle.std.specs.Str.{IsUtf8}
@@ -38,7 +38,7 @@ use Rattle.f2b_model.specs.NowMoves.{counted_now, found_now, banned_now, shown_n
 use Rattle.f2b_model.specs.Nows.{JailsNow}
 use Rattle.f2b_model.specs.Orders.{Held, addr_in, fill_of, template, lane_id, is_lane, is_up, takes, order, order_showing, ban_orders, lane_orders, down_orders, up_orders, restart_orders, told_orders}
 use Rattle.f2b_model.specs.Steps.{moves_now, named, is_spent, is_due, ends_before, is_meant, is_meant_jail, at_jail, at_reading, is_followed, followed_to, ended_by_time, step_by}
-use Rattle.f2b_model.specs.Storable.{IsSpanOfTime, IsStorableAction, IsStorableAddr, IsStorableBan, IsStorableDef, IsStorableFailure, IsStorableInput, IsStorableJail, IsStorableJob, IsStorableLane, IsStorableUp, AreStorableLanes, IsStorable, IsStorableWhat}
+use Rattle.f2b_model.specs.Storable.{most_numbers, IsSpanOfTime, IsStorableAction, IsStorableAddr, IsStorableBan, IsStorableDef, IsStorableFailure, IsStorableInput, IsStorableJail, IsStorableJob, IsStorableLane, IsStorableUp, AreStorableLanes, IsStorable, IsStorableWhat}
 use Rattle.f2b_model.specs.Told.{begins, told_each, told_new, told_found, told_banned, told_ends, told_unbanned, told_in, told_all_found, told_all_banned, told_done, jails_told}
 use Rattle.f2b_model.specs.Turns.{Order, numbered}
 use Rattle.f2b_model.specs.Watches.{with_place}
@@ -46,6 +46,8 @@ use Rattle.f2b_model.specs.Whole.{Now, is_whole_spent, step_now}
 use Rattle.f2b_model.proofs.EndLemmas.{all_placed_all}
 use Rattle.f2b_model.proofs.ListLemmas.{by_test}
 use Rattle.f2b_model.proofs.OrderlyLemmas.{all_of-filter, all_of-push}
+use Rattle.f2b_model.proofs.BesideLemmas.{few_jails, step_beside}
+use Rattle.f2b_model.proofs.SerialLemmas.{banned_one_next, few_taken, followed_next, found_one_next, next_stored}
 use Rattle.f2b_model.proofs.ShownTextLemmas.{IsStorableOf, matches_utf8, values_utf8}
 use Rattle.f2b_model.proofs.StepLemmas.{all_of-map}
 use Rattle.f2b_model.proofs.Utf8Lemmas.{rendered_utf8}
@@ -247,10 +249,10 @@ where_told false told a = tt
 shown_utf8 : (at : ℕ) (f : Failure) (j : JailNow) → IsUtf8 (shown_now at f j)
 shown_utf8 at f j = matches_utf8 j.definition.maxmatches (filter (is_near j.definition.findtime f) (counted_now at f j).failures)
 
-told_found_well : (at word n : ℕ) (f : Failure) (j : JailNow) → at ≤ last_moment → IsStorableFailure f → IsStorableJail j → AllOf IsToldWell (told_found moves_now at word f n j)
-told_found_well at word n f j h one s =
+told_found_well : (at word n : ℕ) (f : Failure) (j : JailNow) → at ≤ last_moment → n < most_numbers → IsStorableFailure f → IsStorableJail j → AllOf IsToldWell (told_found moves_now at word f n j)
+told_found_well at word n f j h few one s =
     where_told (counts at j.definition j.bans f) (Counts (named moves_now j) f.addr ∷ told_new moves_now (shown_now at f j) j (found_now at word n f j).jail)
-    (tt, told_new_well (shown_now at f j) j (found_now at word n f j).jail (shown_utf8 at f j) (found_stored at word n f j h one s))
+    (tt, told_new_well (shown_now at f j) j (found_now at word n f j).jail (shown_utf8 at f j) (found_stored at word n f j h few one s))
 
 told_in_well : (name : List ℕ) (t : JailNow → List Happening) → ((j : JailNow) → IsStorableJail j → AllOf IsToldWell (t j)) → (js : List JailNow) → AllOf IsStorableJail js → AllOf IsToldWell (told_in moves_now name t js)
 told_in_well name t each [] a = tt
@@ -260,21 +262,25 @@ told_each_well : (t : JailNow → List Happening) → ((j : JailNow) → IsStora
 told_each_well t each [] a = tt
 told_each_well t each (j ∷ js) a = all_both IsToldWell (t j) (told_each t js) (each j a.0) (told_each_well t each js a.1)
 
-all_found_well : (word : ℕ) (name : List ℕ) (fs : List Failure) (w : JailsNow) → w.at ≤ last_moment → AllOf IsStorableFailure fs → AllOf IsStorableJail w.jails → AllOf IsToldWell (told_all_found moves_now word name fs w)
-all_found_well word name [] w h b a = tt
-all_found_well word name (f ∷ fs) w h b a =
+all_found_well : (word : ℕ) (name : List ℕ) (fs : List Failure) (w : JailsNow) → w.at ≤ last_moment → w.next_ban + length fs ≤ most_numbers → AllOf IsStorableFailure fs → AllOf IsStorableJail w.jails → AllOf IsToldWell (told_all_found moves_now word name fs w)
+all_found_well word name [] w h few b a = tt
+all_found_well word name (f ∷ fs) w h few b a =
+    let one = found_one_next word name f w in
     let next = at_jail moves_now name (λ n j. found_now w.at word n f j) w in
     all_both IsToldWell (told_in moves_now name (told_found moves_now w.at word f w.next_ban) w.jails) (told_all_found moves_now word name fs next)
-    (told_in_well name (told_found moves_now w.at word f w.next_ban) (λ j s. told_found_well w.at word w.next_ban f j h b.0 s) w.jails a)
-    (all_found_well word name fs next h b.1 (at_jail_stored name (λ n j. found_now w.at word n f j) w (λ n j s. found_stored w.at word n f j h b.0 s) a))
+    (told_in_well name (told_found moves_now w.at word f w.next_ban) (λ j s. told_found_well w.at word w.next_ban f j h (omega (arith, few)) b.0 s) w.jails a)
+    (all_found_well word name fs next h (omega (arith, few, one)) b.1
+    (at_jail_stored name (λ n j. found_now w.at word n f j) w (λ j s. found_stored w.at word w.next_ban f j h (omega (arith, few)) b.0 s) a))
 
-all_banned_well : (word : ℕ) (name : List ℕ) (addrs : List Addr) (w : JailsNow) → w.at ≤ last_moment → AllOf IsAddr addrs → AllOf IsStorableJail w.jails → AllOf IsToldWell (told_all_banned moves_now word name addrs w)
-all_banned_well word name [] w h b a = tt
-all_banned_well word name (addr ∷ addrs) w h b a =
+all_banned_well : (word : ℕ) (name : List ℕ) (addrs : List Addr) (w : JailsNow) → w.at ≤ last_moment → w.next_ban + length addrs ≤ most_numbers → AllOf IsAddr addrs → AllOf IsStorableJail w.jails → AllOf IsToldWell (told_all_banned moves_now word name addrs w)
+all_banned_well word name [] w h few b a = tt
+all_banned_well word name (addr ∷ addrs) w h few b a =
+    let one = banned_one_next word name addr w in
     let next = at_jail moves_now name (λ n j. banned_now w.at word n addr j) w in
     all_both IsToldWell (told_in moves_now name (told_banned moves_now w.at word addr w.next_ban) w.jails) (told_all_banned moves_now word name addrs next)
-    (told_in_well name (told_banned moves_now w.at word addr w.next_ban) (λ j s. told_new_well [] j (banned_now w.at word w.next_ban addr j).jail IsUtf8-nil (banned_stored w.at word w.next_ban addr j h b.0 s)) w.jails a)
-    (all_banned_well word name addrs next h b.1 (at_jail_stored name (λ n j. banned_now w.at word n addr j) w (λ n j s. banned_stored w.at word n addr j h b.0 s) a))
+    (told_in_well name (told_banned moves_now w.at word addr w.next_ban) (λ j s. told_new_well [] j (banned_now w.at word w.next_ban addr j).jail IsUtf8-nil (banned_stored w.at word w.next_ban addr j h (omega (arith, few)) b.0 s)) w.jails a)
+    (all_banned_well word name addrs next h (omega (arith, few, one)) b.1
+    (at_jail_stored name (λ n j. banned_now w.at word n addr j) w (λ j s. banned_stored w.at word w.next_ban addr j h (omega (arith, few)) b.0 s) a))
 
 ends_well : (name : List ℕ) (bs : List Banned) → AllOf IsStorableBan bs → AllOf IsToldWell (map (Ends name) bs)
 ends_well name bs a = all_of-map IsStorableBan IsToldWell (Ends name) (λ b s. s) bs a
@@ -289,25 +295,28 @@ told_unbanned_well jail addrs j s =
     (λ e. rw e (ends_well j.definition.name (filter (is_meant addrs) j.bans) (all_of-filter IsStorableBan (is_meant addrs) j.bans s.bans)))
     (λ e. rw e tt)
 
-told_done_well : (word : ℕ) (what : What) (w : JailsNow) → w.at ≤ last_moment → IsStorableWhat what → AllOf IsStorableJail w.jails → AllOf IsToldWell (told_done moves_now word what w)
-told_done_well word (Read jail path place fs) w h b a =
+told_done_well : (word : ℕ) (what : What) (w : JailsNow) → w.at ≤ last_moment → w.next_ban ≤ 2 ^ 62 → IsStorableWhat what → AllOf IsStorableJail w.jails → AllOf IsToldWell (told_done moves_now word what w)
+told_done_well word (Read jail path place fs) w h few b a =
     by_test (is_followed moves_now jail path w) _
-    (λ e. rw e (all_found_well word jail fs (followed_to moves_now jail path place w) h b.1
-    (at_jail_stored jail (λ n j. record { jail = moves_now.followed path place j; next = n }) w (λ n j s. watches_stored (with_place path place j.watches) j (place_stored path place j.watches b.0 s.watches) s) a)))
+    (λ e.
+    let same = followed_next jail path place w in
+    let most = b.2 in
+    rw e (all_found_well word jail fs (followed_to moves_now jail path place w) h (omega (arith, few, same, most)) b.1
+    (at_jail_stored jail (λ n j. record { jail = moves_now.followed path place j; next = n }) w (λ j s. watches_stored (with_place path place j.watches) j (place_stored path place j.watches b.0 s.watches) s) a)))
     (λ e. rw e tt)
-told_done_well word (Attempt jail addr) w h b a = all_found_well word jail (record { addr = addr; time = w.at; line = [] } ∷ []) w h (attempt_stored addr w.at b h, tt) a
-told_done_well word (BanThese jail addrs) w h b a = all_banned_well word jail addrs w h b a
-told_done_well word (UnbanThese jail addrs) w h b a = told_each_well (told_unbanned moves_now jail addrs) (told_unbanned_well jail addrs) w.jails a
-told_done_well word Tick w h b a = tt
-told_done_well word (Ended job outcome) w h b a = tt
-told_done_well word (Config defs) w h b a = tt
-told_done_well word StopAll w h b a = tt
-told_done_well word (Ignore jail cidr add) w h b a = tt
-told_done_well word (Findtime jail secs) w h b a = tt
-told_done_well word (Bantime jail secs) w h b a = tt
-told_done_well word (Maxretry jail number) w h b a = tt
-told_done_well word (Idle jail idle) w h b a = tt
-told_done_well word (CheckFailed job outcome) w h b a = tt
+told_done_well word (Attempt jail addr) w h few b a = all_found_well word jail (record { addr = addr; time = w.at; line = [] } ∷ []) w h (omega (arith, few)) (attempt_stored addr w.at b h, tt) a
+told_done_well word (BanThese jail addrs) w h few b a = let most = b.1 in all_banned_well word jail addrs w h (omega (arith, few, most)) b.0 a
+told_done_well word (UnbanThese jail addrs) w h few b a = told_each_well (told_unbanned moves_now jail addrs) (told_unbanned_well jail addrs) w.jails a
+told_done_well word Tick w h few b a = tt
+told_done_well word (Ended job outcome) w h few b a = tt
+told_done_well word (Config defs) w h few b a = tt
+told_done_well word StopAll w h few b a = tt
+told_done_well word (Ignore jail cidr add) w h few b a = tt
+told_done_well word (Findtime jail secs) w h few b a = tt
+told_done_well word (Bantime jail secs) w h few b a = tt
+told_done_well word (Maxretry jail number) w h few b a = tt
+told_done_well word (Idle jail idle) w h few b a = tt
+told_done_well word (CheckFailed job outcome) w h few b a = tt
 
 -- ---- the step
 
@@ -322,16 +331,22 @@ told_well w input h b a =
     let at : max w.at input.secs ≤ last_moment = (let k = b.secs in omega (arith, h, k)) in
     rw e (all_both IsToldWell (told_each (told_ends moves_now (max w.at input.secs)) w.jails) (told_done moves_now input.word input.what (at_reading moves_now input.secs w))
     (told_each_well (told_ends moves_now (max w.at input.secs)) (told_ends_well (max w.at input.secs)) w.jails a)
-    (told_done_well input.word input.what (at_reading moves_now input.secs w) at b.what (read_stored w (max w.at input.secs) a))))
+    (told_done_well input.word input.what (at_reading moves_now input.secs w) at (few_taken w e) b.what (read_stored w (max w.at input.secs) a))))
 
-pub whole_stored : (n : Now) (input : Input) → n.world.at ≤ last_moment → IsStorableInput input → IsStorable n → IsStorable (step_now n input)
-whole_stored n input h b s =
+pub whole_stored : (n : Now) (input : Input) → IsStorableInput input → IsStorable n → IsStorable (step_now n input)
+whole_stored n input b s =
     by_test (is_whole_spent moves_now books_now n) _
     (λ e. rw e s)
     (λ e.
+    let h = s.at in
     let jails = step_stored n.world input h b s.jails in
+    let beside = step_beside n.world input b (h, s.purge) in
     rw e (record {
+      at = beside.0;
+      purge = beside.1;
       jails = jails;
+      most = few_jails n.world input b s.most;
+      next_ban = next_stored n.world input b s.next_ban;
       lanes = lanes_step_stored (step_by moves_now n.world input).at input.what (held moves_now (at_reading moves_now input.secs n.world)) (held moves_now (step_by moves_now n.world input))
           (jails_told moves_now n.world input) n.lanes (held_stored (map (ended_by_time moves_now (max n.world.at input.secs)) n.world.jails) (read_stored n.world (max n.world.at input.secs) s.jails))
           (held_stored (step_by moves_now n.world input).jails jails) (told_well n.world input h b s.jails) b.what s.lanes;

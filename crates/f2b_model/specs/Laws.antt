@@ -113,4 +113,4 @@ pub record WholeLaw : Type 0 where
   pub stays_first : (n : Now) (input : Input) (id : ℕ) → AreById 0 n.lanes.jobs n.lanes.next_job → is_head_id id n.lanes.jobs ≡ true → is_some (job_by_id id (step_now n input).lanes.jobs) ≡ true
       → is_head_id id (step_now n input).lanes.jobs ≡ true
   -- what is stored stays within its bounds
-  pub stored : (n : Now) (input : Input) → n.world.at ≤ last_moment → IsStorableInput input → IsStorable n → IsStorable (step_now n input)
+  pub stored : (n : Now) (input : Input) → IsStorableInput input → IsStorable n → IsStorable (step_now n input)

@@ -1,5 +1,5 @@
 -- What can be stored: a word for each type of stored values, which says the bounds of a value by itself. How values of a list stand to
--- each other, as rising serials, is told by other words; and the lengths of lists that only memory bounds are left out.
+-- each other is told by other words, but for serials and ids; and the lengths of lists that only memory bounds are left out.
 use Rattle.std.specs.Prelude.{◌≡◌, ℕ, ◌+◌, ◌%◌, ◌^◌, ◌<◌, ◌≤◌, ◌==◌, ◌&&◌, ◌||◌, nat_le, Bool, true, min, List, length, Option, Some, None, ℤ, pos, negsuc}
 use Rattle.std.specs.List.{list_all}
 use Rattle.std.specs.Str.{IsUtf8}
@@ -42,6 +42,10 @@ longest_span = 3153600000
 -- from one number to another
 abbrev pub IsWithin : ℕ → ℕ → ℕ → Type 0
 IsWithin least most n = (least ≤ n) × (n ≤ most)
+
+-- the most bans that can begin, and the most jobs that can be made
+abbrev pub most_numbers : ℕ
+most_numbers = 2 ^ 63
 
 -- how long something lasts that lasts
 abbrev pub IsSpanOfTime : ℕ → Type 0
@@ -86,6 +90,7 @@ IsStorableUntil Never = Unit {0}
 IsStorableUntil (At end) = end ≤ last_moment
 
 pub record IsStorableBan (b : Ban) : Type 0 where
+  pub serial : b.serial < most_numbers
   pub addr : IsAddr b.addr
   pub begin : b.begin ≤ last_moment
   pub until : IsStorableUntil b.until
@@ -198,15 +203,23 @@ pub record AreStorableLanes (l : Lanes (List Job)) : Type 0 where
 
 -- all that is stored
 pub record IsStorable (n : Now) : Type 0 where
+  pub at : n.world.at ≤ last_moment
+  pub purge : n.world.purge ≤ longest_span
   pub jails : AllOf IsStorableJail n.world.jails
+  pub most : length n.world.jails ≤ 256
+  pub next_ban : n.world.next_ban ≤ most_numbers
   pub lanes : AreStorableLanes n.lanes
 
 -- ---- inputs
 
+-- the most values in the list of one input, each of which may begin a ban: more fit in no memory
+abbrev pub most_at_once : ℕ
+most_at_once = 2 ^ 62
+
 abbrev pub IsStorableWhat : What → Type 0
-IsStorableWhat (Read jail path place fs) = IsStorablePlace place × AllOf IsStorableFailure fs
+IsStorableWhat (Read jail path place fs) = IsStorablePlace place × AllOf IsStorableFailure fs × (length fs ≤ most_at_once)
 IsStorableWhat (Config defs) = AreStorableDefs defs
-IsStorableWhat (BanThese jail addrs) = AllOf IsAddr addrs
+IsStorableWhat (BanThese jail addrs) = AllOf IsAddr addrs × (length addrs ≤ most_at_once)
 IsStorableWhat (Attempt jail addr) = IsAddr addr
 IsStorableWhat (Ignore jail cidr add) = IsCidr cidr
 IsStorableWhat (Findtime jail secs) = IsSpanOfTime secs
