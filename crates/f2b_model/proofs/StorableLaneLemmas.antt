@@ -1,9 +1,9 @@
 -- A step keeps what is stored of lanes and jobs within its bounds.
-use Rattle.std.proofs.Common.{◌≡◌, ℕ, ◌+◌, ◌<◌, ◌^◌, ◌≤◌, max, Bool, true, false, cond, not, find, inl, inr, Option, Some, None, List, [], ◌∷◌, ◌++◌, length, drop, map, filter, refl, arith}
+use Rattle.std.proofs.Common.{nat_le, ◌≡◌, ℕ, ◌+◌, ◌<◌, ◌^◌, ◌≤◌, max, Bool, true, false, cond, not, find, inl, inr, Option, Some, None, List, [], ◌∷◌, ◌++◌, length, drop, map, filter, refl, arith}
 use Rattle.std.specs.Prelude.{bytes_eq, ◌==◌}
 use Rattle.std.specs.List.{flat_map, cons_option}
 use Rattle.std.specs.Str.{IsUtf8}
-use Rattle.std.proofs.lemmas.Bool.{cases_Bool}
+use Rattle.std.proofs.lemmas.Bool.{cases_Bool, leb-false}
 use Rattle.std.proofs.lemmas.Option.{same_Some}
 use Rattle.std.proofs.lemmas.Str.{IsUtf8-nil}
 use Rattle.std.proofs.Common.{subst}
@@ -22,15 +22,13 @@ use Rattle.f2b_base.specs.declared.job.JobKind.{JobKind}
 use Rattle.f2b_base.specs.declared.job.JobKind.TheVariants.{Start, Stop, Ban, Unban, Reban}
 use Rattle.f2b_base.specs.declared.job.LaneId.{LaneId}
 use Rattle.f2b_base.specs.declared.job.Outcome.{Outcome}
-use Rattle.f2b_base.specs.declared.job.Settled.{Settled}
-use Rattle.f2b_base.specs.declared.job.Settled.TheVariants.{Done, GivenUp, Again}
 use Rattle.f2b_base.specs.declared.job.UpLane.{UpLane}
 use Rattle.f2b_model.specs.declared.happening.Happening.{Happening}
 use Rattle.f2b_model.specs.declared.happening.Happening.TheVariants.{Counts, Begins, Ends}
 use Rattle.f2b_model.specs.declared.jail_now.JailNow.{JailNow}
 use Rattle.f2b_model.specs.Active.{held, held_by, held_in}
 use Rattle.f2b_model.specs.Checks.{is_closing, lane_of, checked_lane, void_ids, voided_at}
-use Rattle.f2b_model.specs.Jobs.{Ending, Tried, after_try, is_head_id, settle_in, settled_as}
+use Rattle.f2b_model.specs.Jobs.{AreById, Ending, Tried, after_try, is_head_id, settle_in, settled_as, settles}
 use Rattle.f2b_model.specs.Lanes.{Lanes, books_now, issue, lane_down, lane_up, all_down, all_up, try_ended, void_all, restarted, failed_in, others_down, lanes_configured, lanes_issued, lanes_done, lanes_step, lanes_of_jail, lanes_of, is_among}
 use Rattle.f2b_model.specs.Lists.{AllOf, in_order}
 use Rattle.f2b_model.specs.Moves.{counts, is_near}
@@ -38,7 +36,7 @@ use Rattle.f2b_model.specs.NowMoves.{counted_now, found_now, banned_now, shown_n
 use Rattle.f2b_model.specs.Nows.{JailsNow}
 use Rattle.f2b_model.specs.Orders.{Held, addr_in, fill_of, template, lane_id, is_lane, is_up, takes, order, order_showing, ban_orders, lane_orders, down_orders, up_orders, restart_orders, told_orders}
 use Rattle.f2b_model.specs.Steps.{moves_now, named, is_spent, is_due, ends_before, is_meant, is_meant_jail, at_jail, at_reading, is_followed, followed_to, ended_by_time, step_by}
-use Rattle.f2b_model.specs.Storable.{most_numbers, IsSpanOfTime, IsStorableAction, IsStorableAddr, IsStorableBan, IsStorableDef, IsStorableFailure, IsStorableInput, IsStorableJail, IsStorableJob, IsStorableLane, IsStorableUp, AreStorableLanes, IsStorable, IsStorableWhat}
+use Rattle.f2b_model.specs.Storable.{most_numbers, IsSpanOfTime, IsStorableAction, IsStorableAddr, IsStorableBan, IsStorableDef, IsStorableFailure, IsStorableInput, IsStorableJail, IsStorableJob, IsStorableLane, IsStorableUp, IsStorable, IsStorableWhat}
 use Rattle.f2b_model.specs.Told.{begins, told_each, told_new, told_found, told_banned, told_ends, told_unbanned, told_in, told_all_found, told_all_banned, told_done, jails_told}
 use Rattle.f2b_model.specs.Turns.{Order, numbered}
 use Rattle.f2b_model.specs.Watches.{with_place}
@@ -46,10 +44,13 @@ use Rattle.f2b_model.specs.Whole.{Now, is_whole_spent, step_now}
 use Rattle.f2b_model.proofs.EndLemmas.{all_placed_all}
 use Rattle.f2b_model.proofs.ListLemmas.{by_test}
 use Rattle.f2b_model.proofs.OrderlyLemmas.{all_of-filter, all_of-push}
+use Rattle.f2b_model.proofs.ByIdLemmas.{by_id_rises}
+use Rattle.f2b_model.proofs.NumberLemmas.{step_numbered}
+use Rattle.f2b_model.proofs.StartLemmas.{ids_rise}
 use Rattle.f2b_model.proofs.BesideLemmas.{few_jails, step_beside}
 use Rattle.f2b_model.proofs.SerialLemmas.{banned_one_next, few_taken, followed_next, found_one_next, next_stored}
 use Rattle.f2b_model.proofs.ShownTextLemmas.{IsStorableOf, matches_utf8, values_utf8}
-use Rattle.f2b_model.proofs.StepLemmas.{all_of-map}
+use Rattle.f2b_model.proofs.StepLemmas.{all_of-map, all_of-more}
 use Rattle.f2b_model.proofs.Utf8Lemmas.{rendered_utf8}
 use Rattle.f2b_model.proofs.StorableLemmas.{at_jail_stored, banned_stored, by_time_stored, found_stored, place_stored, step_stored, watches_stored, attempt_stored}
 
@@ -136,59 +137,78 @@ told_orders_stored up (Ends jail ban ∷ told) s a =
 
 -- ---- jobs
 
-numbered_stored : (next at : ℕ) (os : List Order) → AllOf IsStorableOrder os → AllOf IsStorableJob (numbered next at os)
-numbered_stored next at [] a = tt
-numbered_stored next at (o ∷ os) a = (record { lane = a.0.lane; addr = a.0.addr; text = a.0.text; timeout = a.0.timeout }, numbered_stored (next + 1) at os a.1)
+-- a job that can be stored, but for its id
+record IsWork (j : Job) : Type 0 where
+  lane : IsStorableLane j.lane
+  addr : IsStorableAddr j.addr
+  text : IsUtf8 j.text
+  timeout : IsSpanOfTime j.timeout
+  tries : j.tries ≤ 2
+  due : j.due ≤ last_moment
 
-issue_stored : (at : ℕ) (os : List Order) (l : Lanes (List Job)) → AllOf IsStorableOrder os → AreStorableLanes l → AreStorableLanes (issue books_now at os l)
-issue_stored at os l a s = record { up = s.up; jobs = all_both IsStorableJob l.jobs (numbered l.next_job at os) s.jobs (numbered_stored l.next_job at os a) }
+record AreWorkLanes (l : Lanes (List Job)) : Type 0 where
+  up : AllOf IsStorableUp l.up
+  jobs : AllOf IsWork l.jobs
 
-one_settled : (job : Job) (o : Settled) (jobs : List Job) → IsStorableJob job → AllOf IsStorableJob jobs → AllOf IsStorableJob (cons_option (after_try job o) jobs)
-one_settled job Done jobs one a = a
-one_settled job GivenUp jobs one a = a
-one_settled job (Again due) jobs one a = (record { lane = one.lane; addr = one.addr; text = one.text; timeout = one.timeout }, a)
+numbered_stored : (next at : ℕ) (os : List Order) → at ≤ last_moment → AllOf IsStorableOrder os → AllOf IsWork (numbered next at os)
+numbered_stored next at [] h a = tt
+numbered_stored next at (o ∷ os) h a =
+    (record { lane = a.0.lane; addr = a.0.addr; text = a.0.text; timeout = a.0.timeout; tries = omega arith; due = h }, numbered_stored (next + 1) at os h a.1)
 
-settle_stored : (e : Ending) (jobs : List Job) → AllOf IsStorableJob jobs → AllOf IsStorableJob (settle_in e jobs)
+issue_stored : (at : ℕ) (os : List Order) (l : Lanes (List Job)) → at ≤ last_moment → AllOf IsStorableOrder os → AreWorkLanes l → AreWorkLanes (issue books_now at os l)
+issue_stored at os l h a s = record { up = s.up; jobs = all_both IsWork l.jobs (numbered l.next_job at os) s.jobs (numbered_stored l.next_job at os h a) }
+
+one_settled : (e : Ending) (job : Job) (jobs : List Job) → IsWork job → AllOf IsWork jobs → AllOf IsWork (cons_option (after_try job (settled_as e job)) jobs)
+one_settled e job jobs one a =
+    by_test (settles e) _
+    (λ t. rw t a)
+    (λ t. rw t (by_test (nat_le 2 job.tries) _
+    (λ u. rw u a)
+    (λ u.
+    let few : job.tries < 2 = leb-false 2 job.tries u in
+    rw u (record { lane = one.lane; addr = one.addr; text = one.text; timeout = one.timeout; tries = omega (arith, few); due = omega arith }, a))))
+
+settle_stored : (e : Ending) (jobs : List Job) → AllOf IsWork jobs → AllOf IsWork (settle_in e jobs)
 settle_stored e [] a = tt
 settle_stored e (job ∷ jobs) a = elim (cases_Bool (e.job == job.id)) [
-  | inl y ↦ rw y (one_settled job (settled_as e job) (settle_in e jobs) a.0 (settle_stored e jobs a.1))
+  | inl y ↦ rw y (one_settled e job (settle_in e jobs) a.0 (settle_stored e jobs a.1))
   | inr n ↦ rw n (a.0, settle_stored e jobs a.1)
 ]
 
 -- ---- lanes
 
-all_down_stored : (at : ℕ) (hs : List Held) (ls : List UpLane) (l : Lanes (List Job)) → AllOf IsStorableHeld hs → AllOf IsStorableUp ls → AreStorableLanes l → AreStorableLanes (all_down books_now at hs ls l)
-all_down_stored at hs [] l a b s = s
-all_down_stored at hs (u ∷ ls) l a b s =
-    let issued = issue_stored at (down_orders u hs) l (down_stored u hs b.0 a) s in
-    all_down_stored at hs ls (lane_down books_now at hs u l) a b.1 (record { up = all_of-filter IsStorableUp (λ other. not (is_lane (lane_id u) other)) l.up s.up; jobs = issued.jobs })
+all_down_stored : (at : ℕ) (hs : List Held) (ls : List UpLane) (l : Lanes (List Job)) → at ≤ last_moment → AllOf IsStorableHeld hs → AllOf IsStorableUp ls → AreWorkLanes l → AreWorkLanes (all_down books_now at hs ls l)
+all_down_stored at hs [] l h a b s = s
+all_down_stored at hs (u ∷ ls) l h a b s =
+    let issued = issue_stored at (down_orders u hs) l h (down_stored u hs b.0 a) s in
+    all_down_stored at hs ls (lane_down books_now at hs u l) h a b.1 (record { up = all_of-filter IsStorableUp (λ other. not (is_lane (lane_id u) other)) l.up s.up; jobs = issued.jobs })
 
-all_up_stored : (at : ℕ) (hs : List Held) (ls : List UpLane) (l : Lanes (List Job)) → AllOf IsStorableHeld hs → AllOf IsStorableUp ls → AreStorableLanes l → AreStorableLanes (all_up books_now at hs ls l)
-all_up_stored at hs [] l a b s = s
-all_up_stored at hs (u ∷ ls) l a b s =
-    let issued = issue_stored at (up_orders u hs) l (up_stored u hs b.0 a) s in
-    all_up_stored at hs ls (lane_up books_now at hs u l) a b.1 (record { up = all_of-push IsStorableUp l.up u s.up b.0; jobs = issued.jobs })
+all_up_stored : (at : ℕ) (hs : List Held) (ls : List UpLane) (l : Lanes (List Job)) → at ≤ last_moment → AllOf IsStorableHeld hs → AllOf IsStorableUp ls → AreWorkLanes l → AreWorkLanes (all_up books_now at hs ls l)
+all_up_stored at hs [] l h a b s = s
+all_up_stored at hs (u ∷ ls) l h a b s =
+    let issued = issue_stored at (up_orders u hs) l h (up_stored u hs b.0 a) s in
+    all_up_stored at hs ls (lane_up books_now at hs u l) h a b.1 (record { up = all_of-push IsStorableUp l.up u s.up b.0; jobs = issued.jobs })
 
-void_all_stored : (at : ℕ) (ids : List ℕ) (l : Lanes (List Job)) → AreStorableLanes l → AreStorableLanes (void_all books_now at ids l)
+void_all_stored : (at : ℕ) (ids : List ℕ) (l : Lanes (List Job)) → AreWorkLanes l → AreWorkLanes (void_all books_now at ids l)
 void_all_stored at [] l s = s
 void_all_stored at (id ∷ ids) l s = void_all_stored at ids (record l { jobs = settle_in (voided_at id at) l.jobs }) (record { up = s.up; jobs = settle_stored (voided_at id at) l.jobs s.jobs })
 
-restarted_stored : (at : ℕ) (hs : List Held) (o : Option UpLane) (l : Lanes (List Job)) → AllOf IsStorableHeld hs → ((u : UpLane) → o ≡ Some u → IsStorableUp u) → AreStorableLanes l
-    → AreStorableLanes (restarted books_now at hs o l)
-restarted_stored at hs None l a each s = s
-restarted_stored at hs (Some u) l a each s = issue_stored at (restart_orders u hs) l (restart_stored u hs (each u refl) a) s
+restarted_stored : (at : ℕ) (hs : List Held) (o : Option UpLane) (l : Lanes (List Job)) → at ≤ last_moment → AllOf IsStorableHeld hs → ((u : UpLane) → o ≡ Some u → IsStorableUp u) → AreWorkLanes l
+    → AreWorkLanes (restarted books_now at hs o l)
+restarted_stored at hs None l h a each s = s
+restarted_stored at hs (Some u) l h a each s = issue_stored at (restart_orders u hs) l h (restart_stored u hs (each u refl) a) s
 
-failed_in_stored : (at : ℕ) (hs : List Held) (o : Option LaneId) (l : Lanes (List Job)) → AllOf IsStorableHeld hs → AreStorableLanes l → AreStorableLanes (failed_in books_now at hs o l)
-failed_in_stored at hs None l a s = s
-failed_in_stored at hs (Some lane) l a s =
+failed_in_stored : (at : ℕ) (hs : List Held) (o : Option LaneId) (l : Lanes (List Job)) → at ≤ last_moment → AllOf IsStorableHeld hs → AreWorkLanes l → AreWorkLanes (failed_in books_now at hs o l)
+failed_in_stored at hs None l h a s = s
+failed_in_stored at hs (Some lane) l h a s =
     let left : Lanes (List Job) = void_all books_now at (void_ids lane l.jobs) l in
     let kept = void_all_stored at (void_ids lane l.jobs) l s in
     elim (cases_Bool (is_closing lane l.jobs)) [
       | inl y ↦ rw y kept
-      | inr n ↦ rw n (restarted_stored at hs (lane_of lane l.up) left a (λ u is. all_found IsStorableUp (is_lane lane) l.up u s.up is) kept)
+      | inr n ↦ rw n (restarted_stored at hs (lane_of lane l.up) left h a (λ u is. all_found IsStorableUp (is_lane lane) l.up u s.up is) kept)
     ]
 
-try_stored : (at job : ℕ) (outcome : Outcome) (l : Lanes (List Job)) → AreStorableLanes l → AreStorableLanes (try_ended books_now at job outcome l)
+try_stored : (at job : ℕ) (outcome : Outcome) (l : Lanes (List Job)) → AreWorkLanes l → AreWorkLanes (try_ended books_now at job outcome l)
 try_stored at job outcome l s = elim (cases_Bool (is_head_id job l.jobs)) [
   | inl y ↦ rw y (record { up = s.up; jobs = settle_stored (record { job = job; how = Tried outcome; at = at }) l.jobs s.jobs })
   | inr n ↦ rw n s
@@ -201,35 +221,35 @@ lanes_stored : (ds : List JailDef) → AllOf IsStorableDef ds → AllOf IsStorab
 lanes_stored [] a = tt
 lanes_stored (d ∷ ds) a = all_both IsStorableUp (lanes_of_jail d) (flat_map lanes_of_jail ds) (jail_lanes_stored d a.0) (lanes_stored ds a.1)
 
-configured_stored : (at : ℕ) (mid after : List Held) (new : List UpLane) (l : Lanes (List Job)) → AllOf IsStorableHeld mid → AllOf IsStorableHeld after → AllOf IsStorableUp new → AreStorableLanes l
-    → AreStorableLanes (lanes_configured books_now at mid after new l)
-configured_stored at mid after new l m a b s =
+configured_stored : (at : ℕ) (mid after : List Held) (new : List UpLane) (l : Lanes (List Job)) → at ≤ last_moment → AllOf IsStorableHeld mid → AllOf IsStorableHeld after → AllOf IsStorableUp new → AreWorkLanes l
+    → AreWorkLanes (lanes_configured books_now at mid after new l)
+configured_stored at mid after new l h m a b s =
     let open_lanes : Lanes (List Job) = record l { stopping = false } in
     let fewer : Lanes (List Job) = others_down books_now at mid new open_lanes in
-    let down = all_down_stored at mid (filter (λ lane. not (is_among new lane)) l.up) open_lanes m (all_of-filter IsStorableUp (λ lane. not (is_among new lane)) l.up s.up) (record { up = s.up; jobs = s.jobs }) in
-    all_up_stored at after (filter (λ lane. not (is_up fewer.up (lane_id lane))) new) fewer a (all_of-filter IsStorableUp (λ lane. not (is_up fewer.up (lane_id lane))) new b) down
+    let down = all_down_stored at mid (filter (λ lane. not (is_among new lane)) l.up) open_lanes h m (all_of-filter IsStorableUp (λ lane. not (is_among new lane)) l.up s.up) (record { up = s.up; jobs = s.jobs }) in
+    all_up_stored at after (filter (λ lane. not (is_up fewer.up (lane_id lane))) new) fewer h a (all_of-filter IsStorableUp (λ lane. not (is_up fewer.up (lane_id lane))) new b) down
 
-lanes_done_stored : (at : ℕ) (what : What) (mid after : List Held) (l : Lanes (List Job)) → AllOf IsStorableHeld mid → AllOf IsStorableHeld after → IsStorableWhat what → AreStorableLanes l
-    → AreStorableLanes (lanes_done books_now at what mid after l)
-lanes_done_stored at (Ended job outcome) mid after l m a w s = try_stored at job outcome l s
-lanes_done_stored at StopAll mid after l m a w s = let down = all_down_stored at mid l.up l m s.up s in record { up = down.up; jobs = down.jobs }
-lanes_done_stored at (Config defs) mid after l m a w s = configured_stored at mid after (lanes_of defs) l m a (lanes_stored defs.jails w.jails) s
-lanes_done_stored at (CheckFailed job outcome) mid after l m a w s = failed_in_stored at after (checked_lane job l.jobs) l a s
-lanes_done_stored at Tick mid after l m a w s = s
-lanes_done_stored at (Read jail path place fs) mid after l m a w s = s
-lanes_done_stored at (BanThese jail addrs) mid after l m a w s = s
-lanes_done_stored at (UnbanThese jail addrs) mid after l m a w s = s
-lanes_done_stored at (Attempt jail addr) mid after l m a w s = s
-lanes_done_stored at (Ignore jail cidr add) mid after l m a w s = s
-lanes_done_stored at (Findtime jail secs) mid after l m a w s = s
-lanes_done_stored at (Bantime jail secs) mid after l m a w s = s
-lanes_done_stored at (Maxretry jail number) mid after l m a w s = s
-lanes_done_stored at (Idle jail idle) mid after l m a w s = s
+lanes_done_stored : (at : ℕ) (what : What) (mid after : List Held) (l : Lanes (List Job)) → at ≤ last_moment → AllOf IsStorableHeld mid → AllOf IsStorableHeld after → IsStorableWhat what → AreWorkLanes l
+    → AreWorkLanes (lanes_done books_now at what mid after l)
+lanes_done_stored at (Ended job outcome) mid after l h m a w s = try_stored at job outcome l s
+lanes_done_stored at StopAll mid after l h m a w s = let down = all_down_stored at mid l.up l h m s.up s in record { up = down.up; jobs = down.jobs }
+lanes_done_stored at (Config defs) mid after l h m a w s = configured_stored at mid after (lanes_of defs) l h m a (lanes_stored defs.jails w.jails) s
+lanes_done_stored at (CheckFailed job outcome) mid after l h m a w s = failed_in_stored at after (checked_lane job l.jobs) l h a s
+lanes_done_stored at Tick mid after l h m a w s = s
+lanes_done_stored at (Read jail path place fs) mid after l h m a w s = s
+lanes_done_stored at (BanThese jail addrs) mid after l h m a w s = s
+lanes_done_stored at (UnbanThese jail addrs) mid after l h m a w s = s
+lanes_done_stored at (Attempt jail addr) mid after l h m a w s = s
+lanes_done_stored at (Ignore jail cidr add) mid after l h m a w s = s
+lanes_done_stored at (Findtime jail secs) mid after l h m a w s = s
+lanes_done_stored at (Bantime jail secs) mid after l h m a w s = s
+lanes_done_stored at (Maxretry jail number) mid after l h m a w s = s
+lanes_done_stored at (Idle jail idle) mid after l h m a w s = s
 
-lanes_step_stored : (at : ℕ) (what : What) (mid after : List Held) (told : List Happening) (l : Lanes (List Job)) → AllOf IsStorableHeld mid → AllOf IsStorableHeld after → AllOf IsToldWell told → IsStorableWhat what → AreStorableLanes l
-    → AreStorableLanes (lanes_step books_now at what mid after told l)
-lanes_step_stored at what mid after told l m a t w s =
-    lanes_done_stored at what mid after (lanes_issued books_now at told l) m a w (issue_stored at (told_orders l.up told) l (told_orders_stored l.up told s.up t) s)
+lanes_step_stored : (at : ℕ) (what : What) (mid after : List Held) (told : List Happening) (l : Lanes (List Job)) → at ≤ last_moment → AllOf IsStorableHeld mid → AllOf IsStorableHeld after → AllOf IsToldWell told → IsStorableWhat what → AreWorkLanes l
+    → AreWorkLanes (lanes_step books_now at what mid after told l)
+lanes_step_stored at what mid after told l h m a t w s =
+    lanes_done_stored at what mid after (lanes_issued books_now at told l) h m a w (issue_stored at (told_orders l.up told) l h (told_orders_stored l.up told s.up t) s)
 
 -- ---- what jails hold and tell
 
@@ -333,21 +353,41 @@ told_well w input h b a =
     (told_each_well (told_ends moves_now (max w.at input.secs)) (told_ends_well (max w.at input.secs)) w.jails a)
     (told_done_well input.word input.what (at_reading moves_now input.secs w) at (few_taken w e) b.what (read_stored w (max w.at input.secs) a))))
 
-pub whole_stored : (n : Now) (input : Input) → IsStorableInput input → IsStorable n → IsStorable (step_now n input)
-whole_stored n input b s =
-    by_test (is_whole_spent moves_now books_now n) _
+without_ids : (jobs : List Job) → AllOf IsStorableJob jobs → AllOf IsWork jobs
+without_ids jobs a =
+    all_of-more IsStorableJob IsWork (λ (job : Job) s. record { lane = s.lane; addr = s.addr; text = s.text; timeout = s.timeout; tries = s.tries; due = s.due }) jobs a
+
+with_ids : (from : ℕ) (jobs : List Job) (next : ℕ) → next ≤ most_numbers → AreById from jobs next → AllOf IsWork jobs → AllOf IsStorableJob jobs
+with_ids from [] next few rise a = tt
+with_ids from (job ∷ jobs) next few rise a =
+    let below = by_id_rises (job.id + 1) jobs next rise.1 in
+    let work = a.0 in (
+      record { id = omega (arith, few, below); lane = work.lane; addr = work.addr; text = work.text; timeout = work.timeout; tries = work.tries; due = work.due },
+      with_ids (job.id + 1) jobs next few rise.1 a.1,
+    )
+
+pub whole_stored : (n : Now) (input : Input) → IsStorableInput input → (step_now n input).lanes.next_job ≤ most_numbers → IsStorable n → IsStorable (step_now n input)
+whole_stored n input b few s =
+    by_test (is_whole_spent moves_now books_now n) (IsStorable (step_now n input))
     (λ e. rw e s)
     (λ e.
-    let h = s.at in
-    let jails = step_stored n.world input h b s.jails in
-    let beside = step_beside n.world input b (h, s.purge) in
+    let jails = step_stored n.world input s.at b s.jails in
+    let beside = step_beside n.world input b (s.at, s.purge) in
+    let ids = ids_rise n input s.by_id in
+    let reading = read_stored n.world (max n.world.at input.secs) s.jails in
+    let work = lanes_step_stored (step_by moves_now n.world input).at input.what (held moves_now (at_reading moves_now input.secs n.world)) (held moves_now (step_by moves_now n.world input))
+    (jails_told moves_now n.world input) n.lanes beside.0 (held_stored (map (ended_by_time moves_now (max n.world.at input.secs)) n.world.jails) reading)
+    (held_stored (step_by moves_now n.world input).jails jails) (told_well n.world input s.at b s.jails) b.what (record { up = s.lanes.up; jobs = without_ids n.lanes.jobs s.lanes.jobs }) in
+    let few_ids = rw e at few in
+    let ids_here = rw e at ids in
     rw e (record {
       at = beside.0;
       purge = beside.1;
       jails = jails;
       most = few_jails n.world input b s.most;
+      numbered = step_numbered n.world input s.numbered;
       next_ban = next_stored n.world input b s.next_ban;
-      lanes = lanes_step_stored (step_by moves_now n.world input).at input.what (held moves_now (at_reading moves_now input.secs n.world)) (held moves_now (step_by moves_now n.world input))
-          (jails_told moves_now n.world input) n.lanes (held_stored (map (ended_by_time moves_now (max n.world.at input.secs)) n.world.jails) (read_stored n.world (max n.world.at input.secs) s.jails))
-          (held_stored (step_by moves_now n.world input).jails jails) (told_well n.world input h b s.jails) b.what s.lanes;
+      lanes = record { up = work.up; jobs = with_ids 0 _ _ few_ids ids_here work.jobs };
+      by_id = ids_here;
+      next_job = few_ids;
     }))

@@ -29,8 +29,10 @@ use Rattle.f2b_base.specs.declared.job.LaneId.{LaneId}
 use Rattle.f2b_base.specs.declared.job.UpLane.{UpLane}
 use Rattle.f2b_base.specs.declared.view.WatchView.{WatchView}
 use Rattle.f2b_model.specs.declared.jail_now.JailNow.{JailNow}
+use Rattle.f2b_model.specs.Jobs.{AreById}
 use Rattle.f2b_model.specs.Lanes.{Lanes}
 use Rattle.f2b_model.specs.Lists.{AllOf}
+use Rattle.f2b_model.specs.Sound.{IsNumbered}
 use Rattle.f2b_model.specs.Whole.{Now}
 
 -- ---- numbers and texts
@@ -188,12 +190,14 @@ pub record IsStorableUp (u : UpLane) : Type 0 where
   pub jail : IsJailName u.jail
   pub action : IsStorableAction u.action
 
--- a job; its tries and its due moment are those of a pending job
 pub record IsStorableJob (j : Job) : Type 0 where
+  pub id : j.id < most_numbers
   pub lane : IsStorableLane j.lane
   pub addr : IsStorableAddr j.addr
   pub text : IsUtf8 j.text
   pub timeout : IsSpanOfTime j.timeout
+  pub tries : j.tries ≤ 2
+  pub due : j.due ≤ last_moment
 
 pub record AreStorableLanes (l : Lanes (List Job)) : Type 0 where
   pub up : AllOf IsStorableUp l.up
@@ -207,8 +211,11 @@ pub record IsStorable (n : Now) : Type 0 where
   pub purge : n.world.purge ≤ longest_span
   pub jails : AllOf IsStorableJail n.world.jails
   pub most : length n.world.jails ≤ 256
+  pub numbered : AllOf (λ (j : JailNow). IsNumbered n.world.next_ban j.bans) n.world.jails
   pub next_ban : n.world.next_ban ≤ most_numbers
   pub lanes : AreStorableLanes n.lanes
+  pub by_id : AreById 0 n.lanes.jobs n.lanes.next_job
+  pub next_job : n.lanes.next_job ≤ most_numbers
 
 -- ---- inputs
 
