@@ -1,5 +1,6 @@
--- A step keeps what stands beside the jails within its bounds: the moment, how long past bans count, and how many jails there are.
+-- A step keeps what stands beside the jails within its bounds: the moment, how long past bans count, the names, and how many jails there are.
 use Rattle.std.proofs.Common.{◌≡◌, ℕ, max, ◌≤◌, List, [], ◌∷◌, length, sym, subst, arith}
+use Rattle.std.specs.Prelude.{bytes_eq}
 use Rattle.std.proofs.lemmas.List.{length-map}
 use Rattle.f2b_base.specs.Limits.{last_moment}
 use Rattle.f2b_base.specs.declared.addr.Addr.{Addr}
@@ -9,6 +10,7 @@ use Rattle.f2b_base.specs.declared.input.What.{What}
 use Rattle.f2b_base.specs.declared.input.What.TheVariants.{Tick, Read, Ended, Config, Stop, Ban as BanThese, Unban, Attempt, Ignore, Findtime, Bantime, Maxretry, Idle, CheckFailed}
 use Rattle.f2b_base.specs.declared.jail.JailDef.{JailDef}
 use Rattle.f2b_model.specs.declared.jail_now.JailNow.{JailNow}
+use Rattle.f2b_model.specs.Lists.{AreDistinct}
 use Rattle.f2b_model.specs.NowMoves.{found_now, banned_now}
 use Rattle.f2b_model.specs.Nows.{JailsNow}
 use Rattle.f2b_model.specs.Steps.{moves_now, named, names, is_spent, at_jail, at_reading, is_followed, followed_to, found_all, ban_all, done, jails_step_now}
@@ -54,23 +56,11 @@ step_beside w input s b =
     let at : max w.at input.secs ≤ last_moment = (let h = b.0 in let k = s.secs in omega (arith, h, k)) in
     rw t (done_beside input.word input.what (at_reading moves_now input.secs w) s.what (at, b.1)))
 
--- ---- how many jails
+-- ---- names, and how many jails
 
 few_names : (what : What) (ns : List (List ℕ)) → IsStorableWhat what → length ns ≤ 256 → length (names_after what ns) ≤ 256
 few_names (Config defs) ns s few = let most = s.most in omega (arith, most, length-map defs.jails (λ (d : JailDef). d.name))
-few_names (Read jail path place fs) ns s few = few
-few_names (Attempt jail addr) ns s few = few
-few_names (BanThese jail addrs) ns s few = few
-few_names Tick ns s few = few
-few_names (Unban jail addrs) ns s few = few
-few_names (Findtime jail secs) ns s few = few
-few_names (Bantime jail secs) ns s few = few
-few_names (Maxretry jail number) ns s few = few
-few_names (Idle jail idle) ns s few = few
-few_names (Ignore jail cidr add) ns s few = few
-few_names (Ended job outcome) ns s few = few
-few_names (CheckFailed job outcome) ns s few = few
-few_names Stop ns s few = few
+few_names what ns s few = few
 
 names_length : (js : List JailNow) → length (names moves_now js) ≡ length js
 names_length js = length-map js (named moves_now)
@@ -83,3 +73,13 @@ few_jails w input s few =
     let old : length (names moves_now w.jails) ≤ 256 = omega (arith, few, names_length w.jails) in
     let new : length (names moves_now (jails_step_now w input).jails) ≤ 256 = subst (λ (ns : List (List ℕ)). length ns ≤ 256) (sym (step_names moves_now moves_now_names w input t)) (few_names input.what (names moves_now w.jails) s.what old) in
     omega (arith, new, names_length (jails_step_now w input).jails))
+
+distinct_names : (what : What) (ns : List (List ℕ)) → IsStorableWhat what → AreDistinct bytes_eq ns → AreDistinct bytes_eq (names_after what ns)
+distinct_names (Config defs) ns s d = s.names
+distinct_names what ns s d = d
+
+pub names_stored : (w : JailsNow) (input : Input) → IsStorableInput input → AreDistinct bytes_eq (names moves_now w.jails) → AreDistinct bytes_eq (names moves_now (jails_step_now w input).jails)
+names_stored w input s d =
+    by_test (is_spent w) (AreDistinct bytes_eq (names moves_now (jails_step_now w input).jails))
+    (λ t. rw t d)
+    (λ t. subst (AreDistinct bytes_eq) (sym (step_names moves_now moves_now_names w input t)) (distinct_names input.what (names moves_now w.jails) s.what d))

@@ -70,11 +70,11 @@ done_next word (Read jail path place fs) w small s =
     (λ t.
     let begun = followed_to moves_now jail path place w in
     let same = followed_next jail path place w in
-    let few = s.2 in
+    let few = s.4 in
     rw t (found_all_next word jail fs begun most_numbers (omega (arith, same, few, small))))
     (λ t. rw t (omega (arith, small)))
 done_next word (Attempt jail addr) w small s = found_all_next word jail (record { addr = addr; time = w.at; line = [] } ∷ []) w most_numbers (omega (arith, small))
-done_next word (BanThese jail addrs) w small s = let few = s.1 in ban_all_next word jail addrs w most_numbers (omega (arith, few, small))
+done_next word (BanThese jail addrs) w small s = let few = s.3 in ban_all_next word jail addrs w most_numbers (omega (arith, few, small))
 done_next word (Findtime jail secs) w small s = same_next _ w.next_ban (alone_next jail (λ j. limited_now secs j.definition.maxretry j) w) small
 done_next word (Bantime jail secs) w small s = same_next _ w.next_ban (alone_next jail (moves_now.spanned secs) w) small
 done_next word (Maxretry jail number) w small s = same_next _ w.next_ban (alone_next jail (λ j. limited_now j.definition.findtime number j) w) small

@@ -47,7 +47,7 @@ use Rattle.f2b_model.proofs.OrderlyLemmas.{all_of-filter, all_of-push}
 use Rattle.f2b_model.proofs.ByIdLemmas.{by_id_rises}
 use Rattle.f2b_model.proofs.NumberLemmas.{step_numbered}
 use Rattle.f2b_model.proofs.StartLemmas.{ids_rise}
-use Rattle.f2b_model.proofs.BesideLemmas.{few_jails, step_beside}
+use Rattle.f2b_model.proofs.BesideLemmas.{few_jails, names_stored, step_beside}
 use Rattle.f2b_model.proofs.SerialLemmas.{banned_one_next, few_taken, followed_next, found_one_next, next_stored}
 use Rattle.f2b_model.proofs.ShownTextLemmas.{IsStorableOf, matches_utf8, values_utf8}
 use Rattle.f2b_model.proofs.StepLemmas.{all_of-map, all_of-more}
@@ -320,12 +320,12 @@ told_done_well word (Read jail path place fs) w h few b a =
     by_test (is_followed moves_now jail path w) _
     (λ e.
     let same = followed_next jail path place w in
-    let most = b.2 in
-    rw e (all_found_well word jail fs (followed_to moves_now jail path place w) h (omega (arith, few, same, most)) b.1
-    (at_jail_stored jail (λ n j. record { jail = moves_now.followed path place j; next = n }) w (λ j s. watches_stored (with_place path place j.watches) j (place_stored path place j.watches b.0 s.watches) s) a)))
+    let most = b.4 in
+    rw e (all_found_well word jail fs (followed_to moves_now jail path place w) h (omega (arith, few, same, most)) b.3
+    (at_jail_stored jail (λ n j. record { jail = moves_now.followed path place j; next = n }) w (λ j s. watches_stored (with_place path place j.watches) j (place_stored path place j.watches b.2 s.watches) s) a)))
     (λ e. rw e tt)
-told_done_well word (Attempt jail addr) w h few b a = all_found_well word jail (record { addr = addr; time = w.at; line = [] } ∷ []) w h (omega (arith, few)) (attempt_stored addr w.at b h, tt) a
-told_done_well word (BanThese jail addrs) w h few b a = let most = b.1 in all_banned_well word jail addrs w h (omega (arith, few, most)) b.0 a
+told_done_well word (Attempt jail addr) w h few b a = all_found_well word jail (record { addr = addr; time = w.at; line = [] } ∷ []) w h (omega (arith, few)) (attempt_stored addr w.at b.1 h, tt) a
+told_done_well word (BanThese jail addrs) w h few b a = let most = b.3 in all_banned_well word jail addrs w h (omega (arith, few, most)) b.1 a
 told_done_well word (UnbanThese jail addrs) w h few b a = told_each_well (told_unbanned moves_now jail addrs) (told_unbanned_well jail addrs) w.jails a
 told_done_well word Tick w h few b a = tt
 told_done_well word (Ended job outcome) w h few b a = tt
@@ -384,6 +384,7 @@ whole_stored n input b few s =
       at = beside.0;
       purge = beside.1;
       jails = jails;
+      names = names_stored n.world input b s.names;
       most = few_jails n.world input b s.most;
       numbered = step_numbered n.world input s.numbered;
       next_ban = next_stored n.world input b s.next_ban;

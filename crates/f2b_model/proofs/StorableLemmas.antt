@@ -167,6 +167,7 @@ limits_stored findtime maxretry d f m s = record {
   name = s.name;
   watches = s.watches;
   logs = s.logs;
+  paths = s.paths;
   zone = s.zone;
   date = s.date;
   pref = s.pref;
@@ -180,6 +181,7 @@ limits_stored findtime maxretry d f m s = record {
   maxmatches = s.maxmatches;
   rule = s.rule;
   actions = s.actions;
+  kinds = s.kinds;
   most = s.most;
 }
 
@@ -203,6 +205,7 @@ spanned_stored secs d b s = record {
   name = s.name;
   watches = s.watches;
   logs = s.logs;
+  paths = s.paths;
   zone = s.zone;
   date = s.date;
   pref = s.pref;
@@ -216,6 +219,7 @@ spanned_stored secs d b s = record {
   maxmatches = s.maxmatches;
   rule = record { base = b; factor = s.rule.factor; multipliers = s.rule.multipliers; most = s.rule.most; maxtime = s.rule.maxtime; rndtime = s.rule.rndtime };
   actions = s.actions;
+  kinds = s.kinds;
   most = s.most;
 }
 
@@ -224,6 +228,7 @@ masks_stored masks d all s = record {
   name = s.name;
   watches = s.watches;
   logs = s.logs;
+  paths = s.paths;
   zone = s.zone;
   date = s.date;
   pref = s.pref;
@@ -237,6 +242,7 @@ masks_stored masks d all s = record {
   maxmatches = s.maxmatches;
   rule = s.rule;
   actions = s.actions;
+  kinds = s.kinds;
   most = s.most;
 }
 
@@ -341,25 +347,25 @@ done_stored word (Read jail path place fs) w h few s a =
     by_test (is_followed moves_now jail path w) _
     (λ t.
     let same = followed_next jail path place w in
-    let most = s.2 in
-    rw t (found_all_stored word jail fs (followed_to moves_now jail path place w) h (omega (arith, few, same, most)) s.1
-    (at_jail_stored jail (alone moves_now (moves_now.followed path place)) w (λ j p. watches_stored (with_place path place j.watches) j (place_stored path place j.watches s.0 p.watches) p) a)))
+    let most = s.4 in
+    rw t (found_all_stored word jail fs (followed_to moves_now jail path place w) h (omega (arith, few, same, most)) s.3
+    (at_jail_stored jail (alone moves_now (moves_now.followed path place)) w (λ j p. watches_stored (with_place path place j.watches) j (place_stored path place j.watches s.2 p.watches) p) a)))
     (λ t. rw t a)
-done_stored word (BanThese jail addrs) w h few s a = let most = s.1 in ban_all_stored word jail addrs w h (omega (arith, few, most)) s.0 a
+done_stored word (BanThese jail addrs) w h few s a = let most = s.3 in ban_all_stored word jail addrs w h (omega (arith, few, most)) s.1 a
 done_stored word (Unban jail addrs) w h few s a =
     all_of-map IsStorableJail IsStorableJail (λ j. cond (is_meant_jail jail j.definition) (unbanned moves_now w.at addrs j) j)
     (λ j p. by_test (is_meant_jail jail j.definition) _ (λ t. rw t (unbanned_stored w.at addrs j h p)) (λ t. rw t p)) w.jails a
 done_stored word (Attempt jail addr) w h few s a =
-    found_all_stored word jail (record { addr = addr; time = w.at; line = [] } ∷ []) w h (omega (arith, few)) (attempt_stored addr w.at s h, tt) a
+    found_all_stored word jail (record { addr = addr; time = w.at; line = [] } ∷ []) w h (omega (arith, few)) (attempt_stored addr w.at s.1 h, tt) a
 done_stored word (Findtime jail secs) w h few s a =
-    at_jail_stored jail (alone moves_now (λ j. limited_now secs j.definition.maxretry j)) w (λ j p. limited_stored secs j.definition.maxretry j s p.definition.maxretry p) a
+    at_jail_stored jail (alone moves_now (λ j. limited_now secs j.definition.maxretry j)) w (λ j p. limited_stored secs j.definition.maxretry j s.1 p.definition.maxretry p) a
 done_stored word (Bantime jail secs) w h few s a =
-    at_jail_stored jail (alone moves_now (moves_now.spanned secs)) w (λ j p. changed_stored (spanned secs j.definition) j.idle j (spanned_stored secs j.definition s p.definition) p) a
+    at_jail_stored jail (alone moves_now (moves_now.spanned secs)) w (λ j p. changed_stored (spanned secs j.definition) j.idle j (spanned_stored secs j.definition s.1 p.definition) p) a
 done_stored word (Maxretry jail number) w h few s a =
-    at_jail_stored jail (alone moves_now (λ j. limited_now j.definition.findtime number j)) w (λ j p. limited_stored j.definition.findtime number j p.definition.findtime s p) a
+    at_jail_stored jail (alone moves_now (λ j. limited_now j.definition.findtime number j)) w (λ j p. limited_stored j.definition.findtime number j p.definition.findtime s.1 p) a
 done_stored word (Idle jail idle) w h few s a = at_jail_stored jail (alone moves_now (moves_now.idle idle)) w (λ j p. changed_stored j.definition idle j p.definition p) a
 done_stored word (Ignore jail cidr add) w h few s a =
-    at_jail_stored jail (alone moves_now (moves_now.ignored cidr add)) w (λ j p. changed_stored (ignored cidr add j.definition) j.idle j (ignored_stored cidr add j.definition s p.definition) p) a
+    at_jail_stored jail (alone moves_now (moves_now.ignored cidr add)) w (λ j p. changed_stored (ignored cidr add j.definition) j.idle j (ignored_stored cidr add j.definition s.1 p.definition) p) a
 done_stored word (Config defs) w h few s a = configured_stored defs.jails w.jails s.jails a
 done_stored word (Ended job outcome) w h few s a = a
 done_stored word (CheckFailed job outcome) w h few s a = a

@@ -1,9 +1,9 @@
 -- What can be stored: a word for each type of stored values, which says the bounds of a value by itself. How values of a list stand to
 -- each other is told by other words, but for serials and ids; and the lengths of lists that only memory bounds are left out.
-use Rattle.std.specs.Prelude.{◌≡◌, ℕ, ◌+◌, ◌%◌, ◌^◌, ◌<◌, ◌≤◌, ◌==◌, ◌&&◌, ◌||◌, nat_le, Bool, true, min, List, length, Option, Some, None, ℤ, pos, negsuc}
+use Rattle.std.specs.Prelude.{◌≡◌, ℕ, ◌+◌, ◌%◌, ◌^◌, ◌<◌, ◌≤◌, ◌==◌, ◌&&◌, ◌||◌, nat_le, Bool, true, min, List, length, map, bytes_eq, Option, Some, None, ℤ, pos, negsuc}
 use Rattle.std.specs.List.{list_all}
 use Rattle.std.specs.Str.{IsUtf8}
-use Rattle.f2b_base.specs.Addresses.{IsAddr}
+use Rattle.f2b_base.specs.Addresses.{IsAddr, same_addr}
 use Rattle.f2b_base.specs.Limits.{last_moment, head_bytes, kept_line_bytes}
 use Rattle.f2b_base.specs.Masks.{IsCidr}
 use Rattle.f2b_base.specs.declared.addr.Addr.{Addr}
@@ -15,7 +15,7 @@ use Rattle.f2b_base.specs.declared.ban.Until.{Until}
 use Rattle.f2b_base.specs.declared.ban.Until.TheVariants.{Never, At}
 use Rattle.f2b_base.specs.declared.input.Input.{Input}
 use Rattle.f2b_base.specs.declared.input.What.{What}
-use Rattle.f2b_base.specs.declared.input.What.TheVariants.{Read, Config, Ban as BanThese, Attempt, Ignore, Findtime, Bantime, Maxretry}
+use Rattle.f2b_base.specs.declared.input.What.TheVariants.{Tick, Read, Ended, Config, Stop, Ban as BanThese, Unban, Attempt, Ignore, Findtime, Bantime, Maxretry, Idle, CheckFailed}
 use Rattle.f2b_base.specs.declared.jail.ActionDef.{ActionDef}
 use Rattle.f2b_base.specs.declared.jail.DateSpec.{DateSpec}
 use Rattle.f2b_base.specs.declared.jail.DateSpec.TheVariants.{Pattern, AnchoredPattern}
@@ -26,13 +26,16 @@ use Rattle.f2b_base.specs.declared.jail.Place.TheVariants.{Tail, Pos}
 use Rattle.f2b_base.specs.declared.jail.WatchDef.{WatchDef}
 use Rattle.f2b_base.specs.declared.job.Job.{Job}
 use Rattle.f2b_base.specs.declared.job.LaneId.{LaneId}
+use Rattle.f2b_base.specs.declared.job.Outcome.{Outcome}
+use Rattle.f2b_base.specs.declared.job.Outcome.TheVariants.{Status}
 use Rattle.f2b_base.specs.declared.job.UpLane.{UpLane}
 use Rattle.f2b_base.specs.declared.view.WatchView.{WatchView}
 use Rattle.f2b_model.specs.declared.jail_now.JailNow.{JailNow}
 use Rattle.f2b_model.specs.Jobs.{AreById}
 use Rattle.f2b_model.specs.Lanes.{Lanes}
-use Rattle.f2b_model.specs.Lists.{AllOf}
-use Rattle.f2b_model.specs.Sound.{IsNumbered}
+use Rattle.f2b_model.specs.Lists.{AllOf, AreDistinct}
+use Rattle.f2b_model.specs.Sound.{IsNumbered, same_kind}
+use Rattle.f2b_model.specs.Steps.{moves_now, names}
 use Rattle.f2b_model.specs.Whole.{Now}
 
 -- ---- numbers and texts
@@ -144,6 +147,7 @@ pub record IsStorableDef (d : JailDef) : Type 0 where
   pub name : IsJailName d.name
   pub watches : AllOf (λ (w : WatchDef). IsUtf8 w.path) d.watches
   pub logs : length d.watches ≤ 4096
+  pub paths : AreDistinct bytes_eq (map (λ (w : WatchDef). w.path) d.watches)
   pub zone : IsZone d.zone
   pub date : IsStorableDate d.date
   pub pref : IsStorablePref d.pref
@@ -157,11 +161,13 @@ pub record IsStorableDef (d : JailDef) : Type 0 where
   pub maxmatches : d.maxmatches ≤ 1000
   pub rule : IsStorableRule d.rule
   pub actions : AllOf IsStorableAction d.actions
+  pub kinds : AreDistinct same_kind d.actions
   pub most : length d.actions ≤ 32
 
 pub record AreStorableDefs (defs : Defs) : Type 0 where
   pub purge : defs.purge ≤ longest_span
   pub jails : AllOf IsStorableDef defs.jails
+  pub names : AreDistinct bytes_eq (map (λ (d : JailDef). d.name) defs.jails)
   pub most : length defs.jails ≤ 256
 
 -- ---- jails
@@ -210,6 +216,7 @@ pub record IsStorable (n : Now) : Type 0 where
   pub at : n.world.at ≤ last_moment
   pub purge : n.world.purge ≤ longest_span
   pub jails : AllOf IsStorableJail n.world.jails
+  pub names : AreDistinct bytes_eq (names moves_now n.world.jails)
   pub most : length n.world.jails ≤ 256
   pub numbered : AllOf (λ (j : JailNow). IsNumbered n.world.next_ban j.bans) n.world.jails
   pub next_ban : n.world.next_ban ≤ most_numbers
@@ -223,17 +230,43 @@ pub record IsStorable (n : Now) : Type 0 where
 abbrev pub most_at_once : ℕ
 most_at_once = 2 ^ 62
 
+-- a signed number of 64 bits
+abbrev pub IsSigned : ℤ → Type 0
+IsSigned (pos n) = n < 2 ^ 63
+IsSigned (negsuc n) = n < 2 ^ 63
+
+-- how a job or its check ended
+abbrev pub IsStorableOutcome : Outcome → Type 0
+IsStorableOutcome (Status status) = IsSigned status
+IsStorableOutcome _ = Unit {0}
+
+-- the name of a jail, or of none
+abbrev pub IsNameOrNone : Option (List ℕ) → Type 0
+IsNameOrNone None = Unit {0}
+IsNameOrNone (Some name) = IsJailName name
+
+-- addresses, or none
+abbrev pub AreAddrsOrNone : Option (List Addr) → Type 0
+AreAddrsOrNone None = Unit {0}
+AreAddrsOrNone (Some addrs) = AllOf IsAddr addrs
+
 abbrev pub IsStorableWhat : What → Type 0
-IsStorableWhat (Read jail path place fs) = IsStorablePlace place × AllOf IsStorableFailure fs × (length fs ≤ most_at_once)
+IsStorableWhat Tick = Unit {0}
+IsStorableWhat (Read jail path place fs) = IsJailName jail × IsUtf8 path × IsStorablePlace place × AllOf IsStorableFailure fs × (length fs ≤ most_at_once)
+IsStorableWhat (Ended job outcome) = (job < 2 ^ 64) × IsStorableOutcome outcome
 IsStorableWhat (Config defs) = AreStorableDefs defs
-IsStorableWhat (BanThese jail addrs) = AllOf IsAddr addrs × (length addrs ≤ most_at_once)
-IsStorableWhat (Attempt jail addr) = IsAddr addr
-IsStorableWhat (Ignore jail cidr add) = IsCidr cidr
-IsStorableWhat (Findtime jail secs) = IsSpanOfTime secs
-IsStorableWhat (Bantime jail secs) = IsBase secs
-IsStorableWhat (Maxretry jail number) = IsWithin 1 100000 number
-IsStorableWhat _ = Unit {0}
+IsStorableWhat Stop = Unit {0}
+IsStorableWhat (BanThese jail addrs) = IsJailName jail × AllOf IsAddr addrs × AreDistinct same_addr addrs × (length addrs ≤ most_at_once)
+IsStorableWhat (Unban jail addrs) = IsNameOrNone jail × AreAddrsOrNone addrs
+IsStorableWhat (Attempt jail addr) = IsJailName jail × IsAddr addr
+IsStorableWhat (Ignore jail cidr add) = IsJailName jail × IsCidr cidr
+IsStorableWhat (Findtime jail secs) = IsJailName jail × IsSpanOfTime secs
+IsStorableWhat (Bantime jail secs) = IsJailName jail × IsBase secs
+IsStorableWhat (Maxretry jail number) = IsJailName jail × IsWithin 1 100000 number
+IsStorableWhat (Idle jail idle) = IsJailName jail
+IsStorableWhat (CheckFailed job outcome) = (job < 2 ^ 64) × IsStorableOutcome outcome
 
 pub record IsStorableInput (input : Input) : Type 0 where
   pub secs : input.secs ≤ last_moment
+  pub word : input.word < 2 ^ 64
   pub what : IsStorableWhat input.what
