@@ -47,7 +47,7 @@ use Rattle.f2b_model.proofs.OrderlyLemmas.{all_of-filter, all_of-push}
 use Rattle.f2b_model.proofs.ByIdLemmas.{by_id_rises}
 use Rattle.f2b_model.proofs.NumberLemmas.{step_numbered}
 use Rattle.f2b_model.proofs.StartLemmas.{ids_rise}
-use Rattle.f2b_model.proofs.BesideLemmas.{few_jails, names_stored, step_beside}
+use Rattle.f2b_model.proofs.BesideLemmas.{few_jails, names_stored, patterns_stored, step_beside}
 use Rattle.f2b_model.proofs.SerialLemmas.{banned_one_next, few_taken, followed_next, found_one_next, next_stored}
 use Rattle.f2b_model.proofs.ShownTextLemmas.{IsStorableOf, matches_utf8, values_utf8}
 use Rattle.f2b_model.proofs.StepLemmas.{all_of-map, all_of-more}
@@ -386,6 +386,7 @@ whole_stored n input b few s =
       jails = jails;
       names = names_stored n.world input b s.names;
       most = few_jails n.world input b s.most;
+      patterns = patterns_stored n.world input b s.patterns;
       numbered = step_numbered n.world input s.numbered;
       next_ban = next_stored n.world input b s.next_ban;
       lanes = record { up = work.up; jobs = with_ids 0 _ _ few_ids ids_here work.jobs };

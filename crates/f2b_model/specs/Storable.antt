@@ -1,6 +1,6 @@
 -- What can be stored: a word for each type of stored values, which says the bounds of a value by itself. How values of a list stand to
 -- each other is told by other words, but for serials and ids; and the lengths of lists that only memory bounds are left out.
-use Rattle.std.specs.Prelude.{◌≡◌, ℕ, ◌+◌, ◌%◌, ◌^◌, ◌<◌, ◌≤◌, ◌==◌, ◌&&◌, ◌||◌, nat_le, Bool, true, min, List, length, map, bytes_eq, Option, Some, None, ℤ, pos, negsuc}
+use Rattle.std.specs.Prelude.{◌≡◌, ℕ, ◌+◌, ◌%◌, ◌^◌, ◌<◌, ◌≤◌, ◌==◌, ◌&&◌, ◌||◌, nat_le, Bool, true, min, List, length, map, sum, bytes_eq, Option, Some, None, ℤ, pos, negsuc}
 use Rattle.std.specs.List.{list_all}
 use Rattle.std.specs.Str.{IsUtf8}
 use Rattle.f2b_base.specs.Addresses.{IsAddr, same_addr}
@@ -164,11 +164,20 @@ pub record IsStorableDef (d : JailDef) : Type 0 where
   pub kinds : AreDistinct same_kind d.actions
   pub most : length d.actions ≤ 32
 
+-- how many patterns of lines a jail has
+abbrev pub patterns_of : JailDef → ℕ
+patterns_of d = length d.fail + length d.ignore_lines
+
+-- how many all jails have together
+abbrev pub AreFewPatterns : List JailDef → Type 0
+AreFewPatterns ds = sum (map patterns_of ds) ≤ 512
+
 pub record AreStorableDefs (defs : Defs) : Type 0 where
   pub purge : defs.purge ≤ longest_span
   pub jails : AllOf IsStorableDef defs.jails
   pub names : AreDistinct bytes_eq (map (λ (d : JailDef). d.name) defs.jails)
   pub most : length defs.jails ≤ 256
+  pub patterns : AreFewPatterns defs.jails
 
 -- ---- jails
 
@@ -218,6 +227,7 @@ pub record IsStorable (n : Now) : Type 0 where
   pub jails : AllOf IsStorableJail n.world.jails
   pub names : AreDistinct bytes_eq (names moves_now n.world.jails)
   pub most : length n.world.jails ≤ 256
+  pub patterns : AreFewPatterns (map moves_now.definition n.world.jails)
   pub numbered : AllOf (λ (j : JailNow). IsNumbered n.world.next_ban j.bans) n.world.jails
   pub next_ban : n.world.next_ban ≤ most_numbers
   pub lanes : AreStorableLanes n.lanes
