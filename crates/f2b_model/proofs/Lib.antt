@@ -36,6 +36,7 @@ pub mod DueLemmas
 pub mod StartLemmas
 pub mod LaterLemmas
 pub mod SerialLemmas
+pub mod ApartLemmas
 pub mod BesideLemmas
 pub mod StorableLemmas
 pub mod StorableLaneLemmas

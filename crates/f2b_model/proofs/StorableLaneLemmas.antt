@@ -40,13 +40,14 @@ use Rattle.f2b_model.specs.Storable.{most_numbers, IsSpanOfTime, IsStorableActio
 use Rattle.f2b_model.specs.Told.{begins, told_each, told_new, told_found, told_banned, told_ends, told_unbanned, told_in, told_all_found, told_all_banned, told_done, jails_told}
 use Rattle.f2b_model.specs.Turns.{Order, numbered}
 use Rattle.f2b_model.specs.Watches.{with_place}
-use Rattle.f2b_model.specs.Whole.{Now, is_whole_spent, step_now}
+use Rattle.f2b_model.specs.Whole.{Now, empty_state, is_whole_spent, now_of, step_now}
 use Rattle.f2b_model.proofs.EndLemmas.{all_placed_all}
 use Rattle.f2b_model.proofs.ListLemmas.{by_test}
 use Rattle.f2b_model.proofs.OrderlyLemmas.{all_of-filter, all_of-push}
 use Rattle.f2b_model.proofs.ByIdLemmas.{by_id_rises}
 use Rattle.f2b_model.proofs.NumberLemmas.{step_numbered}
 use Rattle.f2b_model.proofs.StartLemmas.{ids_rise}
+use Rattle.f2b_model.proofs.ApartLemmas.{step_apart}
 use Rattle.f2b_model.proofs.BesideLemmas.{few_jails, names_stored, patterns_stored, step_beside}
 use Rattle.f2b_model.proofs.SerialLemmas.{banned_one_next, few_taken, followed_next, found_one_next, next_stored}
 use Rattle.f2b_model.proofs.ShownTextLemmas.{IsStorableOf, matches_utf8, values_utf8}
@@ -378,6 +379,8 @@ whole_stored n input b few s =
     let work = lanes_step_stored (step_by moves_now n.world input).at input.what (held moves_now (at_reading moves_now input.secs n.world)) (held moves_now (step_by moves_now n.world input))
     (jails_told moves_now n.world input) n.lanes beside.0 (held_stored (map (ended_by_time moves_now (max n.world.at input.secs)) n.world.jails) reading)
     (held_stored (step_by moves_now n.world input).jails jails) (told_well n.world input s.at b s.jails) b.what (record { up = s.lanes.up; jobs = without_ids n.lanes.jobs s.lanes.jobs }) in
+    let apart = step_apart books_now (step_by moves_now n.world input).at input.what (held moves_now (at_reading moves_now input.secs n.world)) (held moves_now (step_by moves_now n.world input))
+    (jails_told moves_now n.world input) n.lanes b.what s.lanes.apart in
     let few_ids = rw e at few in
     let ids_here = rw e at ids in
     rw e (record {
@@ -389,7 +392,22 @@ whole_stored n input b few s =
       patterns = patterns_stored n.world input b s.patterns;
       numbered = step_numbered n.world input s.numbered;
       next_ban = next_stored n.world input b s.next_ban;
-      lanes = record { up = work.up; jobs = with_ids 0 _ _ few_ids ids_here work.jobs };
+      lanes = record { up = work.up; apart = apart; jobs = with_ids 0 _ _ few_ids ids_here work.jobs };
       by_id = ids_here;
       next_job = few_ids;
     }))
+
+pub first_stored : IsStorable (now_of empty_state)
+first_stored = record {
+  at = omega arith;
+  purge = omega arith;
+  jails = tt;
+  names = tt;
+  most = omega arith;
+  patterns = omega arith;
+  numbered = tt;
+  next_ban = omega arith;
+  lanes = record { up = tt; apart = record { one = λ id. tt }; jobs = tt };
+  by_id = omega arith;
+  next_job = omega arith;
+}

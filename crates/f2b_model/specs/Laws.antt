@@ -112,6 +112,9 @@ pub record WholeLaw : Type 0 where
   -- the first job of its lane stays so through each step after which it is pending, that is, until it is settled or voided: so a child of it may run on
   pub stays_first : (n : Now) (input : Input) (id : ℕ) → AreById 0 n.lanes.jobs n.lanes.next_job → is_head_id id n.lanes.jobs ≡ true → is_some (job_by_id id (step_now n input).lanes.jobs) ≡ true
       → is_head_id id (step_now n input).lanes.jobs ≡ true
+  -- an input that can be stored is fit, and the empty state can be stored
+  pub stored_fits : (input : Input) → IsStorableInput input → IsFit input
+  pub stored_first : IsStorable (now_of empty_state)
   -- What is stored stays within its bounds, where the ids of jobs do. How many jobs a step makes has no bound but memory, which also bounds
   -- the bans of a jail: code asks for each job whether there is an id for it.
   pub stored : (n : Now) (input : Input) → IsStorableInput input → (step_now n input).lanes.next_job ≤ most_numbers → IsStorable n → IsStorable (step_now n input)

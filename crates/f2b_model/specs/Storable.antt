@@ -32,6 +32,7 @@ use Rattle.f2b_base.specs.declared.job.UpLane.{UpLane}
 use Rattle.f2b_base.specs.declared.view.WatchView.{WatchView}
 use Rattle.f2b_model.specs.declared.jail_now.JailNow.{JailNow}
 use Rattle.f2b_model.specs.Jobs.{AreById}
+use Rattle.f2b_model.specs.LaneSound.{AreApart}
 use Rattle.f2b_model.specs.Lanes.{Lanes}
 use Rattle.f2b_model.specs.Lists.{AllOf, AreDistinct}
 use Rattle.f2b_model.specs.Sound.{IsNumbered, same_kind}
@@ -216,6 +217,7 @@ pub record IsStorableJob (j : Job) : Type 0 where
 
 pub record AreStorableLanes (l : Lanes (List Job)) : Type 0 where
   pub up : AllOf IsStorableUp l.up
+  pub apart : AreApart l.up
   pub jobs : AllOf IsStorableJob l.jobs
 
 -- ---- all
