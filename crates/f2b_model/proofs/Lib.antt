@@ -40,6 +40,8 @@ pub mod ApartLemmas
 pub mod BesideLemmas
 pub mod StorableLemmas
 pub mod StorableLaneLemmas
+pub mod StorableToldLemmas
+pub mod StorableWholeLemmas
 pub mod ShownLemmas
 pub mod LaneNowLemmas
 pub mod LaneBackLemmas

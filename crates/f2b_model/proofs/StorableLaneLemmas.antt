@@ -1,18 +1,13 @@
 -- A step keeps what is stored of lanes and jobs within its bounds.
-use Rattle.std.proofs.Common.{nat_le, ◌≡◌, ℕ, ◌+◌, ◌<◌, ◌^◌, ◌≤◌, max, Bool, true, false, cond, not, find, inl, inr, Option, Some, None, List, [], ◌∷◌, ◌++◌, length, drop, map, filter, refl, arith}
-use Rattle.std.specs.Prelude.{bytes_eq, ◌==◌}
+use Rattle.std.proofs.Common.{nat_le, ◌≡◌, ℕ, ◌+◌, ◌<◌, ◌≤◌, Bool, false, not, find, inl, inr, Option, Some, None, List, [], ◌∷◌, ◌++◌, length, drop, filter, refl, arith}
+use Rattle.std.specs.Prelude.{◌==◌}
 use Rattle.std.specs.List.{flat_map, cons_option}
 use Rattle.std.specs.Str.{IsUtf8}
 use Rattle.std.proofs.lemmas.Bool.{cases_Bool, leb-false}
 use Rattle.std.proofs.lemmas.Option.{same_Some}
 use Rattle.std.proofs.lemmas.Str.{IsUtf8-nil}
 use Rattle.std.proofs.Common.{subst}
-use Rattle.f2b_base.specs.Addresses.{IsAddr}
 use Rattle.f2b_base.specs.Limits.{last_moment}
-use Rattle.f2b_base.specs.declared.addr.Addr.{Addr}
-use Rattle.f2b_base.specs.declared.ban.Ban.{Ban as Banned}
-use Rattle.f2b_base.specs.declared.ban.Failure.{Failure}
-use Rattle.f2b_base.specs.declared.input.Input.{Input}
 use Rattle.f2b_base.specs.declared.input.What.{What}
 use Rattle.f2b_base.specs.declared.input.What.TheVariants.{Tick, Read, Ended, Config, Stop as StopAll, Ban as BanThese, Unban as UnbanThese, Attempt, Ignore, Findtime, Bantime, Maxretry, Idle, CheckFailed}
 use Rattle.f2b_base.specs.declared.jail.ActionDef.{ActionDef}
@@ -25,43 +20,26 @@ use Rattle.f2b_base.specs.declared.job.Outcome.{Outcome}
 use Rattle.f2b_base.specs.declared.job.UpLane.{UpLane}
 use Rattle.f2b_model.specs.declared.happening.Happening.{Happening}
 use Rattle.f2b_model.specs.declared.happening.Happening.TheVariants.{Counts, Begins, Ends}
-use Rattle.f2b_model.specs.declared.jail_now.JailNow.{JailNow}
-use Rattle.f2b_model.specs.Active.{held, held_by, held_in}
 use Rattle.f2b_model.specs.Checks.{is_closing, lane_of, checked_lane, void_ids, voided_at}
-use Rattle.f2b_model.specs.Jobs.{AreById, Ending, Tried, after_try, is_head_id, settle_in, settled_as, settles}
+use Rattle.f2b_model.specs.Jobs.{Ending, Tried, after_try, is_head_id, settle_in, settled_as, settles}
 use Rattle.f2b_model.specs.Lanes.{Lanes, books_now, issue, lane_down, lane_up, all_down, all_up, try_ended, void_all, restarted, failed_in, others_down, lanes_configured, lanes_issued, lanes_done, lanes_step, lanes_of_jail, lanes_of, is_among}
-use Rattle.f2b_model.specs.Lists.{AllOf, in_order}
-use Rattle.f2b_model.specs.Moves.{counts, is_near}
-use Rattle.f2b_model.specs.NowMoves.{counted_now, found_now, banned_now, shown_now}
-use Rattle.f2b_model.specs.Nows.{JailsNow}
+use Rattle.f2b_model.specs.Lists.{AllOf}
 use Rattle.f2b_model.specs.Orders.{Held, addr_in, fill_of, template, lane_id, is_lane, is_up, takes, order, order_showing, ban_orders, lane_orders, down_orders, up_orders, restart_orders, told_orders}
-use Rattle.f2b_model.specs.Steps.{moves_now, named, is_spent, is_due, ends_before, is_meant, is_meant_jail, at_jail, at_reading, is_followed, followed_to, ended_by_time, step_by}
-use Rattle.f2b_model.specs.Storable.{most_numbers, IsSpanOfTime, IsStorableAction, IsStorableAddr, IsStorableBan, IsStorableDef, IsStorableFailure, IsStorableInput, IsStorableJail, IsStorableJob, IsStorableLane, IsStorableUp, IsStorable, IsStorableWhat}
-use Rattle.f2b_model.specs.Told.{begins, told_each, told_new, told_found, told_banned, told_ends, told_unbanned, told_in, told_all_found, told_all_banned, told_done, jails_told}
+use Rattle.f2b_model.specs.Storable.{IsSpanOfTime, IsStorableAction, IsStorableAddr, IsStorableBan, IsStorableDef, IsStorableLane, IsStorableUp, IsStorableWhat}
 use Rattle.f2b_model.specs.Turns.{Order, numbered}
-use Rattle.f2b_model.specs.Watches.{with_place}
-use Rattle.f2b_model.specs.Whole.{Now, empty_state, is_whole_spent, now_of, step_now}
-use Rattle.f2b_model.proofs.EndLemmas.{all_placed_all}
 use Rattle.f2b_model.proofs.ListLemmas.{by_test}
 use Rattle.f2b_model.proofs.OrderlyLemmas.{all_of-filter, all_of-push}
-use Rattle.f2b_model.proofs.ByIdLemmas.{by_id_rises}
-use Rattle.f2b_model.proofs.NumberLemmas.{step_numbered}
-use Rattle.f2b_model.proofs.StartLemmas.{ids_rise}
-use Rattle.f2b_model.proofs.ApartLemmas.{step_apart}
-use Rattle.f2b_model.proofs.BesideLemmas.{few_jails, names_stored, patterns_stored, step_beside}
-use Rattle.f2b_model.proofs.SerialLemmas.{banned_one_next, few_taken, followed_next, found_one_next, next_stored}
-use Rattle.f2b_model.proofs.ShownTextLemmas.{IsStorableOf, matches_utf8, values_utf8}
-use Rattle.f2b_model.proofs.StepLemmas.{all_of-map, all_of-more}
+use Rattle.f2b_model.proofs.ShownTextLemmas.{IsStorableOf, values_utf8}
+use Rattle.f2b_model.proofs.StepLemmas.{all_of-map}
 use Rattle.f2b_model.proofs.Utf8Lemmas.{rendered_utf8}
-use Rattle.f2b_model.proofs.StorableLemmas.{at_jail_stored, banned_stored, by_time_stored, found_stored, place_stored, step_stored, watches_stored, attempt_stored}
 
 -- ---- lists
 
-all_both : {A : Type 0} (P : A → Type 0) (xs ys : List A) → AllOf P xs → AllOf P ys → AllOf P (xs ++ ys)
+pub all_both : {A : Type 0} (P : A → Type 0) (xs ys : List A) → AllOf P xs → AllOf P ys → AllOf P (xs ++ ys)
 all_both P [] ys a b = b
 all_both P (x ∷ xs) ys a b = (a.0, all_both P xs ys a.1 b)
 
-all_drop : {A : Type 0} (P : A → Type 0) (ys xs : List A) → AllOf P xs → AllOf P (drop (length ys) xs)
+pub all_drop : {A : Type 0} (P : A → Type 0) (ys xs : List A) → AllOf P xs → AllOf P (drop (length ys) xs)
 all_drop P [] xs a = a
 all_drop P (y ∷ ys) [] a = tt
 all_drop P (y ∷ ys) (x ∷ xs) a = all_drop P ys xs a.1
@@ -76,7 +54,7 @@ all_found P p (y ∷ ys) x a is = elim (cases_Bool (p y)) [
 -- ---- orders
 
 -- an active ban that can be stored
-abbrev IsStorableHeld : Held → Type 0
+abbrev pub IsStorableHeld : Held → Type 0
 IsStorableHeld h = IsStorableBan h.ban
 
 record IsStorableOrder (o : Order) : Type 0 where
@@ -123,7 +101,7 @@ restart_stored : (u : UpLane) (hs : List Held) → IsStorableUp u → AllOf IsSt
 restart_stored u hs s a = (order_stored [] Stop None u IsUtf8-nil s tt, (order_stored [] Start None u IsUtf8-nil s tt, lane_orders_stored Reban u hs s a))
 
 -- what is told is of bans that can be stored, and of lines that are a text
-abbrev IsToldWell : Happening → Type 0
+abbrev pub IsToldWell : Happening → Type 0
 IsToldWell (Counts jail addr) = Unit {0}
 IsToldWell (Begins jail ban lines) = IsStorableBan ban × IsUtf8 lines
 IsToldWell (Ends jail ban) = IsStorableBan ban
@@ -139,17 +117,17 @@ told_orders_stored up (Ends jail ban ∷ told) s a =
 -- ---- jobs
 
 -- a job that can be stored, but for its id
-record IsWork (j : Job) : Type 0 where
-  lane : IsStorableLane j.lane
-  addr : IsStorableAddr j.addr
-  text : IsUtf8 j.text
-  timeout : IsSpanOfTime j.timeout
-  tries : j.tries ≤ 2
-  due : j.due ≤ last_moment
+pub record IsWork (j : Job) : Type 0 where
+  pub lane : IsStorableLane j.lane
+  pub addr : IsStorableAddr j.addr
+  pub text : IsUtf8 j.text
+  pub timeout : IsSpanOfTime j.timeout
+  pub tries : j.tries ≤ 2
+  pub due : j.due ≤ last_moment
 
-record AreWorkLanes (l : Lanes (List Job)) : Type 0 where
-  up : AllOf IsStorableUp l.up
-  jobs : AllOf IsWork l.jobs
+pub record AreWorkLanes (l : Lanes (List Job)) : Type 0 where
+  pub up : AllOf IsStorableUp l.up
+  pub jobs : AllOf IsWork l.jobs
 
 numbered_stored : (next at : ℕ) (os : List Order) → at ≤ last_moment → AllOf IsStorableOrder os → AllOf IsWork (numbered next at os)
 numbered_stored next at [] h a = tt
@@ -247,167 +225,7 @@ lanes_done_stored at (Bantime jail secs) mid after l h m a w s = s
 lanes_done_stored at (Maxretry jail number) mid after l h m a w s = s
 lanes_done_stored at (Idle jail idle) mid after l h m a w s = s
 
-lanes_step_stored : (at : ℕ) (what : What) (mid after : List Held) (told : List Happening) (l : Lanes (List Job)) → at ≤ last_moment → AllOf IsStorableHeld mid → AllOf IsStorableHeld after → AllOf IsToldWell told → IsStorableWhat what → AreWorkLanes l
+pub lanes_step_stored : (at : ℕ) (what : What) (mid after : List Held) (told : List Happening) (l : Lanes (List Job)) → at ≤ last_moment → AllOf IsStorableHeld mid → AllOf IsStorableHeld after → AllOf IsToldWell told → IsStorableWhat what → AreWorkLanes l
     → AreWorkLanes (lanes_step books_now at what mid after told l)
 lanes_step_stored at what mid after told l h m a t w s =
     lanes_done_stored at what mid after (lanes_issued books_now at told l) h m a w (issue_stored at (told_orders l.up told) l h (told_orders_stored l.up told s.up t) s)
-
--- ---- what jails hold and tell
-
-held_stored : (js : List JailNow) → AllOf IsStorableJail js → AllOf IsStorableHeld (held_by moves_now js)
-held_stored [] a = tt
-held_stored (j ∷ js) a =
-    all_both IsStorableHeld (held_in moves_now j) (held_by moves_now js)
-    (all_of-map IsStorableBan IsStorableHeld (λ (b : Banned). record { jail = named moves_now j; ban = b }) (λ b s. s) j.bans a.0.bans) (held_stored js a.1)
-
-told_new_well : (lines : List ℕ) (old new : JailNow) → IsUtf8 lines → IsStorableJail new → AllOf IsToldWell (told_new moves_now lines old new)
-told_new_well lines old new shown s = all_of-map IsStorableBan IsToldWell (begins lines (named moves_now new)) (λ b t. (t, shown)) (drop (length old.bans) new.bans) (all_drop IsStorableBan old.bans new.bans s.bans)
-
-where_told : (b : Bool) (told : List Happening) → AllOf IsToldWell told → AllOf IsToldWell (cond b told [])
-where_told true told a = a
-where_told false told a = tt
-
-shown_utf8 : (at : ℕ) (f : Failure) (j : JailNow) → IsUtf8 (shown_now at f j)
-shown_utf8 at f j = matches_utf8 j.definition.maxmatches (filter (is_near j.definition.findtime f) (counted_now at f j).failures)
-
-told_found_well : (at word n : ℕ) (f : Failure) (j : JailNow) → at ≤ last_moment → n < most_numbers → IsStorableFailure f → IsStorableJail j → AllOf IsToldWell (told_found moves_now at word f n j)
-told_found_well at word n f j h few one s =
-    where_told (counts at j.definition j.bans f) (Counts (named moves_now j) f.addr ∷ told_new moves_now (shown_now at f j) j (found_now at word n f j).jail)
-    (tt, told_new_well (shown_now at f j) j (found_now at word n f j).jail (shown_utf8 at f j) (found_stored at word n f j h few one s))
-
-told_in_well : (name : List ℕ) (t : JailNow → List Happening) → ((j : JailNow) → IsStorableJail j → AllOf IsToldWell (t j)) → (js : List JailNow) → AllOf IsStorableJail js → AllOf IsToldWell (told_in moves_now name t js)
-told_in_well name t each [] a = tt
-told_in_well name t each (j ∷ js) a = by_test (bytes_eq j.definition.name name) _ (λ e. rw e (each j a.0)) (λ e. rw e (told_in_well name t each js a.1))
-
-told_each_well : (t : JailNow → List Happening) → ((j : JailNow) → IsStorableJail j → AllOf IsToldWell (t j)) → (js : List JailNow) → AllOf IsStorableJail js → AllOf IsToldWell (told_each t js)
-told_each_well t each [] a = tt
-told_each_well t each (j ∷ js) a = all_both IsToldWell (t j) (told_each t js) (each j a.0) (told_each_well t each js a.1)
-
-all_found_well : (word : ℕ) (name : List ℕ) (fs : List Failure) (w : JailsNow) → w.at ≤ last_moment → w.next_ban + length fs ≤ most_numbers → AllOf IsStorableFailure fs → AllOf IsStorableJail w.jails → AllOf IsToldWell (told_all_found moves_now word name fs w)
-all_found_well word name [] w h few b a = tt
-all_found_well word name (f ∷ fs) w h few b a =
-    let one = found_one_next word name f w in
-    let next = at_jail moves_now name (λ n j. found_now w.at word n f j) w in
-    all_both IsToldWell (told_in moves_now name (told_found moves_now w.at word f w.next_ban) w.jails) (told_all_found moves_now word name fs next)
-    (told_in_well name (told_found moves_now w.at word f w.next_ban) (λ j s. told_found_well w.at word w.next_ban f j h (omega (arith, few)) b.0 s) w.jails a)
-    (all_found_well word name fs next h (omega (arith, few, one)) b.1
-    (at_jail_stored name (λ n j. found_now w.at word n f j) w (λ j s. found_stored w.at word w.next_ban f j h (omega (arith, few)) b.0 s) a))
-
-all_banned_well : (word : ℕ) (name : List ℕ) (addrs : List Addr) (w : JailsNow) → w.at ≤ last_moment → w.next_ban + length addrs ≤ most_numbers → AllOf IsAddr addrs → AllOf IsStorableJail w.jails → AllOf IsToldWell (told_all_banned moves_now word name addrs w)
-all_banned_well word name [] w h few b a = tt
-all_banned_well word name (addr ∷ addrs) w h few b a =
-    let one = banned_one_next word name addr w in
-    let next = at_jail moves_now name (λ n j. banned_now w.at word n addr j) w in
-    all_both IsToldWell (told_in moves_now name (told_banned moves_now w.at word addr w.next_ban) w.jails) (told_all_banned moves_now word name addrs next)
-    (told_in_well name (told_banned moves_now w.at word addr w.next_ban) (λ j s. told_new_well [] j (banned_now w.at word w.next_ban addr j).jail IsUtf8-nil (banned_stored w.at word w.next_ban addr j h (omega (arith, few)) b.0 s)) w.jails a)
-    (all_banned_well word name addrs next h (omega (arith, few, one)) b.1
-    (at_jail_stored name (λ n j. banned_now w.at word n addr j) w (λ j s. banned_stored w.at word w.next_ban addr j h (omega (arith, few)) b.0 s) a))
-
-ends_well : (name : List ℕ) (bs : List Banned) → AllOf IsStorableBan bs → AllOf IsToldWell (map (Ends name) bs)
-ends_well name bs a = all_of-map IsStorableBan IsToldWell (Ends name) (λ b s. s) bs a
-
-told_ends_well : (at : ℕ) (j : JailNow) → IsStorableJail j → AllOf IsToldWell (told_ends moves_now at j)
-told_ends_well at j s =
-    ends_well j.definition.name (in_order ends_before (filter (is_due at) j.bans)) (all_placed_all IsStorableBan ends_before [] (filter (is_due at) j.bans) tt (all_of-filter IsStorableBan (is_due at) j.bans s.bans))
-
-told_unbanned_well : (jail : Option (List ℕ)) (addrs : Option (List Addr)) (j : JailNow) → IsStorableJail j → AllOf IsToldWell (told_unbanned moves_now jail addrs j)
-told_unbanned_well jail addrs j s =
-    by_test (is_meant_jail jail j.definition) _
-    (λ e. rw e (ends_well j.definition.name (filter (is_meant addrs) j.bans) (all_of-filter IsStorableBan (is_meant addrs) j.bans s.bans)))
-    (λ e. rw e tt)
-
-told_done_well : (word : ℕ) (what : What) (w : JailsNow) → w.at ≤ last_moment → w.next_ban ≤ 2 ^ 62 → IsStorableWhat what → AllOf IsStorableJail w.jails → AllOf IsToldWell (told_done moves_now word what w)
-told_done_well word (Read jail path place fs) w h few b a =
-    by_test (is_followed moves_now jail path w) _
-    (λ e.
-    let same = followed_next jail path place w in
-    let most = b.4 in
-    rw e (all_found_well word jail fs (followed_to moves_now jail path place w) h (omega (arith, few, same, most)) b.3
-    (at_jail_stored jail (λ n j. record { jail = moves_now.followed path place j; next = n }) w (λ j s. watches_stored (with_place path place j.watches) j (place_stored path place j.watches b.2 s.watches) s) a)))
-    (λ e. rw e tt)
-told_done_well word (Attempt jail addr) w h few b a = all_found_well word jail (record { addr = addr; time = w.at; line = [] } ∷ []) w h (omega (arith, few)) (attempt_stored addr w.at b.1 h, tt) a
-told_done_well word (BanThese jail addrs) w h few b a = let most = b.3 in all_banned_well word jail addrs w h (omega (arith, few, most)) b.1 a
-told_done_well word (UnbanThese jail addrs) w h few b a = told_each_well (told_unbanned moves_now jail addrs) (told_unbanned_well jail addrs) w.jails a
-told_done_well word Tick w h few b a = tt
-told_done_well word (Ended job outcome) w h few b a = tt
-told_done_well word (Config defs) w h few b a = tt
-told_done_well word StopAll w h few b a = tt
-told_done_well word (Ignore jail cidr add) w h few b a = tt
-told_done_well word (Findtime jail secs) w h few b a = tt
-told_done_well word (Bantime jail secs) w h few b a = tt
-told_done_well word (Maxretry jail number) w h few b a = tt
-told_done_well word (Idle jail idle) w h few b a = tt
-told_done_well word (CheckFailed job outcome) w h few b a = tt
-
--- ---- the step
-
-read_stored : (w : JailsNow) (at : ℕ) → AllOf IsStorableJail w.jails → AllOf IsStorableJail (map (ended_by_time moves_now at) w.jails)
-read_stored w at a = all_of-map IsStorableJail IsStorableJail (ended_by_time moves_now at) (by_time_stored at) w.jails a
-
-told_well : (w : JailsNow) (input : Input) → w.at ≤ last_moment → IsStorableInput input → AllOf IsStorableJail w.jails → AllOf IsToldWell (jails_told moves_now w input)
-told_well w input h b a =
-    by_test (is_spent w) _
-    (λ e. rw e tt)
-    (λ e.
-    let at : max w.at input.secs ≤ last_moment = (let k = b.secs in omega (arith, h, k)) in
-    rw e (all_both IsToldWell (told_each (told_ends moves_now (max w.at input.secs)) w.jails) (told_done moves_now input.word input.what (at_reading moves_now input.secs w))
-    (told_each_well (told_ends moves_now (max w.at input.secs)) (told_ends_well (max w.at input.secs)) w.jails a)
-    (told_done_well input.word input.what (at_reading moves_now input.secs w) at (few_taken w e) b.what (read_stored w (max w.at input.secs) a))))
-
-without_ids : (jobs : List Job) → AllOf IsStorableJob jobs → AllOf IsWork jobs
-without_ids jobs a =
-    all_of-more IsStorableJob IsWork (λ (job : Job) s. record { lane = s.lane; addr = s.addr; text = s.text; timeout = s.timeout; tries = s.tries; due = s.due }) jobs a
-
-with_ids : (from : ℕ) (jobs : List Job) (next : ℕ) → next ≤ most_numbers → AreById from jobs next → AllOf IsWork jobs → AllOf IsStorableJob jobs
-with_ids from [] next few rise a = tt
-with_ids from (job ∷ jobs) next few rise a =
-    let below = by_id_rises (job.id + 1) jobs next rise.1 in
-    let work = a.0 in (
-      record { id = omega (arith, few, below); lane = work.lane; addr = work.addr; text = work.text; timeout = work.timeout; tries = work.tries; due = work.due },
-      with_ids (job.id + 1) jobs next few rise.1 a.1,
-    )
-
-pub whole_stored : (n : Now) (input : Input) → IsStorableInput input → (step_now n input).lanes.next_job ≤ most_numbers → IsStorable n → IsStorable (step_now n input)
-whole_stored n input b few s =
-    by_test (is_whole_spent moves_now books_now n) (IsStorable (step_now n input))
-    (λ e. rw e s)
-    (λ e.
-    let jails = step_stored n.world input s.at b s.jails in
-    let beside = step_beside n.world input b (s.at, s.purge) in
-    let ids = ids_rise n input s.by_id in
-    let reading = read_stored n.world (max n.world.at input.secs) s.jails in
-    let work = lanes_step_stored (step_by moves_now n.world input).at input.what (held moves_now (at_reading moves_now input.secs n.world)) (held moves_now (step_by moves_now n.world input))
-    (jails_told moves_now n.world input) n.lanes beside.0 (held_stored (map (ended_by_time moves_now (max n.world.at input.secs)) n.world.jails) reading)
-    (held_stored (step_by moves_now n.world input).jails jails) (told_well n.world input s.at b s.jails) b.what (record { up = s.lanes.up; jobs = without_ids n.lanes.jobs s.lanes.jobs }) in
-    let apart = step_apart books_now (step_by moves_now n.world input).at input.what (held moves_now (at_reading moves_now input.secs n.world)) (held moves_now (step_by moves_now n.world input))
-    (jails_told moves_now n.world input) n.lanes b.what s.lanes.apart in
-    let few_ids = rw e at few in
-    let ids_here = rw e at ids in
-    rw e (record {
-      at = beside.0;
-      purge = beside.1;
-      jails = jails;
-      names = names_stored n.world input b s.names;
-      most = few_jails n.world input b s.most;
-      patterns = patterns_stored n.world input b s.patterns;
-      numbered = step_numbered n.world input s.numbered;
-      next_ban = next_stored n.world input b s.next_ban;
-      lanes = record { up = work.up; apart = apart; jobs = with_ids 0 _ _ few_ids ids_here work.jobs };
-      by_id = ids_here;
-      next_job = few_ids;
-    }))
-
-pub first_stored : IsStorable (now_of empty_state)
-first_stored = record {
-  at = omega arith;
-  purge = omega arith;
-  jails = tt;
-  names = tt;
-  most = omega arith;
-  patterns = omega arith;
-  numbered = tt;
-  next_ban = omega arith;
-  lanes = record { up = tt; apart = record { one = λ id. tt }; jobs = tt };
-  by_id = omega arith;
-  next_job = omega arith;
-}

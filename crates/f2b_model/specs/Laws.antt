@@ -115,6 +115,5 @@ pub record WholeLaw : Type 0 where
   -- an input that can be stored is fit, and the empty state can be stored
   pub stored_fits : (input : Input) → IsStorableInput input → IsFit input
   pub stored_first : IsStorable (now_of empty_state)
-  -- What is stored stays within its bounds, where the ids of jobs do. How many jobs a step makes has no bound but memory, which also bounds
-  -- the bans of a jail: code asks for each job whether there is an id for it.
+  -- what is stored stays within its bounds, where there is an id for each job that the step makes
   pub stored : (n : Now) (input : Input) → IsStorableInput input → (step_now n input).lanes.next_job ≤ most_numbers → IsStorable n → IsStorable (step_now n input)

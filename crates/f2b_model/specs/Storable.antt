@@ -1,5 +1,6 @@
--- What can be stored: a word for each type of stored values, which says the bounds of a value by itself. How values of a list stand to
--- each other is told by other words, but for serials and ids; and the lengths of lists that only memory bounds are left out.
+-- What can be stored: a word for each type of stored values, which says the bounds of a value. It tells that serials and ids rise, and
+-- what is distinct. In which order failures and past bans stand, and which logs a jail watches, is told by `IsShown` and `AreWatched`;
+-- and the lengths of texts and lists that only memory bounds are left out.
 use Rattle.std.specs.Prelude.{◌≡◌, ℕ, ◌+◌, ◌%◌, ◌^◌, ◌<◌, ◌≤◌, ◌==◌, ◌&&◌, ◌||◌, nat_le, Bool, true, min, List, length, map, sum, bytes_eq, Option, Some, None, ℤ, pos, negsuc}
 use Rattle.std.specs.List.{list_all}
 use Rattle.std.specs.Str.{IsUtf8}
@@ -222,7 +223,9 @@ pub record AreStorableLanes (l : Lanes (List Job)) : Type 0 where
 
 -- ---- all
 
--- all that is stored
+-- All that is stored. Each step keeps it where the id of the job to come keeps its bound. That is left to code, which asks for an id
+-- before it makes a job: a step makes one for each lane and ban, and only memory bounds how many bans a jail has. The serial of the ban
+-- to come keeps its bound by itself, since an input begins at most one ban for each value in its list.
 pub record IsStorable (n : Now) : Type 0 where
   pub at : n.world.at ≤ last_moment
   pub purge : n.world.purge ≤ longest_span
