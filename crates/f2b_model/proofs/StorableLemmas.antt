@@ -1,8 +1,9 @@
 -- A step keeps what is stored of jails within its bounds.
-use Rattle.std.proofs.Common.{ℕ, ◌+◌, ◌^◌, ◌<◌, ◌≤◌, Bool, true, false, cond, not, ◌&&◌, ◌==◌, List, [], ◌∷◌, ◌++◌, length, refl, ℤ, arith}
+use Rattle.std.proofs.Common.{◌≡◌, ℕ, ◌+◌, ◌^◌, ◌<◌, ◌≤◌, Bool, true, false, cond, not, ◌&&◌, ◌==◌, List, [], ◌∷◌, ◌++◌, length, refl, ℤ, arith}
 use Rattle.std.specs.Prelude.{bytes_eq, Option}
 use Rattle.std.specs.List.{filter, list_any}
 use Rattle.std.specs.Str.{IsUtf8}
+use Rattle.std.proofs.lemmas.Bool.{and_parts, not-true}
 use Rattle.std.proofs.lemmas.Str.{IsUtf8-nil}
 use Rattle.f2b_base.specs.Addresses.{IsAddr}
 use Rattle.f2b_base.specs.Limits.{last_moment}
@@ -27,7 +28,7 @@ use Rattle.f2b_base.specs.declared.view.WatchView.{WatchView}
 use Rattle.f2b_model.specs.declared.jail_now.JailNow.{JailNow}
 use Rattle.f2b_model.specs.Full.{is_full, is_late, is_of}
 use Rattle.f2b_model.specs.Lists.{AllOf, in_order, placed}
-use Rattle.f2b_model.specs.Moves.{Out, up_64, up_to_32, counts, is_banned, is_near, is_stale, ban_of, new_ban, past_of, same_cidr, spanned, ignored}
+use Rattle.f2b_model.specs.Moves.{Out, up_64, up_to_32, counts, is_banned, is_near, is_stale, ban_of, new_ban, past_of, same_cidr, spanned, ignored, is_timely}
 use Rattle.f2b_model.specs.NowMoves.{found_now, counted_now, begun_now, banned_now, ended_now, dropped_now, limited_now, kept_now, fresh_now}
 use Rattle.f2b_model.specs.Nows.{comes_before, JailsNow}
 use Rattle.f2b_model.specs.Steps.{moves_now, is_spent, is_due, own_end, end_of, ends_before, is_meant, is_meant_jail, end_all, ended_by_time, unbanned, in_jail, find_jail, kept_or_fresh, configured, at_jail, alone, is_followed, followed_to, found_all, ban_all, done, each_jail, raised, jails_step_now}
@@ -35,8 +36,9 @@ use Rattle.f2b_model.specs.Storable.{most_numbers, IsSpanOfTime, IsWithin, IsBas
 use Rattle.f2b_model.specs.Until.{until_after}
 use Rattle.f2b_model.specs.Watches.{first_place, place_in, watches_of, with_place}
 use Rattle.f2b_model.proofs.EndLemmas.{all_placed, all_placed_all}
-use Rattle.f2b_model.proofs.ListLemmas.{by_test}
-use Rattle.f2b_model.proofs.OrderlyLemmas.{all_of-filter, all_of-push}
+use Rattle.f2b_model.proofs.ListLemmas.{by_test, filter_in_order, placed_in_order}
+use Rattle.f2b_model.proofs.MarkLemmas.{failures_order}
+use Rattle.f2b_model.proofs.OrderlyLemmas.{all_of-filter, all_of-push, once_filter, once_push}
 use Rattle.f2b_model.proofs.SerialLemmas.{banned_one_next, few_taken, followed_next, found_one_next}
 use Rattle.f2b_model.proofs.StepLemmas.{all_of-map, all_of-more}
 
@@ -72,19 +74,24 @@ counted_stored at f j h one p = record {
   moment = h;
   watches = p.watches;
   failures = all_of-filter IsStorableFailure (is_late at j.definition.findtime) (placed comes_before f j.failures) (all_placed IsStorableFailure comes_before f j.failures one p.failures);
+  ordered = filter_in_order comes_before failures_order (is_late at j.definition.findtime) (placed comes_before f j.failures) (placed_in_order comes_before failures_order f j.failures p.ordered);
   bans = p.bans;
+  once = p.once;
   past = p.past;
 }
 
-begun_stored : (at word serial : ℕ) (addr : Addr) (failures : ℕ) (j : JailNow) → at ≤ last_moment → serial < most_numbers → IsAddr addr → IsStorableJail j → IsStorableJail (begun_now at word serial addr failures j)
-begun_stored at word serial addr failures j h n a p = record {
+begun_stored : (at word serial : ℕ) (addr : Addr) (failures : ℕ) (j : JailNow) → at ≤ last_moment → serial < most_numbers → IsAddr addr → is_banned addr j.bans ≡ false → IsStorableJail j
+    → IsStorableJail (begun_now at word serial addr failures j)
+begun_stored at word serial addr failures j h n a free p = record {
   definition = p.definition;
   total_failed = p.total_failed;
   total_banned = up_stored j.total_banned;
   moment = p.moment;
   watches = p.watches;
   failures = all_of-filter IsStorableFailure (λ f. not (is_of addr f)) j.failures p.failures;
+  ordered = filter_in_order comes_before failures_order (λ f. not (is_of addr f)) j.failures p.ordered;
   bans = all_of-push IsStorableBan j.bans (new_ban j.definition j.past at word serial addr failures) p.bans (ban_stored j.definition j.past at word serial addr failures h n a);
+  once = once_push j.bans (new_ban j.definition j.past at word serial addr failures) p.once free;
   past = p.past;
 }
 
@@ -94,13 +101,14 @@ found_stored at word n f j h few one p =
     (λ e. rw e (
     let c = counted_now at f j in
     let counted = counted_stored at f j h one p in
+    let free = not-true (is_banned f.addr j.bans) (and_parts (not (is_banned f.addr j.bans)) (is_timely at j.definition.findtime f.time) e).0 in
     by_test (is_full c.definition.findtime c.definition.maxretry f.addr c.failures) _
-    (λ t. rw t (begun_stored at word n f.addr (length (filter (is_near c.definition.findtime f) c.failures)) c h few one.addr counted))
+    (λ t. rw t (begun_stored at word n f.addr (length (filter (is_near c.definition.findtime f) c.failures)) c h few one.addr free counted))
     (λ t. rw t counted)))
     (λ e. rw e p)
 
 pub banned_stored : (at word n : ℕ) (addr : Addr) (j : JailNow) → at ≤ last_moment → n < most_numbers → IsAddr addr → IsStorableJail j → IsStorableJail (banned_now at word n addr j).jail
-banned_stored at word n addr j h few a p = by_test (is_banned addr j.bans) _ (λ e. rw e p) (λ e. rw e (begun_stored at word n addr 0 j h few a p))
+banned_stored at word n addr j h few a p = by_test (is_banned addr j.bans) _ (λ e. rw e p) (λ e. rw e (begun_stored at word n addr 0 j h few a e p))
 
 ended_stored : (addr : Addr) (moment : ℕ) (j : JailNow) → IsAddr addr → moment ≤ last_moment → IsStorableJail j → IsStorableJail (ended_now addr moment j)
 ended_stored addr moment j a h p =
@@ -112,7 +120,9 @@ ended_stored addr moment j a h p =
       moment = p.moment;
       watches = p.watches;
       failures = p.failures;
+      ordered = p.ordered;
       bans = all_of-filter IsStorableBan (λ b. not (ban_of addr b)) j.bans p.bans;
+      once = once_filter (λ b. not (ban_of addr b)) j.bans p.once;
       past = all_of-push IsStorablePast j.past (record { addr = addr; end = moment }) p.past (record { addr = a; end = h });
     }))
     (λ e. rw e p)
@@ -145,7 +155,9 @@ dropped_stored at purge j p = record {
   moment = p.moment;
   watches = p.watches;
   failures = p.failures;
+  ordered = p.ordered;
   bans = p.bans;
+  once = p.once;
   past = all_of-filter IsStorablePast (λ q. not (is_stale at purge q)) j.past p.past;
 }
 
@@ -158,7 +170,9 @@ changed_stored d idle j s p = record {
   moment = p.moment;
   watches = p.watches;
   failures = p.failures;
+  ordered = p.ordered;
   bans = p.bans;
+  once = p.once;
   past = p.past;
 }
 
@@ -196,7 +210,9 @@ limited_stored findtime maxretry j f m p =
       moment = p.moment;
       watches = p.watches;
       failures = tt;
+      ordered = tt;
       bans = p.bans;
+      once = p.once;
       past = p.past;
     }))
 
@@ -262,7 +278,9 @@ watches_stored ws j all p = record {
   moment = p.moment;
   watches = all;
   failures = p.failures;
+  ordered = p.ordered;
   bans = p.bans;
+  once = p.once;
   past = p.past;
 }
 
@@ -298,7 +316,9 @@ fresh_stored d s = record {
   moment = omega arith;
   watches = watches_of_stored d.watches [] s.watches tt;
   failures = tt;
+  ordered = tt;
   bans = tt;
+  once = tt;
   past = tt;
 }
 

@@ -1,6 +1,6 @@
--- What can be stored: a word for each type of stored values, which says the bounds of a value. It tells that serials and ids rise, and
--- what is distinct. In which order failures and past bans stand, and which logs a jail watches, is told by `IsShown` and `AreWatched`;
--- and the lengths of texts and lists that only memory bounds are left out.
+-- What can be stored: a word for each type of stored values, which says the bounds of a value, in which order its failures, bans and jobs
+-- stand, and what is distinct. That past bans stand by their ends, that no failure is later than now, and which logs a jail watches, is
+-- told by `IsShown` and `AreWatched`; and the lengths of texts and lists that only memory bounds are left out.
 use Rattle.std.specs.Prelude.{◌≡◌, ℕ, ◌+◌, ◌%◌, ◌^◌, ◌<◌, ◌≤◌, ◌==◌, ◌&&◌, ◌||◌, nat_le, Bool, true, min, List, length, map, sum, bytes_eq, Option, Some, None, ℤ, pos, negsuc}
 use Rattle.std.specs.List.{list_all}
 use Rattle.std.specs.Str.{IsUtf8}
@@ -35,8 +35,9 @@ use Rattle.f2b_model.specs.declared.jail_now.JailNow.{JailNow}
 use Rattle.f2b_model.specs.Jobs.{AreById}
 use Rattle.f2b_model.specs.LaneSound.{AreApart}
 use Rattle.f2b_model.specs.Lanes.{Lanes}
-use Rattle.f2b_model.specs.Lists.{AllOf, AreDistinct}
-use Rattle.f2b_model.specs.Sound.{IsNumbered, same_kind}
+use Rattle.f2b_model.specs.Lists.{AllOf, AreDistinct, IsInOrder}
+use Rattle.f2b_model.specs.Nows.{comes_before}
+use Rattle.f2b_model.specs.Sound.{IsNumbered, IsOnceEach, same_kind}
 use Rattle.f2b_model.specs.Steps.{moves_now, names}
 use Rattle.f2b_model.specs.Whole.{Now}
 
@@ -190,7 +191,9 @@ pub record IsStorableJail (j : JailNow) : Type 0 where
   pub moment : j.moment ≤ last_moment
   pub watches : AllOf IsStorableWatch j.watches
   pub failures : AllOf IsStorableFailure j.failures
+  pub ordered : IsInOrder comes_before j.failures
   pub bans : AllOf IsStorableBan j.bans
+  pub once : IsOnceEach j.bans
   pub past : AllOf IsStorablePast j.past
 
 -- ---- lanes and jobs
