@@ -30,11 +30,11 @@ use Rattle.f2b_model.proofs.ToldOrderLemmas.{told_keeps}
 
 -- ---- lanes that are apart
 
-apart_rest : (lane : UpLane) (ls : List UpLane) → AreApart (lane ∷ ls) → AreApart ls
+pub apart_rest : (lane : UpLane) (ls : List UpLane) → AreApart (lane ∷ ls) → AreApart ls
 apart_rest lane ls apart = record { one = λ id. (apart.one id).1 }
 
 -- one that stands later is another
-apart_other : (lane x : UpLane) (ls : List UpLane) → AreApart (lane ∷ ls) → IsIn x ls → is_lane (lane_id x) lane ≡ false
+pub apart_other : (lane x : UpLane) (ls : List UpLane) → AreApart (lane ∷ ls) → IsIn x ls → is_lane (lane_id x) lane ≡ false
 apart_other lane x ls apart i = lane_swap (lane_id lane) (lane_id x) ∙ none_in (is_lane (lane_id lane)) x ls i ((apart.one (lane_id lane)).0 (same_lane-same (lane_id lane)))
 
 pub apart_filter : (p : UpLane → Bool) (lanes : List UpLane) → AreApart lanes → AreApart (filter p lanes)
@@ -49,7 +49,7 @@ all_down_keeps base at held (lane ∷ ls) l once is apart each =
     all_down_keeps base at held ls (lane_down books at held lane l) once (lane_down_keeps base at held lane l once is (each lane (inl refl))) (apart_rest lane ls apart)
     (λ x i. up_left lane l.up (lane_id x) ∙ and_from (is_up l.up (lane_id x)) _ (each x (inr i)) (ap not (apart_other lane x ls apart i)))
 
-both_false : (a b : Bool) → a ≡ false → b ≡ false → (a || (b || false)) ≡ false
+pub both_false : (a b : Bool) → a ≡ false → b ≡ false → (a || (b || false)) ≡ false
 both_false false false p q = refl
 both_false false true p q = q
 both_false true b p q = p

@@ -35,8 +35,13 @@ pub mod CarryLemmas
 pub mod DueLemmas
 pub mod StartLemmas
 pub mod LaterLemmas
+pub mod SerialLemmas
+pub mod ApartLemmas
+pub mod BesideLemmas
 pub mod StorableLemmas
 pub mod StorableLaneLemmas
+pub mod StorableToldLemmas
+pub mod StorableWholeLemmas
 pub mod ShownLemmas
 pub mod LaneNowLemmas
 pub mod LaneBackLemmas
@@ -52,4 +57,5 @@ mod Histories
 pub mod RenderLemmas
 pub mod MatchLemmas
 pub mod Utf8Lemmas
+pub mod ShownTextLemmas
 mod LaneRows

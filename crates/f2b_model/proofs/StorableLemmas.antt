@@ -1,8 +1,9 @@
 -- A step keeps what is stored of jails within its bounds.
-use Rattle.std.proofs.Common.{ℕ, ◌^◌, ◌<◌, ◌≤◌, Bool, true, false, cond, not, ◌&&◌, ◌==◌, List, [], ◌∷◌, ◌++◌, length, refl, ℤ, arith}
+use Rattle.std.proofs.Common.{◌≡◌, ℕ, ◌+◌, ◌^◌, ◌<◌, ◌≤◌, Bool, true, false, cond, not, ◌&&◌, ◌==◌, List, [], ◌∷◌, ◌++◌, length, refl, ℤ, arith}
 use Rattle.std.specs.Prelude.{bytes_eq, Option}
 use Rattle.std.specs.List.{filter, list_any}
 use Rattle.std.specs.Str.{IsUtf8}
+use Rattle.std.proofs.lemmas.Bool.{and_parts, not-true}
 use Rattle.std.proofs.lemmas.Str.{IsUtf8-nil}
 use Rattle.f2b_base.specs.Addresses.{IsAddr}
 use Rattle.f2b_base.specs.Limits.{last_moment}
@@ -27,16 +28,18 @@ use Rattle.f2b_base.specs.declared.view.WatchView.{WatchView}
 use Rattle.f2b_model.specs.declared.jail_now.JailNow.{JailNow}
 use Rattle.f2b_model.specs.Full.{is_full, is_late, is_of}
 use Rattle.f2b_model.specs.Lists.{AllOf, in_order, placed}
-use Rattle.f2b_model.specs.Moves.{Out, up_64, up_to_32, counts, is_banned, is_near, is_stale, ban_of, new_ban, past_of, same_cidr, spanned, ignored}
+use Rattle.f2b_model.specs.Moves.{Out, up_64, up_to_32, counts, is_banned, is_near, is_stale, ban_of, new_ban, past_of, same_cidr, spanned, ignored, is_timely}
 use Rattle.f2b_model.specs.NowMoves.{found_now, counted_now, begun_now, banned_now, ended_now, dropped_now, limited_now, kept_now, fresh_now}
 use Rattle.f2b_model.specs.Nows.{comes_before, JailsNow}
 use Rattle.f2b_model.specs.Steps.{moves_now, is_spent, is_due, own_end, end_of, ends_before, is_meant, is_meant_jail, end_all, ended_by_time, unbanned, in_jail, find_jail, kept_or_fresh, configured, at_jail, alone, is_followed, followed_to, found_all, ban_all, done, each_jail, raised, jails_step_now}
-use Rattle.f2b_model.specs.Storable.{IsSpanOfTime, IsWithin, IsBase, IsStorableFailure, IsStorableUntil, IsStorableBan, IsStorablePast, IsStorablePlace, IsStorableWatch, IsStorableDef, IsStorableJail, IsStorableWhat, IsStorableInput}
+use Rattle.f2b_model.specs.Storable.{most_numbers, IsSpanOfTime, IsWithin, IsBase, IsStorableFailure, IsStorableUntil, IsStorableBan, IsStorablePast, IsStorablePlace, IsStorableWatch, IsStorableDef, IsStorableJail, IsStorableWhat, IsStorableInput}
 use Rattle.f2b_model.specs.Until.{until_after}
 use Rattle.f2b_model.specs.Watches.{first_place, place_in, watches_of, with_place}
 use Rattle.f2b_model.proofs.EndLemmas.{all_placed, all_placed_all}
-use Rattle.f2b_model.proofs.ListLemmas.{by_test}
-use Rattle.f2b_model.proofs.OrderlyLemmas.{all_of-filter, all_of-push}
+use Rattle.f2b_model.proofs.ListLemmas.{by_test, filter_in_order, placed_in_order}
+use Rattle.f2b_model.proofs.MarkLemmas.{failures_order}
+use Rattle.f2b_model.proofs.OrderlyLemmas.{all_of-filter, all_of-push, once_filter, once_push}
+use Rattle.f2b_model.proofs.SerialLemmas.{banned_one_next, few_taken, followed_next, found_one_next}
 use Rattle.f2b_model.proofs.StepLemmas.{all_of-map, all_of-more}
 
 -- ---- bans
@@ -51,10 +54,11 @@ small n = omega arith
 up_stored : (n : ℕ) → up_64 n < 2 ^ 64
 up_stored n = omega arith
 
-ban_stored : (d : JailDef) (ps : List Past) (at word serial : ℕ) (addr : Addr) (failures : ℕ) → at ≤ last_moment → IsAddr addr → IsStorableBan (new_ban d ps at word serial addr failures)
-ban_stored d ps at word serial addr failures h a =
+ban_stored : (d : JailDef) (ps : List Past) (at word serial : ℕ) (addr : Addr) (failures : ℕ) → at ≤ last_moment → serial < most_numbers → IsAddr addr
+    → IsStorableBan (new_ban d ps at word serial addr failures)
+ban_stored d ps at word serial addr failures h n a =
     let count = up_to_32 (length (filter (past_of addr) ps)) in
-    record { addr = a; begin = h; until = until_stored at (span_of d.rule count word serial); count = small (length (filter (past_of addr) ps)); failures = small failures }
+    record { serial = n; addr = a; begin = h; until = until_stored at (span_of d.rule count word serial); count = small (length (filter (past_of addr) ps)); failures = small failures }
 
 end_last : (u : Until) → IsStorableUntil u → end_of u ≤ last_moment
 end_last Never h = omega arith
@@ -70,35 +74,41 @@ counted_stored at f j h one p = record {
   moment = h;
   watches = p.watches;
   failures = all_of-filter IsStorableFailure (is_late at j.definition.findtime) (placed comes_before f j.failures) (all_placed IsStorableFailure comes_before f j.failures one p.failures);
+  ordered = filter_in_order comes_before failures_order (is_late at j.definition.findtime) (placed comes_before f j.failures) (placed_in_order comes_before failures_order f j.failures p.ordered);
   bans = p.bans;
+  once = p.once;
   past = p.past;
 }
 
-begun_stored : (at word serial : ℕ) (addr : Addr) (failures : ℕ) (j : JailNow) → at ≤ last_moment → IsAddr addr → IsStorableJail j → IsStorableJail (begun_now at word serial addr failures j)
-begun_stored at word serial addr failures j h a p = record {
+begun_stored : (at word serial : ℕ) (addr : Addr) (failures : ℕ) (j : JailNow) → at ≤ last_moment → serial < most_numbers → IsAddr addr → is_banned addr j.bans ≡ false → IsStorableJail j
+    → IsStorableJail (begun_now at word serial addr failures j)
+begun_stored at word serial addr failures j h n a free p = record {
   definition = p.definition;
   total_failed = p.total_failed;
   total_banned = up_stored j.total_banned;
   moment = p.moment;
   watches = p.watches;
   failures = all_of-filter IsStorableFailure (λ f. not (is_of addr f)) j.failures p.failures;
-  bans = all_of-push IsStorableBan j.bans (new_ban j.definition j.past at word serial addr failures) p.bans (ban_stored j.definition j.past at word serial addr failures h a);
+  ordered = filter_in_order comes_before failures_order (λ f. not (is_of addr f)) j.failures p.ordered;
+  bans = all_of-push IsStorableBan j.bans (new_ban j.definition j.past at word serial addr failures) p.bans (ban_stored j.definition j.past at word serial addr failures h n a);
+  once = once_push j.bans (new_ban j.definition j.past at word serial addr failures) p.once free;
   past = p.past;
 }
 
-pub found_stored : (at word n : ℕ) (f : Failure) (j : JailNow) → at ≤ last_moment → IsStorableFailure f → IsStorableJail j → IsStorableJail (found_now at word n f j).jail
-found_stored at word n f j h one p =
+pub found_stored : (at word n : ℕ) (f : Failure) (j : JailNow) → at ≤ last_moment → n < most_numbers → IsStorableFailure f → IsStorableJail j → IsStorableJail (found_now at word n f j).jail
+found_stored at word n f j h few one p =
     by_test (counts at j.definition j.bans f) _
     (λ e. rw e (
     let c = counted_now at f j in
     let counted = counted_stored at f j h one p in
+    let free = not-true (is_banned f.addr j.bans) (and_parts (not (is_banned f.addr j.bans)) (is_timely at j.definition.findtime f.time) e).0 in
     by_test (is_full c.definition.findtime c.definition.maxretry f.addr c.failures) _
-    (λ t. rw t (begun_stored at word n f.addr (length (filter (is_near c.definition.findtime f) c.failures)) c h one.addr counted))
+    (λ t. rw t (begun_stored at word n f.addr (length (filter (is_near c.definition.findtime f) c.failures)) c h few one.addr free counted))
     (λ t. rw t counted)))
     (λ e. rw e p)
 
-pub banned_stored : (at word n : ℕ) (addr : Addr) (j : JailNow) → at ≤ last_moment → IsAddr addr → IsStorableJail j → IsStorableJail (banned_now at word n addr j).jail
-banned_stored at word n addr j h a p = by_test (is_banned addr j.bans) _ (λ e. rw e p) (λ e. rw e (begun_stored at word n addr 0 j h a p))
+pub banned_stored : (at word n : ℕ) (addr : Addr) (j : JailNow) → at ≤ last_moment → n < most_numbers → IsAddr addr → IsStorableJail j → IsStorableJail (banned_now at word n addr j).jail
+banned_stored at word n addr j h few a p = by_test (is_banned addr j.bans) _ (λ e. rw e p) (λ e. rw e (begun_stored at word n addr 0 j h few a e p))
 
 ended_stored : (addr : Addr) (moment : ℕ) (j : JailNow) → IsAddr addr → moment ≤ last_moment → IsStorableJail j → IsStorableJail (ended_now addr moment j)
 ended_stored addr moment j a h p =
@@ -110,7 +120,9 @@ ended_stored addr moment j a h p =
       moment = p.moment;
       watches = p.watches;
       failures = p.failures;
+      ordered = p.ordered;
       bans = all_of-filter IsStorableBan (λ b. not (ban_of addr b)) j.bans p.bans;
+      once = once_filter (λ b. not (ban_of addr b)) j.bans p.once;
       past = all_of-push IsStorablePast j.past (record { addr = addr; end = moment }) p.past (record { addr = a; end = h });
     }))
     (λ e. rw e p)
@@ -143,7 +155,9 @@ dropped_stored at purge j p = record {
   moment = p.moment;
   watches = p.watches;
   failures = p.failures;
+  ordered = p.ordered;
   bans = p.bans;
+  once = p.once;
   past = all_of-filter IsStorablePast (λ q. not (is_stale at purge q)) j.past p.past;
 }
 
@@ -156,7 +170,9 @@ changed_stored d idle j s p = record {
   moment = p.moment;
   watches = p.watches;
   failures = p.failures;
+  ordered = p.ordered;
   bans = p.bans;
+  once = p.once;
   past = p.past;
 }
 
@@ -165,6 +181,7 @@ limits_stored findtime maxretry d f m s = record {
   name = s.name;
   watches = s.watches;
   logs = s.logs;
+  paths = s.paths;
   zone = s.zone;
   date = s.date;
   pref = s.pref;
@@ -178,6 +195,7 @@ limits_stored findtime maxretry d f m s = record {
   maxmatches = s.maxmatches;
   rule = s.rule;
   actions = s.actions;
+  kinds = s.kinds;
   most = s.most;
 }
 
@@ -192,7 +210,9 @@ limited_stored findtime maxretry j f m p =
       moment = p.moment;
       watches = p.watches;
       failures = tt;
+      ordered = tt;
       bans = p.bans;
+      once = p.once;
       past = p.past;
     }))
 
@@ -201,6 +221,7 @@ spanned_stored secs d b s = record {
   name = s.name;
   watches = s.watches;
   logs = s.logs;
+  paths = s.paths;
   zone = s.zone;
   date = s.date;
   pref = s.pref;
@@ -214,6 +235,7 @@ spanned_stored secs d b s = record {
   maxmatches = s.maxmatches;
   rule = record { base = b; factor = s.rule.factor; multipliers = s.rule.multipliers; most = s.rule.most; maxtime = s.rule.maxtime; rndtime = s.rule.rndtime };
   actions = s.actions;
+  kinds = s.kinds;
   most = s.most;
 }
 
@@ -222,6 +244,7 @@ masks_stored masks d all s = record {
   name = s.name;
   watches = s.watches;
   logs = s.logs;
+  paths = s.paths;
   zone = s.zone;
   date = s.date;
   pref = s.pref;
@@ -235,6 +258,7 @@ masks_stored masks d all s = record {
   maxmatches = s.maxmatches;
   rule = s.rule;
   actions = s.actions;
+  kinds = s.kinds;
   most = s.most;
 }
 
@@ -254,7 +278,9 @@ watches_stored ws j all p = record {
   moment = p.moment;
   watches = all;
   failures = p.failures;
+  ordered = p.ordered;
   bans = p.bans;
+  once = p.once;
   past = p.past;
 }
 
@@ -290,7 +316,9 @@ fresh_stored d s = record {
   moment = omega arith;
   watches = watches_of_stored d.watches [] s.watches tt;
   failures = tt;
+  ordered = tt;
   bans = tt;
+  once = tt;
   past = tt;
 }
 
@@ -299,26 +327,28 @@ fresh_stored d s = record {
 abbrev AreStored : JailsNow → Type 0
 AreStored w = AllOf IsStorableJail w.jails
 
-in_jail_stored : (name : List ℕ) (f : ℕ → JailNow → Out JailNow) → ((n : ℕ) (j : JailNow) → IsStorableJail j → IsStorableJail (f n j).jail) → (n : ℕ) (js : List JailNow) → AllOf IsStorableJail js
+in_jail_stored : (name : List ℕ) (f : ℕ → JailNow → Out JailNow) (n : ℕ) (js : List JailNow) → ((j : JailNow) → IsStorableJail j → IsStorableJail (f n j).jail) → AllOf IsStorableJail js
     → AllOf IsStorableJail (in_jail moves_now name f n js).jails
-in_jail_stored name f e n [] a = tt
-in_jail_stored name f e n (j ∷ js) a =
-    by_test (bytes_eq j.definition.name name) _ (λ t. rw t (e n j a.0, a.1)) (λ t. rw t (a.0, in_jail_stored name f e n js a.1))
+in_jail_stored name f n [] e a = tt
+in_jail_stored name f n (j ∷ js) e a =
+    by_test (bytes_eq j.definition.name name) _ (λ t. rw t (e j a.0, a.1)) (λ t. rw t (a.0, in_jail_stored name f n js e a.1))
 
-pub at_jail_stored : (name : List ℕ) (f : ℕ → JailNow → Out JailNow) (w : JailsNow) → ((n : ℕ) (j : JailNow) → IsStorableJail j → IsStorableJail (f n j).jail) → AreStored w → AreStored (at_jail moves_now name f w)
-at_jail_stored name f w e a = in_jail_stored name f e w.next_ban w.jails a
+pub at_jail_stored : (name : List ℕ) (f : ℕ → JailNow → Out JailNow) (w : JailsNow) → ((j : JailNow) → IsStorableJail j → IsStorableJail (f w.next_ban j).jail) → AreStored w → AreStored (at_jail moves_now name f w)
+at_jail_stored name f w e a = in_jail_stored name f w.next_ban w.jails e a
 
-found_all_stored : (word : ℕ) (name : List ℕ) (fs : List Failure) (w : JailsNow) → w.at ≤ last_moment → AllOf IsStorableFailure fs → AreStored w → AreStored (found_all moves_now word name fs w)
-found_all_stored word name [] w h all a = a
-found_all_stored word name (f ∷ fs) w h all a =
-    found_all_stored word name fs (at_jail moves_now name (λ n j. found_now w.at word n f j) w) h all.1
-    (at_jail_stored name (λ n j. found_now w.at word n f j) w (λ n j p. found_stored w.at word n f j h all.0 p) a)
+found_all_stored : (word : ℕ) (name : List ℕ) (fs : List Failure) (w : JailsNow) → w.at ≤ last_moment → w.next_ban + length fs ≤ most_numbers → AllOf IsStorableFailure fs → AreStored w → AreStored (found_all moves_now word name fs w)
+found_all_stored word name [] w h few all a = a
+found_all_stored word name (f ∷ fs) w h few all a =
+    let one = found_one_next word name f w in
+    found_all_stored word name fs (at_jail moves_now name (λ n j. found_now w.at word n f j) w) h (omega (arith, few, one)) all.1
+    (at_jail_stored name (λ n j. found_now w.at word n f j) w (λ j p. found_stored w.at word w.next_ban f j h (omega (arith, few)) all.0 p) a)
 
-ban_all_stored : (word : ℕ) (name : List ℕ) (addrs : List Addr) (w : JailsNow) → w.at ≤ last_moment → AllOf IsAddr addrs → AreStored w → AreStored (ban_all moves_now word name addrs w)
-ban_all_stored word name [] w h all a = a
-ban_all_stored word name (addr ∷ addrs) w h all a =
-    ban_all_stored word name addrs (at_jail moves_now name (λ n j. banned_now w.at word n addr j) w) h all.1
-    (at_jail_stored name (λ n j. banned_now w.at word n addr j) w (λ n j p. banned_stored w.at word n addr j h all.0 p) a)
+ban_all_stored : (word : ℕ) (name : List ℕ) (addrs : List Addr) (w : JailsNow) → w.at ≤ last_moment → w.next_ban + length addrs ≤ most_numbers → AllOf IsAddr addrs → AreStored w → AreStored (ban_all moves_now word name addrs w)
+ban_all_stored word name [] w h few all a = a
+ban_all_stored word name (addr ∷ addrs) w h few all a =
+    let one = banned_one_next word name addr w in
+    ban_all_stored word name addrs (at_jail moves_now name (λ n j. banned_now w.at word n addr j) w) h (omega (arith, few, one)) all.1
+    (at_jail_stored name (λ n j. banned_now w.at word n addr j) w (λ j p. banned_stored w.at word w.next_ban addr j h (omega (arith, few)) all.0 p) a)
 
 configured_stored : (ds : List JailDef) (js : List JailNow) → AllOf IsStorableDef ds → AllOf IsStorableJail js → AllOf IsStorableJail (configured moves_now ds js)
 configured_stored [] js all a = tt
@@ -331,32 +361,35 @@ configured_stored (d ∷ ds) js all a = (one js a, configured_stored ds js all.1
 pub attempt_stored : (addr : Addr) (at : ℕ) → IsAddr addr → at ≤ last_moment → IsStorableFailure (record { addr = addr; time = at; line = [] })
 attempt_stored addr at a h = record { addr = a; time = h; line = (IsUtf8-nil, omega arith) }
 
-done_stored : (word : ℕ) (what : What) (w : JailsNow) → w.at ≤ last_moment → IsStorableWhat what → AreStored w → AreStored (done moves_now word what w)
-done_stored word Tick w h s a = a
-done_stored word (Read jail path place fs) w h s a =
+done_stored : (word : ℕ) (what : What) (w : JailsNow) → w.at ≤ last_moment → w.next_ban ≤ 2 ^ 62 → IsStorableWhat what → AreStored w → AreStored (done moves_now word what w)
+done_stored word Tick w h few s a = a
+done_stored word (Read jail path place fs) w h few s a =
     by_test (is_followed moves_now jail path w) _
-    (λ t. rw t (found_all_stored word jail fs (followed_to moves_now jail path place w) h s.1
-    (at_jail_stored jail (alone moves_now (moves_now.followed path place)) w (λ n j p. watches_stored (with_place path place j.watches) j (place_stored path place j.watches s.0 p.watches) p) a)))
+    (λ t.
+    let same = followed_next jail path place w in
+    let most = s.4 in
+    rw t (found_all_stored word jail fs (followed_to moves_now jail path place w) h (omega (arith, few, same, most)) s.3
+    (at_jail_stored jail (alone moves_now (moves_now.followed path place)) w (λ j p. watches_stored (with_place path place j.watches) j (place_stored path place j.watches s.2 p.watches) p) a)))
     (λ t. rw t a)
-done_stored word (BanThese jail addrs) w h s a = ban_all_stored word jail addrs w h s a
-done_stored word (Unban jail addrs) w h s a =
+done_stored word (BanThese jail addrs) w h few s a = let most = s.3 in ban_all_stored word jail addrs w h (omega (arith, few, most)) s.1 a
+done_stored word (Unban jail addrs) w h few s a =
     all_of-map IsStorableJail IsStorableJail (λ j. cond (is_meant_jail jail j.definition) (unbanned moves_now w.at addrs j) j)
     (λ j p. by_test (is_meant_jail jail j.definition) _ (λ t. rw t (unbanned_stored w.at addrs j h p)) (λ t. rw t p)) w.jails a
-done_stored word (Attempt jail addr) w h s a =
-    found_all_stored word jail (record { addr = addr; time = w.at; line = [] } ∷ []) w h (attempt_stored addr w.at s h, tt) a
-done_stored word (Findtime jail secs) w h s a =
-    at_jail_stored jail (alone moves_now (λ j. limited_now secs j.definition.maxretry j)) w (λ n j p. limited_stored secs j.definition.maxretry j s p.definition.maxretry p) a
-done_stored word (Bantime jail secs) w h s a =
-    at_jail_stored jail (alone moves_now (moves_now.spanned secs)) w (λ n j p. changed_stored (spanned secs j.definition) j.idle j (spanned_stored secs j.definition s p.definition) p) a
-done_stored word (Maxretry jail number) w h s a =
-    at_jail_stored jail (alone moves_now (λ j. limited_now j.definition.findtime number j)) w (λ n j p. limited_stored j.definition.findtime number j p.definition.findtime s p) a
-done_stored word (Idle jail idle) w h s a = at_jail_stored jail (alone moves_now (moves_now.idle idle)) w (λ n j p. changed_stored j.definition idle j p.definition p) a
-done_stored word (Ignore jail cidr add) w h s a =
-    at_jail_stored jail (alone moves_now (moves_now.ignored cidr add)) w (λ n j p. changed_stored (ignored cidr add j.definition) j.idle j (ignored_stored cidr add j.definition s p.definition) p) a
-done_stored word (Config defs) w h s a = configured_stored defs.jails w.jails s.jails a
-done_stored word (Ended job outcome) w h s a = a
-done_stored word (CheckFailed job outcome) w h s a = a
-done_stored word Stop w h s a = a
+done_stored word (Attempt jail addr) w h few s a =
+    found_all_stored word jail (record { addr = addr; time = w.at; line = [] } ∷ []) w h (omega (arith, few)) (attempt_stored addr w.at s.1 h, tt) a
+done_stored word (Findtime jail secs) w h few s a =
+    at_jail_stored jail (alone moves_now (λ j. limited_now secs j.definition.maxretry j)) w (λ j p. limited_stored secs j.definition.maxretry j s.1 p.definition.maxretry p) a
+done_stored word (Bantime jail secs) w h few s a =
+    at_jail_stored jail (alone moves_now (moves_now.spanned secs)) w (λ j p. changed_stored (spanned secs j.definition) j.idle j (spanned_stored secs j.definition s.1 p.definition) p) a
+done_stored word (Maxretry jail number) w h few s a =
+    at_jail_stored jail (alone moves_now (λ j. limited_now j.definition.findtime number j)) w (λ j p. limited_stored j.definition.findtime number j p.definition.findtime s.1 p) a
+done_stored word (Idle jail idle) w h few s a = at_jail_stored jail (alone moves_now (moves_now.idle idle)) w (λ j p. changed_stored j.definition idle j p.definition p) a
+done_stored word (Ignore jail cidr add) w h few s a =
+    at_jail_stored jail (alone moves_now (moves_now.ignored cidr add)) w (λ j p. changed_stored (ignored cidr add j.definition) j.idle j (ignored_stored cidr add j.definition s.1 p.definition) p) a
+done_stored word (Config defs) w h few s a = configured_stored defs.jails w.jails s.jails a
+done_stored word (Ended job outcome) w h few s a = a
+done_stored word (CheckFailed job outcome) w h few s a = a
+done_stored word Stop w h few s a = a
 
 -- a step keeps what is stored of jails within its bounds
 pub step_stored : (w : JailsNow) (input : Input) → w.at ≤ last_moment → IsStorableInput input → AllOf IsStorableJail w.jails → AllOf IsStorableJail (jails_step_now w input).jails
@@ -369,5 +402,5 @@ step_stored w input h s a =
     let ended = each_jail moves_now (ended_by_time moves_now now.at) now in
     let ended_is : AreStored ended = all_of-map IsStorableJail IsStorableJail (ended_by_time moves_now now.at) (by_time_stored now.at) w.jails a in
     let after = done moves_now input.word input.what ended in
-    let after_is = done_stored input.word input.what ended at s.what ended_is in
+    let after_is = done_stored input.word input.what ended at (few_taken w t) s.what ended_is in
     rw t (all_of-map IsStorableJail IsStorableJail (moves_now.dropped after.at after.purge) (λ j p. dropped_stored after.at after.purge j p) after.jails after_is))

@@ -18,7 +18,7 @@ use Rattle.f2b_model.specs.Steps.{moves, moves_now, is_spent, at_reading, jails_
 use Rattle.f2b_model.specs.Sound.{AreFitDefs, IsFit, IsNumbered, IsSound, IsSoundView, AreSoundJails}
 use Rattle.f2b_model.specs.Starts.{IsStartsLaw}
 use Rattle.f2b_model.specs.Stands.{StandsFor, IsShown}
-use Rattle.f2b_model.specs.Storable.{IsStorable, IsStorableJail, IsStorableInput}
+use Rattle.f2b_model.specs.Storable.{most_numbers, IsStorable, IsStorableJail, IsStorableInput}
 use Rattle.f2b_model.specs.Told.{jails_told}
 use Rattle.f2b_model.specs.Active.{held}
 use Rattle.f2b_model.specs.LaneSound.{IsBanStep, is_banned_in}
@@ -112,5 +112,8 @@ pub record WholeLaw : Type 0 where
   -- the first job of its lane stays so through each step after which it is pending, that is, until it is settled or voided: so a child of it may run on
   pub stays_first : (n : Now) (input : Input) (id : ℕ) → AreById 0 n.lanes.jobs n.lanes.next_job → is_head_id id n.lanes.jobs ≡ true → is_some (job_by_id id (step_now n input).lanes.jobs) ≡ true
       → is_head_id id (step_now n input).lanes.jobs ≡ true
-  -- what is stored stays within its bounds
-  pub stored : (n : Now) (input : Input) → n.world.at ≤ last_moment → IsStorableInput input → IsStorable n → IsStorable (step_now n input)
+  -- an input that can be stored is fit, and the empty state can be stored
+  pub stored_fits : (input : Input) → IsStorableInput input → IsFit input
+  pub stored_first : IsStorable (now_of empty_state)
+  -- what is stored stays within its bounds, where there is an id for each job that the step makes
+  pub stored : (n : Now) (input : Input) → IsStorableInput input → (step_now n input).lanes.next_job ≤ most_numbers → IsStorable n → IsStorable (step_now n input)

@@ -1,9 +1,10 @@
--- What can be stored: a word for each type of stored values, which says the bounds of a value by itself. How values of a list stand to
--- each other, as rising serials, is told by other words; and the lengths of lists that only memory bounds are left out.
-use Rattle.std.specs.Prelude.{◌≡◌, ℕ, ◌+◌, ◌%◌, ◌^◌, ◌<◌, ◌≤◌, ◌==◌, ◌&&◌, ◌||◌, nat_le, Bool, true, min, List, length, Option, Some, None, ℤ, pos, negsuc}
+-- What can be stored: a word for each type of stored values, which says the bounds of a value, in which order its failures, bans and jobs
+-- stand, and what is distinct. That past bans stand by their ends, that no failure is later than now, and which logs a jail watches, is
+-- told by `IsShown` and `AreWatched`; and the lengths of texts and lists that only memory bounds are left out.
+use Rattle.std.specs.Prelude.{◌≡◌, ℕ, ◌+◌, ◌%◌, ◌^◌, ◌<◌, ◌≤◌, ◌==◌, ◌&&◌, ◌||◌, nat_le, Bool, true, min, List, length, map, sum, bytes_eq, Option, Some, None, ℤ, pos, negsuc}
 use Rattle.std.specs.List.{list_all}
 use Rattle.std.specs.Str.{IsUtf8}
-use Rattle.f2b_base.specs.Addresses.{IsAddr}
+use Rattle.f2b_base.specs.Addresses.{IsAddr, same_addr}
 use Rattle.f2b_base.specs.Limits.{last_moment, head_bytes, kept_line_bytes}
 use Rattle.f2b_base.specs.Masks.{IsCidr}
 use Rattle.f2b_base.specs.declared.addr.Addr.{Addr}
@@ -15,7 +16,7 @@ use Rattle.f2b_base.specs.declared.ban.Until.{Until}
 use Rattle.f2b_base.specs.declared.ban.Until.TheVariants.{Never, At}
 use Rattle.f2b_base.specs.declared.input.Input.{Input}
 use Rattle.f2b_base.specs.declared.input.What.{What}
-use Rattle.f2b_base.specs.declared.input.What.TheVariants.{Read, Config, Ban as BanThese, Attempt, Ignore, Findtime, Bantime, Maxretry}
+use Rattle.f2b_base.specs.declared.input.What.TheVariants.{Tick, Read, Ended, Config, Stop, Ban as BanThese, Unban, Attempt, Ignore, Findtime, Bantime, Maxretry, Idle, CheckFailed}
 use Rattle.f2b_base.specs.declared.jail.ActionDef.{ActionDef}
 use Rattle.f2b_base.specs.declared.jail.DateSpec.{DateSpec}
 use Rattle.f2b_base.specs.declared.jail.DateSpec.TheVariants.{Pattern, AnchoredPattern}
@@ -26,11 +27,18 @@ use Rattle.f2b_base.specs.declared.jail.Place.TheVariants.{Tail, Pos}
 use Rattle.f2b_base.specs.declared.jail.WatchDef.{WatchDef}
 use Rattle.f2b_base.specs.declared.job.Job.{Job}
 use Rattle.f2b_base.specs.declared.job.LaneId.{LaneId}
+use Rattle.f2b_base.specs.declared.job.Outcome.{Outcome}
+use Rattle.f2b_base.specs.declared.job.Outcome.TheVariants.{Status}
 use Rattle.f2b_base.specs.declared.job.UpLane.{UpLane}
 use Rattle.f2b_base.specs.declared.view.WatchView.{WatchView}
 use Rattle.f2b_model.specs.declared.jail_now.JailNow.{JailNow}
+use Rattle.f2b_model.specs.Jobs.{AreById}
+use Rattle.f2b_model.specs.LaneSound.{AreApart}
 use Rattle.f2b_model.specs.Lanes.{Lanes}
-use Rattle.f2b_model.specs.Lists.{AllOf}
+use Rattle.f2b_model.specs.Lists.{AllOf, AreDistinct, IsInOrder}
+use Rattle.f2b_model.specs.Nows.{comes_before}
+use Rattle.f2b_model.specs.Sound.{IsNumbered, IsOnceEach, same_kind}
+use Rattle.f2b_model.specs.Steps.{moves_now, names}
 use Rattle.f2b_model.specs.Whole.{Now}
 
 -- ---- numbers and texts
@@ -42,6 +50,10 @@ longest_span = 3153600000
 -- from one number to another
 abbrev pub IsWithin : ℕ → ℕ → ℕ → Type 0
 IsWithin least most n = (least ≤ n) × (n ≤ most)
+
+-- the most bans that can begin, and the most jobs that can be made
+abbrev pub most_numbers : ℕ
+most_numbers = 2 ^ 63
 
 -- how long something lasts that lasts
 abbrev pub IsSpanOfTime : ℕ → Type 0
@@ -86,6 +98,7 @@ IsStorableUntil Never = Unit {0}
 IsStorableUntil (At end) = end ≤ last_moment
 
 pub record IsStorableBan (b : Ban) : Type 0 where
+  pub serial : b.serial < most_numbers
   pub addr : IsAddr b.addr
   pub begin : b.begin ≤ last_moment
   pub until : IsStorableUntil b.until
@@ -137,6 +150,7 @@ pub record IsStorableDef (d : JailDef) : Type 0 where
   pub name : IsJailName d.name
   pub watches : AllOf (λ (w : WatchDef). IsUtf8 w.path) d.watches
   pub logs : length d.watches ≤ 4096
+  pub paths : AreDistinct bytes_eq (map (λ (w : WatchDef). w.path) d.watches)
   pub zone : IsZone d.zone
   pub date : IsStorableDate d.date
   pub pref : IsStorablePref d.pref
@@ -150,12 +164,23 @@ pub record IsStorableDef (d : JailDef) : Type 0 where
   pub maxmatches : d.maxmatches ≤ 1000
   pub rule : IsStorableRule d.rule
   pub actions : AllOf IsStorableAction d.actions
+  pub kinds : AreDistinct same_kind d.actions
   pub most : length d.actions ≤ 32
+
+-- how many patterns of lines a jail has
+abbrev pub patterns_of : JailDef → ℕ
+patterns_of d = length d.fail + length d.ignore_lines
+
+-- how many all jails have together
+abbrev pub AreFewPatterns : List JailDef → Type 0
+AreFewPatterns ds = sum (map patterns_of ds) ≤ 512
 
 pub record AreStorableDefs (defs : Defs) : Type 0 where
   pub purge : defs.purge ≤ longest_span
   pub jails : AllOf IsStorableDef defs.jails
+  pub names : AreDistinct bytes_eq (map (λ (d : JailDef). d.name) defs.jails)
   pub most : length defs.jails ≤ 256
+  pub patterns : AreFewPatterns defs.jails
 
 -- ---- jails
 
@@ -166,7 +191,9 @@ pub record IsStorableJail (j : JailNow) : Type 0 where
   pub moment : j.moment ≤ last_moment
   pub watches : AllOf IsStorableWatch j.watches
   pub failures : AllOf IsStorableFailure j.failures
+  pub ordered : IsInOrder comes_before j.failures
   pub bans : AllOf IsStorableBan j.bans
+  pub once : IsOnceEach j.bans
   pub past : AllOf IsStorablePast j.past
 
 -- ---- lanes and jobs
@@ -183,36 +210,81 @@ pub record IsStorableUp (u : UpLane) : Type 0 where
   pub jail : IsJailName u.jail
   pub action : IsStorableAction u.action
 
--- a job, but for its text; its tries and its due moment are those of a pending job
 pub record IsStorableJob (j : Job) : Type 0 where
+  pub id : j.id < most_numbers
   pub lane : IsStorableLane j.lane
   pub addr : IsStorableAddr j.addr
+  pub text : IsUtf8 j.text
   pub timeout : IsSpanOfTime j.timeout
+  pub tries : j.tries ≤ 2
+  pub due : j.due ≤ last_moment
 
 pub record AreStorableLanes (l : Lanes (List Job)) : Type 0 where
   pub up : AllOf IsStorableUp l.up
+  pub apart : AreApart l.up
   pub jobs : AllOf IsStorableJob l.jobs
 
 -- ---- all
 
--- all that is stored, but for the texts of jobs
+-- All that is stored. Each step keeps it where the id of the job to come keeps its bound. That is left to code, which asks for an id
+-- before it makes a job: a step makes one for each lane and ban, and only memory bounds how many bans a jail has. The serial of the ban
+-- to come keeps its bound by itself, since an input begins at most one ban for each value in its list.
 pub record IsStorable (n : Now) : Type 0 where
+  pub at : n.world.at ≤ last_moment
+  pub purge : n.world.purge ≤ longest_span
   pub jails : AllOf IsStorableJail n.world.jails
+  pub names : AreDistinct bytes_eq (names moves_now n.world.jails)
+  pub most : length n.world.jails ≤ 256
+  pub patterns : AreFewPatterns (map moves_now.definition n.world.jails)
+  pub numbered : AllOf (λ (j : JailNow). IsNumbered n.world.next_ban j.bans) n.world.jails
+  pub next_ban : n.world.next_ban ≤ most_numbers
   pub lanes : AreStorableLanes n.lanes
+  pub by_id : AreById 0 n.lanes.jobs n.lanes.next_job
+  pub next_job : n.lanes.next_job ≤ most_numbers
 
 -- ---- inputs
 
+-- the most values in the list of one input, each of which may begin a ban: more fit in no memory
+abbrev pub most_at_once : ℕ
+most_at_once = 2 ^ 62
+
+-- a signed number of 64 bits
+abbrev pub IsSigned : ℤ → Type 0
+IsSigned (pos n) = n < 2 ^ 63
+IsSigned (negsuc n) = n < 2 ^ 63
+
+-- how a job or its check ended
+abbrev pub IsStorableOutcome : Outcome → Type 0
+IsStorableOutcome (Status status) = IsSigned status
+IsStorableOutcome _ = Unit {0}
+
+-- the name of a jail, or of none
+abbrev pub IsNameOrNone : Option (List ℕ) → Type 0
+IsNameOrNone None = Unit {0}
+IsNameOrNone (Some name) = IsJailName name
+
+-- addresses, or none
+abbrev pub AreAddrsOrNone : Option (List Addr) → Type 0
+AreAddrsOrNone None = Unit {0}
+AreAddrsOrNone (Some addrs) = AllOf IsAddr addrs
+
 abbrev pub IsStorableWhat : What → Type 0
-IsStorableWhat (Read jail path place fs) = IsStorablePlace place × AllOf IsStorableFailure fs
+IsStorableWhat Tick = Unit {0}
+IsStorableWhat (Read jail path place fs) = IsJailName jail × IsUtf8 path × IsStorablePlace place × AllOf IsStorableFailure fs × (length fs ≤ most_at_once)
+IsStorableWhat (Ended job outcome) = (job < 2 ^ 64) × IsStorableOutcome outcome
 IsStorableWhat (Config defs) = AreStorableDefs defs
-IsStorableWhat (BanThese jail addrs) = AllOf IsAddr addrs
-IsStorableWhat (Attempt jail addr) = IsAddr addr
-IsStorableWhat (Ignore jail cidr add) = IsCidr cidr
-IsStorableWhat (Findtime jail secs) = IsSpanOfTime secs
-IsStorableWhat (Bantime jail secs) = IsBase secs
-IsStorableWhat (Maxretry jail number) = IsWithin 1 100000 number
-IsStorableWhat _ = Unit {0}
+IsStorableWhat Stop = Unit {0}
+IsStorableWhat (BanThese jail addrs) = IsJailName jail × AllOf IsAddr addrs × AreDistinct same_addr addrs × (length addrs ≤ most_at_once)
+IsStorableWhat (Unban jail addrs) = IsNameOrNone jail × AreAddrsOrNone addrs
+IsStorableWhat (Attempt jail addr) = IsJailName jail × IsAddr addr
+IsStorableWhat (Ignore jail cidr add) = IsJailName jail × IsCidr cidr
+IsStorableWhat (Findtime jail secs) = IsJailName jail × IsSpanOfTime secs
+IsStorableWhat (Bantime jail secs) = IsJailName jail × IsBase secs
+IsStorableWhat (Maxretry jail number) = IsJailName jail × IsWithin 1 100000 number
+IsStorableWhat (Idle jail idle) = IsJailName jail
+IsStorableWhat (CheckFailed job outcome) = (job < 2 ^ 64) × IsStorableOutcome outcome
 
 pub record IsStorableInput (input : Input) : Type 0 where
   pub secs : input.secs ≤ last_moment
+  pub word : input.word < 2 ^ 64
   pub what : IsStorableWhat input.what
