@@ -1,4 +1,5 @@
 pub mod EachLemmas
+pub mod FaultLemmas
 mod ItemRows
 pub mod NumberLemmas
 pub mod PartLemmas

@@ -3,6 +3,7 @@ pub mod Addresses
 pub mod Choices
 pub mod Conf
 pub mod Dates
+pub mod Fails
 pub mod Items
 pub mod Jails
 pub mod Laws
@@ -15,5 +16,6 @@ pub mod Sources
 pub mod Table
 pub mod Then
 pub mod Times
+pub mod Told
 pub mod Words
 pub mod Zones

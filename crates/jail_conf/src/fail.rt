@@ -1,6 +1,9 @@
 //! Why there is no value.
 
+use crate::conf_error::ConfKind;
 use f2b_base::NoMemory;
+use ini_interp::InterpError;
+use tag_subst::TagError;
 
 /// Why there is no value.
 #[derive(Debug, Drop, PartialEq, Eq)]
@@ -19,5 +22,36 @@ impl<E> From<NoMemory> for Fail<E> {
 
     fn from(_cause: NoMemory) -> Fail<E> {
         Fail::NoMemory
+    }
+}
+
+impl From<InterpError> for Fail<ConfKind> {
+    ghost use Rattle.std.specs.Prelude.{◌≡◌};
+    ghost use Rattle.jail_conf.specs.Fails.{interp_fail};
+
+    ghost from_gives = { λ cause fail. fail ≡ interp_fail cause };
+
+    fn from(cause: InterpError) -> Fail<ConfKind> {
+        match cause {
+            InterpError::Missing(name) => Fail::Refused(ConfKind::Missing(name)),
+            InterpError::TooDeep(name) => Fail::Refused(ConfKind::TooDeep(name)),
+            InterpError::BadPercent(at) => Fail::Refused(ConfKind::BadPercent(at)),
+            InterpError::NoMemory => Fail::NoMemory,
+        }
+    }
+}
+
+impl From<TagError> for Fail<ConfKind> {
+    ghost use Rattle.std.specs.Prelude.{◌≡◌};
+    ghost use Rattle.jail_conf.specs.Fails.{tag_fail};
+
+    ghost from_gives = { λ cause fail. fail ≡ tag_fail cause };
+
+    fn from(cause: TagError) -> Fail<ConfKind> {
+        match cause {
+            TagError::TooDeep(name) => Fail::Refused(ConfKind::TooDeep(name)),
+            TagError::Interp(fault) => Fail::from(fault),
+            TagError::NoMemory => Fail::NoMemory,
+        }
     }
 }
