@@ -19,6 +19,8 @@ mod reading;
 mod sections;
 mod settings;
 mod source;
+#[cfg(test)]
+mod tests;
 mod words;
 
 pub use conf_error::{ConfError, ConfFail, ConfKind};
