@@ -12,7 +12,7 @@ use Rattle.jail_conf.specs.declared.fail.Fail.TheVariants.{Refused, NoMemory}
 use Rattle.jail_conf.specs.declared.source.Source.{Source}
 use Rattle.jail_conf.specs.Fails.{interp_fail, tag_fail}
 use Rattle.jail_conf.specs.Sources.{with_tags, or_tag_kind, or_told}
-use Rattle.jail_conf.specs.Then.{Gives}
+use Rattle.jail_conf.specs.Then.{◌>>=◌, ◌>>◌, Gives}
 use Rattle.jail_conf.specs.Told.{IsTold}
 
 -- ---- the text of an item
@@ -66,3 +66,21 @@ fault_of_tags defined (tag.Interp (interp.TooDeep name)) is = rw (is (λ same. c
 fault_of_tags defined (tag.Interp (interp.BadPercent at)) is = rw (is (λ same. cc)) refl
 fault_of_tags defined (tag.Interp interp.NoMemory) is = tt
 fault_of_tags defined tag.NoMemory is = tt
+
+-- what fails first fails the whole
+pub first_fails : {A B E : Type 0} (defined : Result A E) (next : A → Result B E) (fail : Fail E) → Gives defined (Err fail) → Gives (defined >>= next) (Err fail)
+first_fails defined next (Refused refusal) is = rw is refl
+first_fails defined next NoMemory is = tt
+
+pub first_fails_alone : {A B E : Type 0} (defined : Result A E) (next : Result B E) (fail : Fail E) → Gives defined (Err fail) → Gives (defined >> next) (Err fail)
+first_fails_alone defined next (Refused refusal) is = rw is refl
+first_fails_alone defined next NoMemory is = tt
+
+-- behind what is there the rest decides
+pub first_is_there : {A B E : Type 0} (defined : Result A E) (next : A → Result B E) (value : A) (result : Result B (Fail E)) →
+    defined ≡ Ok value → Gives (next value) result → Gives (defined >>= next) result
+first_is_there {A = A} {E = E} defined next value result is given = subst (λ (first : Result A E). Gives (first >>= next) result) (sym is) given
+
+pub first_is : {A B E : Type 0} (defined : Result A E) (next : A → Result B E) (value : A) (result : Result B E) →
+    defined ≡ Ok value → next value ≡ result → (defined >>= next) ≡ result
+first_is defined next value result is given = rw is given

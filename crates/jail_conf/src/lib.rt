@@ -12,6 +12,7 @@ mod dates;
 mod each;
 mod fail;
 mod filter;
+mod ignored;
 mod logs;
 mod numbers;
 mod options;
@@ -21,6 +22,7 @@ mod settings;
 mod source;
 #[cfg(test)]
 mod tests;
+mod unsupported;
 mod words;
 
 pub use conf_error::{ConfError, ConfFail, ConfKind};
