@@ -3,5 +3,6 @@ pub mod FaultLemmas
 mod ItemRows
 pub mod NumberLemmas
 pub mod PartLemmas
+pub mod RunLemmas
 pub mod TrimLemmas
 mod TreeRows

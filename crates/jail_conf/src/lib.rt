@@ -22,6 +22,7 @@ mod settings;
 mod source;
 #[cfg(test)]
 mod tests;
+mod times;
 mod unsupported;
 mod words;
 
