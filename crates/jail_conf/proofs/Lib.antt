@@ -1,0 +1,8 @@
+pub mod EachLemmas
+pub mod FaultLemmas
+mod ItemRows
+pub mod NumberLemmas
+pub mod PartLemmas
+pub mod RunLemmas
+pub mod TrimLemmas
+mod TreeRows

@@ -1,0 +1,31 @@
+//! Definitions of jails from the files of a configuration.
+//!
+//! The reading of single items stands here. What a tree of files comes to, and which refusal is told first, is defined in `specs/`.
+//! Nothing here reads a file, or builds a pattern.
+#![tactic(auto)]
+
+mod actions;
+mod addresses;
+mod choices;
+mod conf_error;
+mod dates;
+mod each;
+mod fail;
+mod filter;
+mod ignored;
+mod logs;
+mod numbers;
+mod options;
+mod reading;
+mod sections;
+mod settings;
+mod source;
+#[cfg(test)]
+mod tests;
+mod times;
+mod unsupported;
+mod words;
+
+pub use conf_error::{ConfError, ConfFail, ConfKind};
+pub use fail::Fail;
+pub use settings::Settings;

@@ -1,0 +1,83 @@
+//! Items that are numbers.
+ghost use Rattle.std.specs.Prelude.{◌≡◌, ◌<◌, ◌-◌, ◌^◌, option_and_then};
+ghost use Rattle.jail_conf.specs.Words.{number, if_between};
+
+use crate::conf_error::ConfKind;
+use crate::each::each;
+use crate::fail::Fail;
+use crate::reading::Reading;
+use crate::words::{number, trim, words};
+use f2b_base::Seq;
+use std::alloc::Global;
+
+/// The number of a text, where it is in these bounds.
+fn number_between(least: u64, most: u64, text: &[u8]) -> Option<u64>
+    requires { most < 2 ^ 64 - 1 }
+    ensures { result ≡ option_and_then (if_between least most) (number text.now) }
+{
+    number(text).filter(|&n| least <= n && n <= most)
+}
+
+/// A number in these bounds.
+#[derive(Drop)]
+pub(crate) struct Number {
+    pub least: u64,
+    pub most: u64,
+    ghost below_greatest: { most < 2 ^ 64 - 1 },
+}
+
+impl Reading<u64> for Number {
+    ghost use Rattle.jail_conf.specs.Numbers.{number_between};
+
+    ghost reading = { λ bounds. number_between bounds.least bounds.most };
+
+    fn read(&self, _alloc: Global, text: &str) -> Result<u64, Fail<ConfKind>> {
+        match number_between(self.least, self.most, trim(text).as_bytes()) {
+            Some(number) => Ok(number),
+            None => Err(Fail::Refused(ConfKind::BadNumber)),
+        }
+    }
+}
+
+/// A number that is 1, and nothing comes of it.
+#[derive(Drop)]
+pub(crate) struct OnlyOne;
+
+impl Reading<()> for OnlyOne {
+    ghost use Rattle.jail_conf.specs.Numbers.{only_one};
+
+    ghost reading = { λ _. only_one };
+
+    fn read(&self, _alloc: Global, text: &str) -> Result<(), Fail<ConfKind>> {
+        if number_between(1, 1, trim(text).as_bytes()).is_some() {
+            Ok(())
+        } else {
+            Err(Fail::Refused(ConfKind::Unsupported))
+        }
+    }
+}
+
+/// How bans grow may be said by at most so many numbers.
+const MOST_MULTIPLIERS: usize = 64;
+
+/// Numbers of 1 to a million, divided by blanks and lines.
+#[derive(Drop)]
+pub(crate) struct Multipliers;
+
+impl Reading<Seq<u64>> for Multipliers {
+    ghost use Rattle.jail_conf.specs.Numbers.{multipliers};
+
+    ghost reading = { λ _. multipliers };
+
+    fn read(&self, alloc: Global, text: &str) -> Result<Seq<u64>, Fail<ConfKind>> {
+        let words = words(alloc, text, " \t\n")?;
+        if words.len() > MOST_MULTIPLIERS {
+            return Err(Fail::Refused(ConfKind::BadNumber));
+        }
+        let number = Number {
+            least: 1,
+            most: 1_000_000,
+        };
+        each(alloc, &number, words.as_slice())
+    }
+}
