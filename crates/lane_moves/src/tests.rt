@@ -136,7 +136,12 @@ fn shown(alloc: Global, actions: &Actions) -> Result<String, NoMemory> {
 }
 
 /// The jobs are these, one a line.
-pub(crate) fn expect_jobs(rt: &impl Abort, alloc: Global, actions: &Actions, want: &str) -> Result<(), Fail> {
+pub(crate) fn expect_jobs(
+    rt: &impl Abort,
+    alloc: Global,
+    actions: &Actions,
+    want: &str,
+) -> Result<(), Fail> {
     let jobs = shown(alloc, actions)?;
     assert_eq!(rt; jobs.as_str(), want);
     Ok(())
@@ -175,7 +180,11 @@ pub(crate) fn expect_said(
 }
 
 /// The lanes of the jail, which come up with these bans.
-pub(crate) fn lanes_up(alloc: Global, families: &[Family], held: &[JailBans]) -> Result<Actions, NoMemory> {
+pub(crate) fn lanes_up(
+    alloc: Global,
+    families: &[Family],
+    held: &[JailBans],
+) -> Result<Actions, NoMemory> {
     let defs = defs_of(alloc, families, "old")?;
     let mut actions = Actions::new(alloc);
     actions.missing_up(held, &defs, 900)?;

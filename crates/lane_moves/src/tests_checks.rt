@@ -20,9 +20,7 @@ fn a_failed_check_starts_its_lane_anew(rt: HostRuntime) -> Result<(), Fail> {
         "2 Ban 0 old ban 2001:db8::1 inet6 3 1200 -1 0:a line\n",
     )?;
 
-    let check = actions
-        .check_of(2)
-        .map(|lane| lane.action.check.as_str());
+    let check = actions.check_of(2).map(|lane| lane.action.check.as_str());
     assert_eq!(rt; check, Some("test -e /x"));
     held[0].bans.push(ENDLESS)?;
     actions.check_failed(&mut said, &held, 2, Outcome::Status(1), 1003)?;

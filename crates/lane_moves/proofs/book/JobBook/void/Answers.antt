@@ -1,5 +1,4 @@
 -- Jobs that are voided add no id.
-use Rattle.std.proofs.Common.{◌≡◌}
 use Rattle.f2b_model.specs.Checks.{checked_lane}
 use Rattle.action_queue.specs.Checks.{voided_in}
 use Rattle.lane_moves.proofs.CheckLemmas.{below_void}
