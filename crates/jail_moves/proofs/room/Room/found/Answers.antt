@@ -22,16 +22,17 @@ returns-in_ok-begin-in-Some-clause-jail c =
 pub returns-in_ok-begin-in-Some-clause-told : goal.returns-in_ok-begin-in-Some-clause-told
 returns-in_ok-begin-in-Some-clause-told c =
     let counts : Happening = Counts c.args.definition.now.name c.args.failure.now.addr in
-    let begins : Happening = Begins c.args.definition.now.name (new_ban c.args.definition.now c.count.new.self.bans.past c.args.at c.args.word c.args.serial c.args.failure.now.addr c.in-Some.near) in
+    let began : Happening = begins (matches_of c.args.definition.now.maxmatches c.in-Some.near) c.args.definition.now.name
+    (new_ban c.args.definition.now c.count.new.self.bans.past c.args.at c.args.word c.args.serial c.args.failure.now.addr (length c.in-Some.near)) in
     let pushed : c.push.new.self ≡ c.args.told.now ++ counts ∷ [] = search rules in
     c.in_ok-begin-in-Some.ensures.told
-    ∙ ap (λ (r : List Happening). r ++ begins ∷ []) pushed
-    ∙ append_assoc c.args.told.now (counts ∷ []) (begins ∷ [])
+    ∙ ap (λ (r : List Happening). r ++ began ∷ []) pushed
+    ∙ append_assoc c.args.told.now (counts ∷ []) (began ∷ [])
     ∙ ap (λ (r : List Happening). c.args.told.now ++ r) (sym (found_full c.args.at c.args.word c.args.serial c.in-Some.near c.args.failure.now c.args.definition.now c.args.self.now c.count.new.self
     c.requires.kept (does_count c) (counted_of c)).1)
 
 pub returns-in_ok-begin-in-Some-clause-kept : goal.returns-in_ok-begin-in-Some-clause-kept
 returns-in_ok-begin-in-Some-clause-kept c =
     subst (IsKept c.args.at (c.args.serial + 1) c.args.definition.now) (sym c.in_ok-begin-in-Some.ensures.room)
-    (with_ban_kept c.args.at c.args.word c.args.serial c.args.failure.now.addr c.in-Some.near c.args.definition.now c.count.new.self
+    (with_ban_kept c.args.at c.args.word c.args.serial c.args.failure.now.addr (length c.in-Some.near) c.args.definition.now c.count.new.self
     (counted_kept c.args.at c.args.serial c.args.failure.now c.args.definition.now c.args.self.now c.count.new.self (Some c.in-Some.near) c.requires.kept (counted_of c)))
