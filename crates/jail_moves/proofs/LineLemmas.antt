@@ -39,12 +39,14 @@ last_more most xs ys h =
 last_none : {A : Type 0} (xs : List A) → last_ones 0 xs ≡ []
 last_none xs = let all : length xs - 0 ≡ length xs = omega arith in ap (λ k. drop k xs) all ∙ drop-length xs
 
+-- two lists mapped
 map_both : {A B : Type 0} (f : A → B) (xs ys : List A) → map f (xs ++ ys) ≡ map f xs ++ map f ys
 map_both f [] ys = refl
 map_both f (x ∷ xs) ys = ap (λ r. f x ∷ r) (map_both f xs ys)
 
 -- ---- lines of failures
 
+-- those of two lists of failures
 lines_both : (fs gs : List Failure) → lines_of (fs ++ gs) ≡ lines_of fs ++ lines_of gs
 lines_both [] gs = refl
 lines_both (f ∷ fs) gs =
@@ -68,6 +70,7 @@ abbrev pub weight : List (List ℕ) → ℕ
 weight [] = 0
 weight (line ∷ lines) = length line + 3 + weight lines
 
+-- those of two lists of lines
 weight_both : (xs ys : List (List ℕ)) → weight (xs ++ ys) ≡ weight xs + weight ys
 weight_both [] ys = omega arith
 weight_both (x ∷ xs) ys = let rest = weight_both xs ys in omega arith
@@ -82,6 +85,7 @@ joined_weight line (next ∷ lines) =
     let three : length (codes " / ") ≡ 3 = refl in
     omega arith
 
+-- a test that fails
 not_le : (a b : ℕ) → b < a → nat_le a b ≡ false
 not_le a b h = by_test (nat_le a b) _ (λ e. absurd (let le = le_true a b e in omega arith)) (λ e. e)
 
@@ -188,6 +192,11 @@ all_shown most fs left is =
     let nothing : last_ones (most - length (lines_of fs)) [] ≡ [] = drop_nothing _ [] refl in
     chosen most [] (lines_of fs) (omega arith) (omega arith) (ap (λ (ls : List (List ℕ)). fitting (map escaped (ls ++ lines_of fs))) nothing)
 
+-- no failures show nothing
+pub no_lines : (most : ℕ) → matches_of most [] ≡ []
+unfolding matches_of
+no_lines most = ap (λ (ls : List (List ℕ)). joined (fitting (map escaped ls))) (drop_nothing (0 - most) [] refl)
+
 -- where the last in front does not fit, those behind it are shown
 cut_at : (most : ℕ) (front behind : List (List ℕ)) (line : List ℕ) (left : Left) → left.lines + length behind ≡ most → left.bytes + weight (map escaped behind) ≡ 8195
     → left_after left line ≡ None
@@ -214,6 +223,7 @@ cut_at most front behind line left lines bytes none =
         ∙ ap fitting (map_both escaped rest (line ∷ behind))
         ∙ heavy_fit (map escaped rest) (escaped line) (map escaped behind) (omega arith)
 
+-- so it is with failures
 pub some_shown : (most place : ℕ) (fs : List Failure) (f : Failure) (left : Left) → IsLeft most fs left (place + 1) → place < length fs → f ≡ get_or fs place f → 0 < length f.line
     → left_after left f.line ≡ None → joined (map escaped (lines_of (drop (place + 1) fs))) ≡ matches_of most fs
 unfolding matches_of
@@ -242,6 +252,7 @@ pub none_joined : (text : List ℕ) (fs : List Failure) → text ≡ [] → fs �
 none_joined text fs e none =
     subst (λ (gs : List Failure). IsJoined text gs) (sym none) (record { lines = e; none = λ h. refl })
 
+-- joined, a last line stands behind the others
 joined_last : (line : List ℕ) (lines : List (List ℕ)) (last : List ℕ) → joined ((line ∷ lines) ++ last ∷ []) ≡ (joined (line ∷ lines) ++ codes " / ") ++ last
 joined_last line [] last = sym (append_assoc line (codes " / ") last)
 joined_last line (next ∷ lines) last =

@@ -245,8 +245,15 @@ impl Room {
         match full {
             None => Ok(serial),
             Some(near) => {
-                let near = near.as_slice();
-                self.begin(definition, told, at, word, serial, failure.addr, near)?;
+                self.begin(
+                    definition,
+                    told,
+                    at,
+                    word,
+                    serial,
+                    failure.addr,
+                    near.as_slice(),
+                )?;
                 Ok(serial + 1)
             }
         }
