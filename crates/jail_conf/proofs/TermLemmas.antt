@@ -173,3 +173,30 @@ term-no_unit text [] behind after word rest count whole all ends counted same bl
 term-no_unit text (byte ∷ digits) behind after word rest count whole all ends counted same blank cut letters stops unit =
     term-is text (byte ∷ digits) behind after word rest whole all ends (omega arith) same blank cut letters stops
     ∙ ap (λ seconds. added (byte ∷ digits) seconds (sum_of_terms (pieces rest))) (sym unit)
+
+-- ---- one term after the other
+
+-- before the first
+pub sum-start : (text left : List ℕ) → pieces left ≡ pieces text → saturated (plus 0 (sum_of_terms (pieces left))) ≡ saturated (sum_of_terms (pieces text))
+sum-start text left same = ap saturated (plus-none (sum_of_terms (pieces left))) ∙ ap (λ runs. saturated (sum_of_terms runs)) same
+
+-- one more
+pub sum-more : (text left rest next : List ℕ) (seconds term kept : ℕ) → saturated (plus seconds (sum_of_terms (pieces left))) ≡ saturated (sum_of_terms (pieces text)) →
+    saturated (sum_of_terms (pieces left)) ≡ saturated (plus term (sum_of_terms (pieces rest))) → pieces next ≡ pieces rest → kept ≡ min (seconds + term) (2 ^ 64 - 1) →
+    saturated (plus kept (sum_of_terms (pieces next))) ≡ saturated (sum_of_terms (pieces text))
+sum-more text left rest next seconds term kept before adds same is =
+    ap (λ runs. saturated (plus kept (sum_of_terms runs))) same ∙ (plus-plus kept seconds term (sum_of_terms (pieces rest)) is
+    ∙ (sym (plus-same seconds (sum_of_terms (pieces left)) (plus term (sum_of_terms (pieces rest))) adds) ∙ before))
+
+-- behind a text that has no sum
+pub sum-none : (text left : List ℕ) (seconds : ℕ) → saturated (plus seconds (sum_of_terms (pieces left))) ≡ saturated (sum_of_terms (pieces text)) →
+    sum_of_terms (pieces left) ≡ None → None ≡ saturated (sum_of_terms (pieces text))
+sum-none text left seconds before none = ap (λ sum. saturated (plus seconds sum)) (sym none) ∙ before
+
+-- behind the last
+pub sum-end : (text left : List ℕ) (seconds : ℕ) → saturated (plus seconds (sum_of_terms (pieces left))) ≡ saturated (sum_of_terms (pieces text)) →
+    length left ≡ 0 → seconds < 2 ^ 64 → Some seconds ≡ saturated (sum_of_terms (pieces text))
+sum-end text [] seconds before empty fits =
+    let kept : seconds ≡ min (seconds + 0) (2 ^ 64 - 1) = omega (arith, fits) in
+    ap Some kept ∙ before
+sum-end text (byte ∷ left) seconds before empty fits = absurd (omega (arith, empty))

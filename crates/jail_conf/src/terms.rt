@@ -24,3 +24,19 @@ fn first_term(text: &[u8]) -> Option<(u64, &[u8])>
         None => None,
     }
 }
+
+/// The sum of the terms.
+fn sum_of_terms(text: &[u8]) -> Option<u64>
+    ensures { result ≡ saturated (sum_of_terms (pieces text.now)) }
+{
+    let mut seconds: u64 = 0;
+    let mut left = behind_blanks(text);
+    'terms: while !left.is_empty() {
+        let Some((term, rest)) = first_term(left) else {
+            return None;
+        };
+        seconds = seconds.saturating_add(term);
+        left = behind_blanks(rest);
+    }
+    Some(seconds)
+}
