@@ -1,6 +1,4 @@
-use Rattle.std.proofs.Common.{◌≡◌, ◌+◌, ◌-◌, ◌<◌, ◌≤◌, drop, map, length, get_or, None, sym, ◌∙◌, ap, subst, arith, rules}
-use Rattle.f2b_model.specs.Escapes.{escaped}
-use Rattle.f2b_model.specs.Matches.{joined, lines_of}
+use Rattle.std.proofs.Common.{◌≡◌, ◌+◌, ◌-◌, ◌<◌, length, None, sym, subst, arith, rules}
 use Rattle.jail_moves.specs.Shown.{left_after}
 use Rattle.jail_moves.proofs.LineLemmas.{IsLeft, all_shown, some_shown}
 use Rattle.jail_moves.proofs.matches.first_shown.Goals as goal

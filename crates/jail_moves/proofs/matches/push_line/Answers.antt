@@ -1,4 +1,4 @@
-use Rattle.std.proofs.Common.{◌≡◌, ◌<◌, ◌++◌, length, ◌∙◌, ap, arith, length-append}
+use Rattle.std.proofs.Common.{◌≡◌, ◌++◌, length, ◌∙◌, ap, arith, length-append}
 use Rattle.f2b_model.specs.Escapes.{escaped}
 use Rattle.jail_moves.proofs.LineLemmas.{some_escaped}
 use Rattle.jail_moves.proofs.matches.push_line.Goals as goal
