@@ -7,6 +7,9 @@ use Rattle.std.proofs.lemmas.Option.{same_Some}
 use Rattle.f2b_base.specs.declared.job.Job.{Job}
 use Rattle.f2b_base.specs.declared.job.Settled.{Settled}
 use Rattle.f2b_base.specs.declared.job.Settled.TheVariants.{Done, GivenUp, Again}
+use Rattle.f2b_base.specs.declared.job.LaneId.{LaneId}
+use Rattle.f2b_model.specs.Checks.{is_stop, left_by_check}
+use Rattle.f2b_model.specs.Families.{same_lane}
 use Rattle.f2b_model.specs.Jobs.{Ending, settled_as, after_try, after_ending, settle_in, AllIdsBelow}
 
 pub below_more : (next more : ℕ) (jobs : List Job) → next ≤ more → AllIdsBelow next jobs → AllIdsBelow more jobs
@@ -38,3 +41,11 @@ below_one next id (Some job) jobs same less below = let at : job.id ≡ id = sam
 pub below_settle : (next : ℕ) (e : Ending) (jobs : List Job) → AllIdsBelow next jobs → AllIdsBelow next (settle_in e jobs)
 below_settle next e [] below = tt
 below_settle next e (job ∷ jobs) below = below_one next job.id (after_ending e job) (settle_in e jobs) (ending_id e job) below.0 (below_settle next e jobs below.1)
+
+-- so does a check that failed
+pub below_left : (next : ℕ) (lane : LaneId) (jobs : List Job) → AllIdsBelow next jobs → AllIdsBelow next (left_by_check lane jobs)
+below_left next lane [] below = tt
+below_left next lane (job ∷ jobs) below = elim (cases_Bool (same_lane job.lane lane)) [
+  | inl h ↦ elim (cases_Bool (is_stop job.kind)) [ inl k ↦ rw (h, k) below | inr k ↦ rw (h, k) (below_left next lane jobs below.1) ]
+  | inr h ↦ rw h (below.0, below_left next lane jobs below.1)
+]

@@ -14,9 +14,9 @@ use Rattle.f2b_model.specs.LaneSound.{AtMostOne}
 use Rattle.f2b_model.proofs.FullLemmas.{lt_true, same_test}
 use Rattle.f2b_model.proofs.SameLemmas.{same_lane-true, same_lane-same}
 use Rattle.action_queue.specs.declared.queue.Queue.{Queue}
-use Rattle.action_queue.specs.Due.{is_number, is_front, is_due, is_ready_id, IsLeast, IsLeastDue, is_lesser, better_of}
+use Rattle.action_queue.specs.Due.{is_front, is_due, is_ready_id, IsLeast, IsLeastDue, is_lesser, better_of}
 use Rattle.action_queue.specs.Index.{jobs_of, job_at, IsKeyed, IsIndex}
-use Rattle.action_queue.specs.Queues.{is_queue, ids_of}
+use Rattle.action_queue.specs.Queues.{is_number, is_queue, ids_of}
 use Rattle.action_queue.proofs.IndexLemmas.{ids_head, some_id}
 use Rattle.action_queue.proofs.KeyLemmas.{at_same, at_apart, found_at}
 use Rattle.action_queue.proofs.QueueLemmas.{no_ids}

@@ -4,3 +4,4 @@ pub mod IndexLemmas
 pub mod EndLemmas
 pub mod DueLemmas
 pub mod BelowLemmas
+pub mod CheckLemmas

@@ -4,11 +4,7 @@ use Rattle.std.specs.List.{list_any}
 use Rattle.f2b_base.specs.declared.job.Job.{Job}
 use Rattle.action_queue.specs.declared.queue.Queue.{Queue}
 use Rattle.action_queue.specs.Index.{job_at}
-
--- the id is there, and this one
-abbrev pub is_number : ℕ → Option ℕ → Bool
-is_number id None = false
-is_number id (Some number) = number == id
+use Rattle.action_queue.specs.Queues.{is_number}
 
 -- the queue begins with the id
 abbrev pub is_front : ℕ → Queue → Bool

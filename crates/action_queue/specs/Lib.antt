@@ -2,3 +2,4 @@ pub mod Queues
 pub mod Index
 pub mod Tries
 pub mod Due
+pub mod Checks

@@ -19,11 +19,11 @@ pub(crate) fn enter(
     queues: &mut Vec<Queue>,
     id: u64,
 ) -> Result<(), NoMemory>
-    ensures ok { OnOk result (ForSome (job_at id jobs.now.entries) (λ job. Added job.lane id queues.old.items queues.new.items)) }
+    ensures ok { OnOk result (ForSome (job_at id jobs.now.entries) (λ job. Added job.lane id job.kind queues.old.items queues.new.items)) }
     ensures err { OnErr result (SameIds queues.old.items queues.new.items) }
 {
     match jobs.get(&id) {
-        Some(job) => add(alloc, queues, &job.lane, id),
+        Some(job) => add(alloc, queues, &job.lane, id, job.kind),
         None => Ok(()),
     }
 }
@@ -41,8 +41,9 @@ pub(crate) fn apply(
 {
     match settled {
         Settled::Again(due) => put_off(jobs, id, due),
-        Settled::Done => take_out(jobs, queues, id),
-        Settled::GivenUp => take_out(jobs, queues, id),
+        Settled::Done | Settled::GivenUp => {
+            let _ = take_out(jobs, queues, id);
+        }
     }
 }
 
@@ -61,12 +62,17 @@ fn put_off(jobs: &mut BTreeMap<u64, Job>, id: u64, due: u64)
 }
 
 /// Takes a job out, and the first id of its lane.
-fn take_out(jobs: &mut BTreeMap<u64, Job>, queues: &mut Vec<Queue>, id: u64)
+pub(crate) fn take_out(
+    jobs: &mut BTreeMap<u64, Job>,
+    queues: &mut Vec<Queue>,
+    id: u64,
+) -> Option<Job>
+    ensures job { result ≡ job_at id jobs.old.entries }
     ensures jobs { jobs.new.entries ≡ with_job id None jobs.old.entries }
     ensures queues { ForSome (job_at id jobs.old.entries) (λ job. AreQueues queues.old.items → Dropped job.lane queues.old.items queues.new.items) }
 {
     leave(jobs, queues, id);
-    let _ = jobs.remove(&id);
+    jobs.remove(&id)
 }
 
 /// Takes the first id of a job's lane out of its queue.

@@ -3,13 +3,15 @@
 ghost use Rattle.std.specs.Prelude.{◌≡◌, ◌≤◌, ◌↔◌, true, [], ◌∷◌, ◌++◌, length, IsTrue, OnOk, OnErr, IfOk, IfSome};
 ghost use Rattle.std.specs.Option.{option_copied};
 ghost use Rattle.f2b_base.specs.Limits.{last_moment};
+ghost use Rattle.f2b_model.specs.Checks.{is_closing, checked_lane};
 ghost use Rattle.f2b_model.specs.Jobs.{head, job_by_id, is_head_id, next_due, AllIdsBelow, settled_as, settle_in};
-ghost use Rattle.action_queue.specs.Due.{is_number};
+ghost use Rattle.action_queue.specs.Checks.{left_in, voided_in, end_in, IsVoided};
 ghost use Rattle.action_queue.specs.Tries.{ending_of};
 
+use crate::checks::{CheckEnd, checked_lane, fail, is_checked, is_closing};
 use crate::due::least_due;
 use crate::entries::{apply, enter};
-use crate::queue::{Queue, first_id};
+use crate::queue::{Queue, first_id, is_number};
 use crate::tries::settled_as;
 use f2b_base::{Job, LaneId, NoMemory, Outcome, Plain, Seq, Settled};
 use std::alloc::Global;
@@ -128,6 +130,44 @@ impl Lanes {
         }
     }
 
+    /// Whether a Stop of the lane waits.
+    pub fn closing(&self, lane: &LaneId) -> bool
+        ensures { result ≡ is_closing lane.now self.now }
+    {
+        is_closing(&self.queues, lane)
+    }
+
+    /// The lane of the job of that id, where a check is asked for before a try of it: the job is a Ban or an Unban and the first of
+    /// its lane.
+    pub fn checked(&self, id: u64) -> Option<&LaneId>
+        ensures { option_copied result ≡ checked_lane id self.now }
+    {
+        match self.jobs.get(&id) {
+            Some(job) => checked_lane(job, &self.queues, id),
+            None => None,
+        }
+    }
+
+    /// Takes the end of a check that failed before a try of the job of that id, and says what it did to the job's lane: the job and
+    /// those behind it are gone, up to the lane's first Stop. Where no lane is `checked` for that job nothing changes. It is no try.
+    /// Takes no memory, and time by how many jobs it voids, for each as an ending.
+    pub fn check_failed(&mut self, id: u64) -> CheckEnd
+        ensures jobs { self.new ≡ left_in (checked_lane id self.old) self.old }
+        ensures answer { result ≡ end_in (checked_lane id self.old) self.old }
+
+        // The same by endings: each of those jobs is voided in turn.
+        ensures voided { IsVoided (voided_in (checked_lane id self.old) self.old) self.old self.new }
+    {
+        match self.jobs.get(&id) {
+            Some(job) => if is_checked(job, &self.queues, id) {
+                fail(&mut self.jobs, &mut self.queues, id)
+            } else {
+                CheckEnd::Unchecked
+            },
+            None => CheckEnd::Unchecked,
+        }
+    }
+
     /// The job to start next at `now`, in seconds since 1970: that of the least id among the first jobs of lanes that are due and
     /// whose ids are not among those that run. Takes no memory.
     pub fn next_due(&self, now: u64, running: &[u64]) -> Option<&Job>
@@ -148,15 +188,5 @@ impl Lanes {
             jobs.push(job.copy()?)?;
         }
         Ok(jobs)
-    }
-}
-
-/// Whether the id is there, and this one.
-fn is_number(number: Option<u64>, id: u64) -> bool
-    ensures { result ≡ is_number id number }
-{
-    match number {
-        Some(number) => number == id,
-        None => false,
     }
 }

@@ -4,19 +4,28 @@
 //! to start next, and says how a try of it ended: the job is then done, given up after its third failed try, or due again 2 or 4
 //! seconds later. The job of a lane that comes next waits until the one before it is settled, and lanes do not wait for each other.
 //!
+//! Before a try of a Ban or an Unban the caller may run a check of its lane. Where that fails, the jobs of the lane are gone up to
+//! its first Stop, and the caller restarts the lane unless a Stop waits.
+//!
 //! A push, an ending and a search of one job take time by the logarithm of the number of jobs and by the number of lanes that
-//! wait; so does the choice of the next job, but for the ids that run. Nothing here knows a clock, a command or a process, or why
+//! wait; so does the choice of the next job, but for the ids that run, and a failed check for each job that goes. Whether a lane is
+//! about to stop takes time by the number of lanes that wait alone. Nothing here knows a clock, a command or a process, or why
 //! a job was made: the caller says what time it is and what runs.
 #![tactic(auto)]
 
+mod checks;
 mod due;
 mod entries;
+mod kinds;
 mod lanes;
 mod queue;
 #[cfg(test)]
 mod tests;
 #[cfg(test)]
+mod tests_checks;
+#[cfg(test)]
 mod tests_many;
 mod tries;
 
+pub use checks::CheckEnd;
 pub use lanes::Lanes;

@@ -52,7 +52,7 @@ later_due : (at moment : ℕ) (until : Until) → is_due_by at until ≡ true �
 later_due at moment Never h n = absurd (let k : false ≡ true = h in cc)
 later_due at moment (At end) h n = n
 
-all_placed : {A : Type 0} (P : A → Type 0) (less : A → A → Bool) (x : A) (xs : List A) → P x → AllOf P xs → AllOf P (placed less x xs)
+pub all_placed : {A : Type 0} (P : A → Type 0) (less : A → A → Bool) (x : A) (xs : List A) → P x → AllOf P xs → AllOf P (placed less x xs)
 all_placed P less x [] h a = (h, tt)
 all_placed P less x (y ∷ ys) h a = by_test (less x y) _ (λ e. rw e (h, a)) (λ e. rw e (a.0, all_placed P less x ys h a.1))
 

@@ -44,9 +44,9 @@ active_at held jail ban j a b is here =
     rw (← one, ← two) is
 
 -- a ban begins where its address is not banned
-pub follows_begin : (jail : List ℕ) (ban : Banned) (before after : List Held) → is_active before jail ban.addr ≡ false
-    → ((j : List ℕ) (a : Addr) → is_active after j a ≡ (is_active before j a || is_held_of j a (record { jail = jail; ban = ban }))) → Follows (Begins jail ban ∷ []) before after
-follows_begin jail ban before after free now = record {
+pub follows_begin : (jail : List ℕ) (ban : Banned) (matches : List ℕ) (before after : List Held) → is_active before jail ban.addr ≡ false
+    → ((j : List ℕ) (a : Addr) → is_active after j a ≡ (is_active before j a || is_held_of j a (record { jail = jail; ban = ban }))) → Follows (Begins jail ban matches ∷ []) before after
+follows_begin jail ban matches before after free now = record {
   each = λ j a. elim (cases_Bool (is_held_of j a (record { jail = jail; ban = ban }))) [
     | inl h ↦ let was : is_active before j a ≡ false = active_at before jail ban j a false free h in rw (now j a, h, was) refl
     | inr h ↦ rw (now j a, h) (ap (λ b. Some b) (or_false (is_active before j a)))

@@ -2,7 +2,8 @@
 use Rattle.std.proofs.Common.{ℕ, ◌≡◌, true, false, Option, Some, None, List, [], ◌∷◌, ◌++◌, refl, pos, negsuc}
 use Rattle.std.specs.Fmt.{digits}
 use Rattle.std.specs.Net.Text.{hex_groups_text, hex}
-use Rattle.std.specs.Prelude.{codes}
+use Rattle.std.specs.Prelude.{codes, option_map}
+use Rattle.std.specs.Str.{chars}
 use Rattle.f2b_base.specs.declared.addr.Addr.{Addr}
 use Rattle.f2b_base.specs.declared.addr.Addr.TheVariants.{V4, V6}
 use Rattle.f2b_base.specs.declared.addr.Cidr.{Cidr}
@@ -15,7 +16,7 @@ use Rattle.f2b_base.specs.declared.ban.Past.{Past}
 use Rattle.f2b_base.specs.declared.ban.Until.TheVariants.{Never, At}
 use Rattle.f2b_base.specs.declared.input.Input.{Input}
 use Rattle.f2b_base.specs.declared.input.What.{What}
-use Rattle.f2b_base.specs.declared.input.What.TheVariants.{Tick, Read, Ended, Config, Stop as StopAll, Ban as BanThese, Unban as UnbanThese, Attempt, Ignore, Findtime, Bantime, Idle}
+use Rattle.f2b_base.specs.declared.input.What.TheVariants.{Tick, Read, Ended, Config, Stop as StopAll, Ban as BanThese, Unban as UnbanThese, Attempt, Ignore, Findtime, Bantime, Idle, CheckFailed}
 use Rattle.f2b_base.specs.declared.jail.ActionDef.{ActionDef}
 use Rattle.f2b_base.specs.declared.jail.DateSpec.TheVariants.{Default}
 use Rattle.f2b_base.specs.declared.jail.JailDef.{JailDef}
@@ -23,17 +24,22 @@ use Rattle.f2b_base.specs.declared.jail.Place.{Place}
 use Rattle.f2b_base.specs.declared.jail.Place.TheVariants.{Tail, Pos}
 use Rattle.f2b_base.specs.declared.job.Job.{Job}
 use Rattle.f2b_base.specs.declared.job.JobKind.{JobKind}
-use Rattle.f2b_base.specs.declared.job.JobKind.TheVariants.{Start, Stop, Ban, Unban}
+use Rattle.f2b_base.specs.declared.job.JobKind.TheVariants.{Start, Stop, Ban, Unban, Reban}
 use Rattle.f2b_base.specs.declared.job.Outcome.{Outcome}
 use Rattle.f2b_base.specs.declared.job.Outcome.TheVariants.{Status, NotStarted, TimedOut}
 use Rattle.f2b_base.specs.declared.job.UpLane.{UpLane}
+use Rattle.f2b_base.specs.declared.job.LaneId.{LaneId}
 use Rattle.f2b_base.specs.declared.view.JailView.{JailView}
 use Rattle.f2b_base.specs.declared.view.View.{View}
+use Rattle.f2b_model.specs.declared.lane_happening.LaneHappening.TheVariants.{TryFails, CheckFails, Restarts}
 use Rattle.f2b_base.specs.Addresses.{printed, octets, groups}
 use Rattle.f2b_base.specs.Span.{growth, plain_span, span_of}
+use Rattle.f2b_model.specs.Checks.{check_of}
+use Rattle.f2b_model.specs.Jobs.{pending}
+use Rattle.f2b_model.specs.Matches.{matches_of}
 use Rattle.f2b_model.specs.Render.{rendered}
 use Rattle.f2b_model.specs.Views.{view_of}
-use Rattle.f2b_model.specs.Whole.{steps, empty_state}
+use Rattle.f2b_model.specs.Whole.{steps, told, empty_state}
 
 -- ---- a server with one jail
 
@@ -455,3 +461,177 @@ by_family : after (configures 1000 (both_families ∷ []) ∷ bans 1001 (seven �
     }
 unfolding plain_span span_of rendered printed octets groups hex_groups_text hex digits
 by_family = refl
+
+-- ---- checks
+
+-- an action that looks before each ban and unban whether a file is there
+abbrev looks : ActionDef
+looks = record firewall { check = codes "test -e /x" }
+
+abbrev careful : JailDef
+careful = jail (looks ∷ [])
+
+abbrev check_fails : ℕ → ℕ → Input
+check_fails secs id = sends secs (CheckFailed id (Status (pos 1)))
+
+abbrev lane : LaneId
+lane = record { jail = name; action = codes "fw"; family = Both }
+
+-- the server of the careful jail with its lane up, and these jobs pending
+abbrev cares : ℕ → JailView → List Job → ℕ → ℕ → View
+cares at j jobs next_job next_ban = record (shows at careful j) { up = up looks ∷ []; jobs = jobs; next_job = next_job; next_ban = next_ban }
+
+abbrev both_banned : JailView
+both_banned = record quiet { total_banned = 2; bans = ban 0 seven 1001 1601 0 ∷ ban 1 eight 1003 1603 0 ∷ [] }
+
+-- the lane is up and 192.0.2.7 banned in it; then 192.0.2.8 is banned, and that job is checked
+abbrev second_ban : List Input
+second_ban = configures 1000 (careful ∷ []) ∷ ends 1000 0 (Status (pos 0)) ∷ bans 1001 (seven ∷ []) ∷ ends 1002 1 (Status (pos 0)) ∷ bans 1003 (eight ∷ []) ∷ []
+
+abbrev check_before : ℕ → List Input → Option (List ℕ)
+check_before id inputs =
+    option_map (λ (l : UpLane). l.action.check) (check_of (steps empty_state inputs).lanes.up id (pending (steps empty_state inputs).lanes.jobs))
+
+is_checked : check_before 2 second_ban ≡ Some (codes "test -e /x")
+unfolding plain_span span_of rendered printed octets digits
+is_checked = refl
+
+-- 31. a check that fails voids the job; the lane stops and starts, and bans anew whoever is banned
+restarts : after (second_ban ++ check_fails 1004 2 ∷ [])
+    ≡ cares 1004 both_banned
+    (job 3 Both Stop None (codes "down") 1004
+    ∷ job 4 Both Start None (codes "up") 1004
+    ∷ job 5 Both Reban (Some seven) (codes "add 192.0.2.7") 1004
+    ∷ job 6 Both Reban (Some eight) (codes "add 192.0.2.8") 1004
+    ∷ []) 7 2
+unfolding plain_span span_of rendered printed octets digits
+restarts = refl
+
+-- that is told
+tells_the_restart : (told (steps empty_state second_ban) (check_fails 1004 2)).lanes ≡ CheckFails lane (Status (pos 1)) ∷ Restarts lane ∷ []
+unfolding plain_span span_of rendered printed octets digits
+tells_the_restart = refl
+
+-- as is a try that failed, and that it was the last
+tells_a_failed_try : (told (steps empty_state second_ban) (ends 1004 2 TimedOut)).lanes ≡ TryFails lane Ban TimedOut false ∷ []
+unfolding plain_span span_of rendered printed octets digits
+tells_a_failed_try = refl
+
+tells_the_last_try : (told (steps empty_state (second_ban ++ ends 1004 2 TimedOut ∷ ends 1006 2 NotStarted ∷ [])) (ends 1010 2 (Status (pos 1)))).lanes ≡ TryFails lane Ban (Status (pos 1)) true ∷ []
+unfolding plain_span span_of rendered printed octets digits
+tells_the_last_try = refl
+
+-- neither a Stop nor a Reban is checked, nor what is not the first of its lane
+stop_unchecked : check_before 3 (second_ban ++ check_fails 1004 2 ∷ []) ≡ None
+unfolding plain_span span_of rendered printed octets digits
+stop_unchecked = refl
+
+reban_unchecked : check_before 5 (second_ban ++ check_fails 1004 2 ∷ ends 1005 3 (Status (pos 0)) ∷ ends 1006 4 (Status (pos 0)) ∷ []) ≡ None
+unfolding plain_span span_of rendered printed octets digits
+reban_unchecked = refl
+
+-- so a check that failed of another job than these changes nothing
+no_check_failed : after (second_ban ++ check_fails 1004 1 ∷ []) ≡ after (second_ban ++ sends 1004 Tick ∷ [])
+unfolding plain_span span_of rendered printed octets digits
+no_check_failed = refl
+
+-- 32. a check that fails in the middle of bans voids all that waits in the lane, an unban too, and only who is banned is banned anew
+in_the_middle : after (configures 1000 (careful ∷ []) ∷ ends 1000 0 (Status (pos 0)) ∷ bans 1001 (seven ∷ []) ∷ bans 1003 (eight ∷ []) ∷ unbans 1004 seven ∷ check_fails 1005 1 ∷ [])
+    ≡ cares 1005 (record quiet { total_banned = 2; bans = ban 1 eight 1003 1603 0 ∷ []; past = past seven 1004 ∷ [] })
+    (job 4 Both Stop None (codes "down") 1005 ∷ job 5 Both Start None (codes "up") 1005 ∷ job 6 Both Reban (Some eight) (codes "add 192.0.2.8") 1005 ∷ []) 7 2
+unfolding plain_span span_of rendered printed octets digits
+in_the_middle = refl
+
+-- 33. a stop comes while a check runs, which then fails: what waits in front of the lane's Stop is voided, and the lane does not start again
+stops_checked : after (second_ban ++ sends 1004 StopAll ∷ check_fails 1005 2 ∷ [])
+    ≡ record (cares 1005 both_banned (job 5 Both Stop None (codes "down") 1004 ∷ []) 6 2) { stopping = true; up = [] }
+unfolding plain_span span_of rendered printed octets digits
+stops_checked = refl
+
+-- nor is a job checked that stands in front of a Stop
+stopping_unchecked : check_before 2 (second_ban ++ sends 1004 StopAll ∷ []) ≡ None
+unfolding plain_span span_of rendered printed octets digits
+stopping_unchecked = refl
+
+-- 34. who is unbanned while he waits to be banned anew is banned anew, and then unbanned
+unbans_behind : after (second_ban ++ check_fails 1004 2 ∷ unbans 1005 seven ∷ [])
+    ≡ cares 1005 (record quiet { total_banned = 2; bans = ban 1 eight 1003 1603 0 ∷ []; past = past seven 1005 ∷ [] })
+    (job 3 Both Stop None (codes "down") 1004
+    ∷ job 4 Both Start None (codes "up") 1004
+    ∷ job 5 Both Reban (Some seven) (codes "add 192.0.2.7") 1004
+    ∷ job 6 Both Reban (Some eight) (codes "add 192.0.2.8") 1004
+    ∷ job 7 Both Unban (Some seven) (codes "del 192.0.2.7") 1005
+    ∷ []) 8 2
+unfolding plain_span span_of rendered printed octets digits
+unbans_behind = refl
+
+-- 35. the action changes while a check runs, which then fails: the old lane's jobs are voided up to its Stop, and the new one starts behind it
+abbrev looks_and_drops : ActionDef
+looks_and_drops = record looks { ban = codes "drop <ip>" }
+
+changes_checked : after (second_ban ++ configures 1004 (jail (looks_and_drops ∷ []) ∷ []) ∷ check_fails 1005 2 ∷ [])
+    ≡ record (shows 1005 (jail (looks_and_drops ∷ [])) both_banned) {
+      up = up looks_and_drops ∷ [];
+      jobs =
+          job 5 Both Stop None (codes "down") 1004
+          ∷ job 6 Both Start None (codes "up") 1004
+          ∷ job 7 Both Ban (Some seven) (codes "drop 192.0.2.7") 1004
+          ∷ job 8 Both Ban (Some eight) (codes "drop 192.0.2.8") 1004
+          ∷ [];
+      next_job = 9;
+      next_ban = 2;
+    }
+unfolding plain_span span_of rendered printed octets digits
+changes_checked = refl
+
+-- 36. what is over for `purge` seconds is dropped in each step, also in one in which a check fails
+purges_checked : after (sends 1000 (Config (record { purge = 100; jails = careful ∷ [] })) ∷ ends 1000 0 (Status (pos 0)) ∷ bans 1001 (seven ∷ []) ∷ unbans 1002 seven ∷ check_fails 1102 1 ∷ [])
+    ≡ record (cares 1102 (record quiet { total_banned = 1 }) (job 3 Both Stop None (codes "down") 1102 ∷ job 4 Both Start None (codes "up") 1102 ∷ []) 5 1)
+    { defs = record { purge = 100; jails = careful ∷ [] } }
+unfolding plain_span span_of rendered printed octets digits
+purges_checked = refl
+
+-- ---- lines
+
+-- an action that shows lines, at most two
+abbrev notes : ActionDef
+notes = record firewall { ban = codes "note <ip> <matches>" }
+
+abbrev noting : JailDef
+noting = record (jail (notes ∷ [])) { maxmatches = 2 }
+
+abbrev fails_by : ℕ → List ℕ → Failure
+fails_by time line = record { addr = seven; time = time; line = line }
+
+-- 37. a ban shows the lines of the failures that led to it, by time: the last two of those that have one, with `_` for what a shell may read
+abbrev noted : List Input
+noted =
+    configures 1000 (noting ∷ [])
+    ∷ ends 1000 0 (Status (pos 0))
+    ∷ reads 1500 (fails_by 1490 (codes "b;c") ∷ fails_by 1480 (codes "a") ∷ fails_by 1500 (codes "$(d)") ∷ [])
+    ∷ []
+
+abbrev noted_ban : JailView
+noted_ban = record followed { total_failed = 3; total_banned = 1; moment = 1500; bans = ban 0 seven 1500 2100 3 ∷ [] }
+
+shows_lines : after noted
+    ≡ record (shows 1500 noting noted_ban) { up = up notes ∷ []; jobs = job 1 Both Ban (Some seven) (codes "note 192.0.2.7 b_c / __d_") 1500 ∷ []; next_job = 2; next_ban = 1 }
+unfolding plain_span span_of rendered printed octets digits matches_of chars
+shows_lines = refl
+
+-- a line that is empty is left out, and open failures keep theirs
+abbrev kept_lines : List Failure
+kept_lines = fails_by 1490 (codes "b;c") ∷ fails_by 1500 [] ∷ []
+
+keeps_lines : after (configures 1000 (noting ∷ []) ∷ ends 1000 0 (Status (pos 0)) ∷ reads 1500 kept_lines ∷ [])
+    ≡ record (shows 1500 noting (record followed { total_failed = 2; moment = 1500; failures = kept_lines })) { up = up notes ∷ []; next_job = 1 }
+unfolding rendered
+keeps_lines = refl
+
+leaves_out_empty : matches_of 2 kept_lines ≡ codes "b_c"
+unfolding matches_of chars
+leaves_out_empty = refl
+
+shows_none : matches_of 0 kept_lines ≡ []
+unfolding matches_of
+shows_none = refl

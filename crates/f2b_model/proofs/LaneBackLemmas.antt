@@ -17,7 +17,7 @@ use Rattle.f2b_model.specs.Turns.{Order, order_of, touches, turn, follow}
 use Rattle.f2b_base.specs.Limits.{last_moment}
 use Rattle.f2b_model.proofs.AlternateLemmas.{order_stands}
 use Rattle.f2b_model.proofs.BackLemmas.{pending-back_from, back_ordered}
-use Rattle.f2b_model.proofs.LaneNowLemmas.{lanes_now_step}
+use Rattle.f2b_model.proofs.LaneNowLemmas.{lanes_now_step, ordered_below}
 use Rattle.f2b_model.proofs.LaneOrderLemmas.{order_kept}
 use Rattle.f2b_model.proofs.OrderLemmas.{pending_ordered, rises, stands_lane}
 use Rattle.f2b_model.proofs.SameLemmas.{same_lane-true}
@@ -124,7 +124,7 @@ now_bounds at what mid after told n fits rise =
     let whole : Lanes Ledger = lanes_from n in
     let ordered : IsOrdered whole.jobs whole.next_job = back_ordered n.jobs n.next_job rise in
     let stepped : Lanes Ledger = lanes_step books at what mid after told whole in
-    let same : lanes_now stepped ≡ lanes_step books_now at what mid after told n = lanes_now_step at what mid after told whole ordered.below ∙ ap (lanes_step books_now at what mid after told) (lanes_again n rise) in
+    let same : lanes_now stepped ≡ lanes_step books_now at what mid after told n = lanes_now_step at what mid after told whole (ordered_below whole ordered) ∙ ap (lanes_step books_now at what mid after told) (lanes_again n rise) in
     subst (λ (x : Lanes (List Job)). ArePending 0 x.jobs x.next_job) same (pending_ordered stepped.jobs stepped.next_job (order_kept at what mid after told whole fits ordered))
 
 -- each pending job's id is below the next

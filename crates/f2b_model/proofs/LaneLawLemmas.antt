@@ -14,17 +14,17 @@ use Rattle.f2b_model.specs.LaneSound.{IsOrdered, AreSoundLanes, is_banned_in, ne
 use Rattle.f2b_model.specs.Lanes.{Lanes}
 use Rattle.f2b_model.specs.Lists.{IsIn}
 use Rattle.f2b_model.specs.Orders.{Held}
-use Rattle.f2b_model.specs.Turns.{Order, numbered, bans_and_unbans, Alternate, last_is_ban}
+use Rattle.f2b_model.specs.Turns.{Order, numbered, kinds_of, Alternate, last_is_ban}
 use Rattle.f2b_model.proofs.AlternateLemmas.{follow_alternates, follow_last, settled_all}
 use Rattle.f2b_model.proofs.JobLemmas.{pending-with_jobs, pending-with_ending}
 
 -- ---- turns
 
-pub alternates : (held : List Held) (l : Lanes Ledger) → AreSoundLanes never held l → (id : LaneId) (addr : Addr) → Alternate false (bans_and_unbans id addr l.jobs.made)
+pub alternates : (held : List Held) (l : Lanes Ledger) → AreSoundLanes never held l → (id : LaneId) (addr : Addr) → Alternate false (kinds_of id addr l.jobs.made)
 alternates held l sound id addr = follow_alternates id addr false (is_banned_in l.up held id addr) l.jobs.made (sound.turn.turns id addr)
 
 pub settled_bans : (held : List Held) (l : Lanes Ledger) → AreSoundLanes never held l → (id : LaneId) (addr : Addr) → head id (pending l.jobs) ≡ None
-    → last_is_ban false (bans_and_unbans id addr (settled l.jobs)) ≡ is_banned_in l.up held id addr
+    → last_is_ban false (kinds_of id addr (settled l.jobs)) ≡ is_banned_in l.up held id addr
 settled_bans held l sound id addr none =
     ap (last_is_ban false) (settled_all id addr l.jobs.endings l.jobs.made none) ∙ follow_last id addr false (is_banned_in l.up held id addr) l.jobs.made (sound.turn.turns id addr)
 

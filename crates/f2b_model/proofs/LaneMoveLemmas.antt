@@ -8,7 +8,7 @@ use Rattle.std.proofs.lemmas.List.{map-append}
 use Rattle.std.proofs.lemmas.List.Folds.{list_any-append}
 use Rattle.f2b_base.specs.declared.addr.Addr.{Addr}
 use Rattle.f2b_base.specs.declared.job.JobKind.{JobKind}
-use Rattle.f2b_base.specs.declared.job.JobKind.TheVariants.{Start, Stop, Ban, Unban}
+use Rattle.f2b_base.specs.declared.job.JobKind.TheVariants.{Start, Stop, Ban, Unban, Reban}
 use Rattle.f2b_base.specs.declared.job.LaneId.{LaneId}
 use Rattle.f2b_base.specs.declared.job.UpLane.{UpLane}
 use Rattle.f2b_model.specs.Families.{in_family, same_lane}
@@ -16,15 +16,15 @@ use Rattle.f2b_base.specs.Addresses.{same_addr}
 use Rattle.f2b_model.specs.Jobs.{Ledger}
 use Rattle.f2b_model.specs.LaneSound.{AtMostOne, IsHeldOnce, IsInTurn, is_banned_in}
 use Rattle.f2b_model.specs.Lanes.{Lanes, books, issue, lane_down, lane_up}
-use Rattle.f2b_model.specs.Orders.{Held, is_held_of, is_active, lane_id, is_lane, is_up, takes, order, ban_orders, lane_orders, down_orders, up_orders}
+use Rattle.f2b_model.specs.Orders.{Held, is_held_of, is_active, lane_id, is_lane, is_up, takes, order, order_showing, ban_orders, lane_orders, down_orders, up_orders, restart_orders}
 use Rattle.f2b_model.specs.Turns.{Order, order_of, numbered, touches, turn, follow}
 use Rattle.f2b_model.proofs.PassLemmas.{any_map_filter, any_filter, any_agree, any_and, one_implied, one_map_filter, one_filter, one_push}
 use Rattle.f2b_model.proofs.SameLemmas.{same_addr-true, same_lane-true, lane_swap}
 use Rattle.f2b_model.proofs.TurnLemmas.{orders_numbered, follow-append, follow_none, AllKind, follow_of_one}
 
-pub kinds_of : {X : Type 0} (kind : JobKind) (f : X → Order) → ((x : X) → (f x).kind ≡ kind) → (xs : List X) → AllKind kind (map f xs)
-kinds_of kind f same [] = tt
-kinds_of kind f same (x ∷ xs) = (same x, kinds_of kind f same xs)
+pub all_of_kind : {X : Type 0} (kind : JobKind) (f : X → Order) → ((x : X) → (f x).kind ≡ kind) → (xs : List X) → AllKind kind (map f xs)
+all_of_kind kind f same [] = tt
+all_of_kind kind f same (x ∷ xs) = (same x, all_of_kind kind f same xs)
 
 -- ---- what an order of a ban touches: its lane and its address, where the lane takes the ban
 
@@ -54,17 +54,17 @@ touch lane h id addr = elim (cases_Bool (same_lane (lane_id lane) id)) [
 
 -- the orders of one ban for the lanes that are up
 
-pub any_ban_orders : (kind : JobKind) (h : Held) (up : List UpLane) (id : LaneId) (addr : Addr)
-    → list_any (touches id addr) (ban_orders kind h up) ≡ (is_up up id && (is_held_of id.jail addr h && in_family id.family addr))
-any_ban_orders kind h up id addr =
-    any_map_filter (touches id addr) (order kind (Some h)) (λ lane. takes lane h) up
-    ∙ any_agree (λ lane. takes lane h && touches id addr (order kind (Some h) lane)) (λ lane. is_lane id lane && (is_held_of id.jail addr h && in_family id.family addr)) (λ lane. touch lane h id addr) up
+pub any_ban_orders : (lines : List ℕ) (kind : JobKind) (h : Held) (up : List UpLane) (id : LaneId) (addr : Addr)
+    → list_any (touches id addr) (ban_orders lines kind h up) ≡ (is_up up id && (is_held_of id.jail addr h && in_family id.family addr))
+any_ban_orders lines kind h up id addr =
+    any_map_filter (touches id addr) (order_showing lines kind (Some h)) (λ lane. takes lane h) up
+    ∙ any_agree (λ lane. takes lane h && touches id addr (order_showing lines kind (Some h) lane)) (λ lane. is_lane id lane && (is_held_of id.jail addr h && in_family id.family addr)) (λ lane. touch lane h id addr) up
     ∙ any_and (is_lane id) (is_held_of id.jail addr h && in_family id.family addr) up
 
-pub one_ban_orders : (kind : JobKind) (h : Held) (up : List UpLane) (id : LaneId) (addr : Addr) → AtMostOne (is_lane id) up → AtMostOne (touches id addr) (ban_orders kind h up)
-one_ban_orders kind h up id addr one =
-    one_map_filter (touches id addr) (order kind (Some h)) (λ lane. takes lane h) up
-    (one_implied (is_lane id) (λ lane. takes lane h && touches id addr (order kind (Some h) lane)) (λ lane k. (and_parts _ _ (and_parts (takes lane h) _ k).1).0) up one)
+pub one_ban_orders : (lines : List ℕ) (kind : JobKind) (h : Held) (up : List UpLane) (id : LaneId) (addr : Addr) → AtMostOne (is_lane id) up → AtMostOne (touches id addr) (ban_orders lines kind h up)
+one_ban_orders lines kind h up id addr one =
+    one_map_filter (touches id addr) (order_showing lines kind (Some h)) (λ lane. takes lane h) up
+    (one_implied (is_lane id) (λ lane. takes lane h && touches id addr (order_showing lines kind (Some h) lane)) (λ lane k. (and_parts _ _ (and_parts (takes lane h) _ k).1).0) up one)
 
 -- the orders of one lane for the active bans
 
@@ -132,7 +132,7 @@ unbanned : (lane : UpLane) (held : List Held) (id : LaneId) (addr : Addr) (u : B
 unbanned lane held id addr u here up one = elim (cases_Bool (is_active held id.jail addr && in_family id.family addr)) [
   | inl h ↦
       let was : (u && (in_family id.family addr && is_active held id.jail addr)) ≡ true = and_from u _ up (and_swap (in_family id.family addr) _ ∙ h) in
-      follow_of_one id addr Unban _ false (lane_orders Unban lane held) (kinds_of Unban (λ x. order Unban (Some x) lane) (λ x. refl) _) (one_lane_orders Unban lane held id addr one)
+      follow_of_one id addr Unban _ false (lane_orders Unban lane held) (all_of_kind Unban (λ x. order Unban (Some x) lane) (λ x. refl) _) (one_lane_orders Unban lane held id addr one)
       (any_lane_orders Unban lane held id addr ∙ and_from (is_lane id lane) _ here h) (ap (turn Unban) was)
   | inr h ↦
       let was : (u && (in_family id.family addr && is_active held id.jail addr)) ≡ false = and_right u _ (and_swap (in_family id.family addr) _ ∙ h) in
@@ -164,16 +164,16 @@ lane_down_keeps base at held lane l once is on = record {
 
 -- ---- a lane comes up
 
--- the bans of a lane that was down
-banned_now : (lane : UpLane) (held : List Held) (id : LaneId) (addr : Addr) → is_lane id lane ≡ true → AtMostOne (is_held_of id.jail addr) held
-    → follow id addr false (lane_orders Ban lane held) ≡ Some (in_family id.family addr && is_active held id.jail addr)
-banned_now lane held id addr here one = elim (cases_Bool (is_active held id.jail addr && in_family id.family addr)) [
+-- the bans of a lane where nobody is banned, given by Ban or Reban
+banned_now : (kind : JobKind) → turn kind false ≡ Some true → (lane : UpLane) (held : List Held) (id : LaneId) (addr : Addr) → is_lane id lane ≡ true → AtMostOne (is_held_of id.jail addr) held
+    → follow id addr false (lane_orders kind lane held) ≡ Some (in_family id.family addr && is_active held id.jail addr)
+banned_now kind bans lane held id addr here one = elim (cases_Bool (is_active held id.jail addr && in_family id.family addr)) [
   | inl h ↦
-      follow_of_one id addr Ban false true (lane_orders Ban lane held) (kinds_of Ban (λ x. order Ban (Some x) lane) (λ x. refl) _) (one_lane_orders Ban lane held id addr one)
-      (any_lane_orders Ban lane held id addr ∙ and_from (is_lane id lane) _ here h) refl
+      follow_of_one id addr kind false true (lane_orders kind lane held) (all_of_kind kind (λ x. order kind (Some x) lane) (λ x. refl) _) (one_lane_orders kind lane held id addr one)
+      (any_lane_orders kind lane held id addr ∙ and_from (is_lane id lane) _ here h) bans
       ∙ ap (λ x. Some x) (sym (and_swap (in_family id.family addr) _ ∙ h))
   | inr h ↦
-      follow_none id addr false (lane_orders Ban lane held) (any_lane_orders Ban lane held id addr ∙ and_right (is_lane id lane) _ h)
+      follow_none id addr false (lane_orders kind lane held) (any_lane_orders kind lane held id addr ∙ and_right (is_lane id lane) _ h)
       ∙ ap (λ x. Some x) (sym (and_swap (in_family id.family addr) _ ∙ h))
 ]
 
@@ -200,7 +200,7 @@ lane_up_keeps base at held lane l once is off = record {
       (elim (cases_Bool (is_lane id lane)) [
         | inl h ↦
             start_here lane id addr (is_banned_in l.up held id addr) (lane_orders Ban lane held) h (and_left (is_up l.up id) _ (up_as l.up lane id false h off))
-            ∙ banned_now lane held id addr h (once.one id.jail addr)
+            ∙ banned_now Ban refl lane held id addr h (once.one id.jail addr)
             ∙ ap (λ x. Some x) (up_here (is_up l.up id) (is_lane id lane) _ h ∙ ap (λ x. x && (in_family id.family addr && is_active held id.jail addr)) (sym (list_any-append (is_lane id) l.up (lane ∷ []))))
         | inr h ↦
             start_elsewhere lane id addr (is_banned_in l.up held id addr) (lane_orders Ban lane held) h
@@ -208,4 +208,34 @@ lane_up_keeps base at held lane l once is off = record {
             ∙ ap (λ x. Some x) (up_elsewhere (is_up l.up id) (is_lane id lane) _ h ∙ ap (λ x. x && (in_family id.family addr && is_active held id.jail addr)) (sym (list_any-append (is_lane id) l.up (lane ∷ []))))
       ]);
   apart = record { one = λ id. one_push (is_lane id) l.up lane (λ here. up_as l.up lane id false here off) (is.apart.one id) };
+}
+
+-- ---- a lane starts anew
+
+-- after a Stop and a Start nobody is banned
+stop_start : (lane : UpLane) (id : LaneId) (addr : Addr) (b : Bool) (os : List Order) → is_lane id lane ≡ true → follow id addr b (order Stop None lane ∷ order Start None lane ∷ os) ≡ follow id addr false os
+stop_start lane id addr true os h = rw h refl
+stop_start lane id addr false os h = rw h refl
+
+stop_start_elsewhere : (lane : UpLane) (id : LaneId) (addr : Addr) (b : Bool) (os : List Order) → is_lane id lane ≡ false → follow id addr b (order Stop None lane ∷ order Start None lane ∷ os) ≡ follow id addr b os
+stop_start_elsewhere lane id addr b os h = rw h refl
+
+on_here : (u x : Bool) → u ≡ true → x ≡ (u && x)
+on_here true x h = refl
+on_here false x h = absurd (let e : false ≡ true = h in cc)
+
+pub restart_keeps : (base : LaneId → Addr → Bool) (at : ℕ) (held : List Held) (lane : UpLane) (l : Lanes Ledger)
+    → IsHeldOnce held → IsInTurn base held l → is_up l.up (lane_id lane) ≡ true → IsInTurn base held (issue books at (restart_orders lane held) l)
+restart_keeps base at held lane l once is on = record {
+  turns = λ id addr. issue_turns base at (restart_orders lane held) l id addr (is_banned_in l.up held id addr) _ (is.turns id addr)
+      (elim (cases_Bool (is_lane id lane)) [
+        | inl h ↦
+            stop_start lane id addr (is_banned_in l.up held id addr) (lane_orders Reban lane held) h
+            ∙ banned_now Reban refl lane held id addr h (once.one id.jail addr)
+            ∙ ap (λ x. Some x) (on_here (is_up l.up id) (in_family id.family addr && is_active held id.jail addr) (up_as l.up lane id true h on))
+        | inr h ↦
+            stop_start_elsewhere lane id addr (is_banned_in l.up held id addr) (lane_orders Reban lane held) h
+            ∙ follow_none id addr (is_banned_in l.up held id addr) (lane_orders Reban lane held) (any_lane_orders Reban lane held id addr ∙ and_left (is_lane id lane) _ h)
+      ]);
+  apart = is.apart;
 }

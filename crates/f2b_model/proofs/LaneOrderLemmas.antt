@@ -3,7 +3,7 @@ use Rattle.std.proofs.Common.{ℕ, ◌≡◌, ◌≤◌, inl, inr, Bool, true, f
 use Rattle.std.proofs.lemmas.Bool.{cases_Bool, both_ways}
 use Rattle.f2b_base.specs.declared.addr.Addr.{Addr}
 use Rattle.f2b_base.specs.declared.input.What.{What}
-use Rattle.f2b_base.specs.declared.input.What.TheVariants.{Ended, Config, Stop}
+use Rattle.f2b_base.specs.declared.input.What.TheVariants.{Ended, Config, Stop, CheckFailed}
 use Rattle.f2b_base.specs.declared.job.Job.{Job}
 use Rattle.f2b_base.specs.declared.job.LaneId.{LaneId}
 use Rattle.f2b_base.specs.declared.job.Outcome.{Outcome}
@@ -15,6 +15,7 @@ use Rattle.f2b_model.specs.Lanes.{Books, Lanes, books, issue, lane_down, lane_up
 use Rattle.f2b_model.specs.Orders.{Held, lane_id, is_lane, is_up, down_orders, up_orders, told_orders}
 use Rattle.f2b_model.specs.Turns.{Order}
 use Rattle.f2b_base.specs.Limits.{last_moment}
+use Rattle.f2b_model.proofs.CheckLemmas.{check_ordered, check_stop}
 use Rattle.f2b_model.proofs.InLemmas.{in_any, no_elements}
 use Rattle.f2b_model.proofs.LaneStepLemmas.{up_after_down, turn_kept}
 use Rattle.f2b_model.proofs.OrderLemmas.{jobs_keep, ending_keeps}
@@ -60,6 +61,7 @@ done_ordered : (at : ℕ) (what : What) (mid after : List Held) (l : Lanes Ledge
 done_ordered at (Ended job outcome) mid after l fits h = try_ordered at job outcome l h
 done_ordered at Stop mid after l fits h = all_down_ordered at mid l.up l fits h
 done_ordered at (Config defs) mid after l fits h = configured_ordered at mid after (lanes_of defs) l fits h
+done_ordered at (CheckFailed job outcome) mid after l fits h = check_ordered at after job l fits h
 done_ordered at _ mid after l fits h = h
 
 pub order_kept : (at : ℕ) (what : What) (mid after : List Held) (told : List Happening) (l : Lanes Ledger) → at ≤ last_moment → AreOrdered l → AreOrdered (lanes_step books at what mid after told l)
@@ -97,6 +99,7 @@ module _ {L : Type 0} (b : Books L) where
   stop_kept at (Config defs) mid after told l was now =
       absurd (both_ways (lanes_configured b at mid after (lanes_of defs) (issue b at (told_orders l.up told) l)).stopping
       (configured_stopping at mid after (lanes_of defs) (issue b at (told_orders l.up told) l)) now)
+  stop_kept at (CheckFailed job outcome) mid after told l was now = check_stop b at after job (issue b at (told_orders l.up told) l) was now
   stop_kept at _ mid after told l was now = was now
 
 -- ---- sound

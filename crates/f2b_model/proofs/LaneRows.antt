@@ -26,7 +26,7 @@ use Rattle.f2b_model.specs.LaneSound.{AreApart, AreSoundLanes, IsHeldOnce, never
 use Rattle.f2b_model.specs.Lanes.{Lanes, books, lanes_step, first_lanes, lanes_of, lanes_now, lanes_from}
 use Rattle.f2b_model.specs.Orders.{Held, is_held_of, fill_of}
 use Rattle.f2b_model.specs.Render.{rendered}
-use Rattle.f2b_model.specs.Turns.{bans_and_unbans, last_is_ban}
+use Rattle.f2b_model.specs.Turns.{kinds_of, last_is_ban}
 use Rattle.f2b_model.proofs.FollowLemmas.{follows_nothing, follows_begin}
 use Rattle.f2b_model.proofs.LaneOrderLemmas.{sound_kept, first_sound}
 
@@ -131,7 +131,7 @@ two_failed_starts = refl
 
 -- the address is banned at 1001
 abbrev banned : Lanes Ledger
-banned = lanes_step books 1001 Tick held held (Begins (codes "s") ban ∷ []) one_lane
+banned = lanes_step books 1001 Tick held held (Begins (codes "s") ban [] ∷ []) one_lane
 
 start_and_ban : kinds banned ≡ Start ∷ Ban ∷ []
 start_and_ban = refl
@@ -194,8 +194,8 @@ one_sound =
 
 banned_sound : AreSoundLanes never held banned
 banned_sound =
-    sound_kept never 1001 Tick [] held held (Begins (codes "s") ban ∷ []) one_lane (omega arith) tt
-    (record { leads = follows_begin (codes "s") ban [] held refl (λ jail addr. or_false (is_held_of jail addr (record { jail = codes "s"; ban = ban }))); alike = tt; mid_once = once; after_once = once })
+    sound_kept never 1001 Tick [] held held (Begins (codes "s") ban [] ∷ []) one_lane (omega arith) tt
+    (record { leads = follows_begin (codes "s") ban [] [] held refl (λ jail addr. or_false (is_held_of jail addr (record { jail = codes "s"; ban = ban }))); alike = tt; mid_once = once; after_once = once })
     one_sound
   where
     or_false : (b : Bool) → (b || false) ≡ b
@@ -203,7 +203,7 @@ banned_sound =
     or_false false = refl
 
 -- the last settled job of the address is a Ban
-last_says : last_is_ban false (bans_and_unbans (record { jail = codes "s"; action = 1 ∷ []; family = Both }) (V4 7) (settled settled_all.jobs)) ≡ true
+last_says : last_is_ban false (kinds_of (record { jail = codes "s"; action = 1 ∷ []; family = Both }) (V4 7) (settled settled_all.jobs)) ≡ true
 last_says = refl
 
 -- ---- many lanes

@@ -7,7 +7,7 @@ use Rattle.std.proofs.lemmas.Bool.{cases_Bool, or_right, and_parts, and_from, bo
 use Rattle.std.proofs.lemmas.List.Folds.{list_any-append}
 use Rattle.f2b_base.specs.declared.addr.Addr.{Addr}
 use Rattle.f2b_base.specs.declared.input.What.{What}
-use Rattle.f2b_base.specs.declared.input.What.TheVariants.{Ended, Config, Stop}
+use Rattle.f2b_base.specs.declared.input.What.TheVariants.{Ended, Config, Stop, CheckFailed}
 use Rattle.f2b_base.specs.declared.jail.ActionDef.{ActionDef}
 use Rattle.f2b_base.specs.declared.jail.Defs.{Defs}
 use Rattle.f2b_base.specs.declared.jail.JailDef.{JailDef}
@@ -21,6 +21,7 @@ use Rattle.f2b_model.specs.LaneSound.{AreApart, IsHeldOnce, has_jail, IsBanStep,
 use Rattle.f2b_model.specs.Lanes.{Books, Lanes, books, issue, lane_down, lane_up, all_down, all_up, try_ended, others_down, lanes_configured, lanes_step, lanes_of_jail, lanes_of, is_among}
 use Rattle.f2b_model.specs.Lists.{IsIn}
 use Rattle.f2b_model.specs.Orders.{Held, is_active, lane_id, is_lane, is_up, told_orders}
+use Rattle.f2b_model.proofs.CheckLemmas.{check_turn}
 use Rattle.f2b_model.proofs.InLemmas.{any_in, in_any, none_in, in_filter, filter_in, in_append}
 use Rattle.f2b_model.proofs.LaneMoveLemmas.{up_left, lane_down_keeps, lane_up_keeps}
 use Rattle.f2b_model.proofs.PassLemmas.{one_filter}
@@ -29,11 +30,11 @@ use Rattle.f2b_model.proofs.ToldOrderLemmas.{told_keeps}
 
 -- ---- lanes that are apart
 
-apart_rest : (lane : UpLane) (ls : List UpLane) → AreApart (lane ∷ ls) → AreApart ls
+pub apart_rest : (lane : UpLane) (ls : List UpLane) → AreApart (lane ∷ ls) → AreApart ls
 apart_rest lane ls apart = record { one = λ id. (apart.one id).1 }
 
 -- one that stands later is another
-apart_other : (lane x : UpLane) (ls : List UpLane) → AreApart (lane ∷ ls) → IsIn x ls → is_lane (lane_id x) lane ≡ false
+pub apart_other : (lane x : UpLane) (ls : List UpLane) → AreApart (lane ∷ ls) → IsIn x ls → is_lane (lane_id x) lane ≡ false
 apart_other lane x ls apart i = lane_swap (lane_id lane) (lane_id x) ∙ none_in (is_lane (lane_id lane)) x ls i ((apart.one (lane_id lane)).0 (same_lane-same (lane_id lane)))
 
 pub apart_filter : (p : UpLane → Bool) (lanes : List UpLane) → AreApart lanes → AreApart (filter p lanes)
@@ -48,7 +49,7 @@ all_down_keeps base at held (lane ∷ ls) l once is apart each =
     all_down_keeps base at held ls (lane_down books at held lane l) once (lane_down_keeps base at held lane l once is (each lane (inl refl))) (apart_rest lane ls apart)
     (λ x i. up_left lane l.up (lane_id x) ∙ and_from (is_up l.up (lane_id x)) _ (each x (inr i)) (ap not (apart_other lane x ls apart i)))
 
-both_false : (a b : Bool) → a ≡ false → b ≡ false → (a || (b || false)) ≡ false
+pub both_false : (a b : Bool) → a ≡ false → b ≡ false → (a || (b || false)) ≡ false
 both_false false false p q = refl
 both_false false true p q = q
 both_false true b p q = p
@@ -159,4 +160,6 @@ turn_kept base at Stop before mid after told l fit step is =
     record { turns = again.turns; apart = again.apart }
 turn_kept base at (Config defs) before mid after told l fit step is =
     config_keeps base at mid after defs (issue books at (told_orders l.up told) l) fit step.mid_once step.after_once step.alike (told_keeps base at before mid told l step.leads is)
+turn_kept base at (CheckFailed job outcome) before mid after told l fit step is =
+    check_turn base at after job (issue books at (told_orders l.up told) l) step.after_once (told_keeps base at before after told l step.leads is)
 turn_kept base at _ before mid after told l fit step is = told_keeps base at before after told l step.leads is

@@ -14,10 +14,10 @@ use Rattle.f2b_model.specs.Full.{is_full}
 use Rattle.f2b_model.specs.LaneSound.{follow_told}
 use Rattle.f2b_model.specs.Lists.{AllOf, in_order, placed, placed_all}
 use Rattle.f2b_model.specs.Moves.{counts, ban_of, is_banned, is_near, new_ban}
-use Rattle.f2b_model.specs.NowMoves.{counted_now, found_now, banned_now, ended_now}
+use Rattle.f2b_model.specs.NowMoves.{shown_now, counted_now, found_now, banned_now, ended_now}
 use Rattle.f2b_model.specs.Sound.{IsOnceEach}
 use Rattle.f2b_model.specs.Steps.{moves_now, is_due, own_end, ends_before, is_meant, is_meant_jail, end_all, ended_by_time, unbanned}
-use Rattle.f2b_model.specs.Told.{told_found, told_banned, told_ends, told_unbanned}
+use Rattle.f2b_model.specs.Told.{begins, told_found, told_banned, told_ends, told_unbanned}
 use Rattle.f2b_model.proofs.EndLemmas.{all_not, all_placed_all, same_addr_same}
 use Rattle.f2b_model.proofs.FollowLemmas.{follow_told-append}
 use Rattle.f2b_model.proofs.FullLemmas.{both_true}
@@ -55,8 +55,8 @@ or_false : (b : Bool) → (b || false) ≡ b
 or_false true = refl
 or_false false = refl
 
-leads_begin : (name : List ℕ) (b : Ban) (bs : List Ban) → is_banned b.addr bs ≡ false → Leads name (Begins name b ∷ []) bs (bs ++ b ∷ [])
-leads_begin name b bs free = record {
+leads_begin : (name lines : List ℕ) (b : Ban) (bs : List Ban) → is_banned b.addr bs ≡ false → Leads name (Begins name b lines ∷ []) bs (bs ++ b ∷ [])
+leads_begin name lines b bs free = record {
   own = λ addr. by_test (same_addr b.addr addr) _
       (λ e.
       let was : is_banned addr bs ≡ false = ap (λ a. is_banned a bs) (sym (same_addr_true b.addr addr e)) ∙ free in
@@ -187,11 +187,11 @@ one_new : (bs : List Ban) (b : Ban) → drop (length bs) (bs ++ b ∷ []) ≡ b 
 one_new [] b = refl
 one_new (c ∷ cs) b = one_new cs b
 
-leads_new : (name : List ℕ) (b : Ban) (bs : List Ban) → is_banned b.addr bs ≡ false → Leads name (map (Begins name) (drop (length bs) (bs ++ b ∷ []))) bs (bs ++ b ∷ [])
-leads_new name b bs free = subst (λ ds. Leads name (map (Begins name) ds) bs (bs ++ b ∷ [])) (sym (one_new bs b)) (leads_begin name b bs free)
+leads_new : (name lines : List ℕ) (b : Ban) (bs : List Ban) → is_banned b.addr bs ≡ false → Leads name (map (begins lines name) (drop (length bs) (bs ++ b ∷ []))) bs (bs ++ b ∷ [])
+leads_new name lines b bs free = subst (λ ds. Leads name (map (begins lines name) ds) bs (bs ++ b ∷ [])) (sym (one_new bs b)) (leads_begin name lines b bs free)
 
-leads_none_new : (name : List ℕ) (bs : List Ban) → Leads name (map (Begins name) (drop (length bs) bs)) bs bs
-leads_none_new name bs = subst (λ ds. Leads name (map (Begins name) ds) bs bs) (sym (none_new bs)) (leads_nothing name bs)
+leads_none_new : (name lines : List ℕ) (bs : List Ban) → Leads name (map (begins lines name) (drop (length bs) bs)) bs bs
+leads_none_new name lines bs = subst (λ ds. Leads name (map (begins lines name) ds) bs bs) (sym (none_new bs)) (leads_nothing name bs)
 
 pub leads_found : (at word n : ℕ) (f : Failure) (j : JailNow) → Leads j.definition.name (told_found moves_now at word f n j) j.bans (found_now at word n f j).jail.bans
 leads_found at word n f j =
@@ -200,20 +200,21 @@ leads_found at word n f j =
     let free = not_true (is_banned f.addr j.bans) (both_true (not (is_banned f.addr j.bans)) _ e).0 in
     let k = counted_now at f j in
     let name = j.definition.name in
+    let lines = shown_now at f j in
     rw e (by_test (is_full k.definition.findtime k.definition.maxretry f.addr k.failures) _
     (λ t.
     let b = new_ban k.definition k.past at word n f.addr (length (filter (is_near k.definition.findtime f) k.failures)) in
-    rw t (leads_both name (Counts name f.addr ∷ []) (map (Begins name) (drop (length j.bans) (j.bans ++ b ∷ []))) j.bans j.bans (j.bans ++ b ∷ [])
-    (leads_count name f.addr j.bans) (leads_new name b j.bans free)))
-    (λ t. rw t (leads_both name (Counts name f.addr ∷ []) (map (Begins name) (drop (length j.bans) j.bans)) j.bans j.bans j.bans
-    (leads_count name f.addr j.bans) (leads_none_new name j.bans)))))
+    rw t (leads_both name (Counts name f.addr ∷ []) (map (begins lines name) (drop (length j.bans) (j.bans ++ b ∷ []))) j.bans j.bans (j.bans ++ b ∷ [])
+    (leads_count name f.addr j.bans) (leads_new name lines b j.bans free)))
+    (λ t. rw t (leads_both name (Counts name f.addr ∷ []) (map (begins lines name) (drop (length j.bans) j.bans)) j.bans j.bans j.bans
+    (leads_count name f.addr j.bans) (leads_none_new name lines j.bans)))))
     (λ e. rw e (leads_nothing j.definition.name j.bans))
 
 pub leads_banned : (at word n : ℕ) (addr : Addr) (j : JailNow) → Leads j.definition.name (told_banned moves_now at word addr n j) j.bans (banned_now at word n addr j).jail.bans
 leads_banned at word n addr j =
     by_test (is_banned addr j.bans) _
-    (λ e. rw e (leads_none_new j.definition.name j.bans))
-    (λ e. rw e (leads_new j.definition.name (new_ban j.definition j.past at word n addr 0) j.bans e))
+    (λ e. rw e (leads_none_new j.definition.name [] j.bans))
+    (λ e. rw e (leads_new j.definition.name [] (new_ban j.definition j.past at word n addr 0) j.bans e))
 
 -- no address is banned twice once bans have ended
 pub once_end_all : (moment : Ban → ℕ) (ds : List Ban) (j : JailNow) → IsOnceEach j.bans → IsOnceEach (end_all moves_now moment ds j).bans

@@ -12,6 +12,7 @@ pub mod ToldLemmas
 pub mod NumberLemmas
 pub mod WatchLemmas
 pub mod WindowLemmas
+pub mod JoinLemmas
 pub mod StandLemmas
 pub mod PartLemmas
 pub mod Rows
@@ -27,6 +28,21 @@ pub mod ToldOrderLemmas
 pub mod InLemmas
 pub mod LaneStepLemmas
 pub mod LaneOrderLemmas
+pub mod IdLemmas
+pub mod ByIdLemmas
+pub mod CheckLemmas
+pub mod CarryLemmas
+pub mod DueLemmas
+pub mod StartLemmas
+pub mod LaterLemmas
+pub mod SerialLemmas
+pub mod ApartLemmas
+pub mod BesideLemmas
+pub mod StorableLemmas
+pub mod StorableLaneLemmas
+pub mod StorableToldLemmas
+pub mod StorableWholeLemmas
+pub mod ShownLemmas
 pub mod LaneNowLemmas
 pub mod LaneBackLemmas
 pub mod LaneLawLemmas
@@ -39,4 +55,7 @@ pub mod FitLemmas
 pub mod WholeLemmas
 mod Histories
 pub mod RenderLemmas
+pub mod MatchLemmas
+pub mod Utf8Lemmas
+pub mod ShownTextLemmas
 mod LaneRows

@@ -110,7 +110,7 @@ full_shows at f j sound new =
     let late = order.1 (full_of_test findtime maxretry f.addr _ e) in
     test_of_full findtime maxretry f.addr whole pos (full_of_part p findtime maxretry f.addr whole late))
 
-new_near : (at findtime : ℕ) (f g : Failure) → at < f.time + findtime → f.time < g.time + findtime → is_late at findtime g ≡ true
+pub new_near : (at findtime : ℕ) (f g : Failure) → at < f.time + findtime → f.time < g.time + findtime → is_late at findtime g ≡ true
 new_near at findtime f g new near = true_lt _ _ (omega arith)
 
 pub near_shows : (at : ℕ) (f : Failure) (j : Jail) → at < f.time + j.definition.findtime

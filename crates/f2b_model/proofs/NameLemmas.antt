@@ -1,4 +1,5 @@
--- Each move keeps the name of its jail: so a step keeps the names of the jails, but for a configuration, whose names they are then.
+-- Each move keeps the name of its jail: so a step keeps the names of the jails, but for a configuration, whose names they are then. The same
+-- holds of whatever else no move changes in a definition.
 use Rattle.std.proofs.Common.{◌≡◌, ℕ, Bool, true, false, cond, ◌&&◌, ◌==◌, List, [], ◌∷◌, map, refl, ◌∙◌, ap, ap₂, ℤ}
 use Rattle.std.specs.Prelude.{bytes_eq, Option, Some, None}
 use Rattle.std.specs.List.{filter}
@@ -14,32 +15,44 @@ use Rattle.f2b_base.specs.declared.jail.Place.{Place}
 use Rattle.f2b_model.specs.declared.jail_now.JailNow.{JailNow}
 use Rattle.f2b_model.specs.Full.{is_full}
 use Rattle.f2b_model.specs.Lists.{AreDistinct, in_order}
-use Rattle.f2b_model.specs.Moves.{Out, counts, counted, is_banned}
+use Rattle.f2b_model.specs.Moves.{Out, counts, counted, ignored, is_banned, spanned}
 use Rattle.f2b_model.specs.NowMoves.{counted_now}
 use Rattle.f2b_model.specs.Nows.{jail_now, jail_from}
 use Rattle.f2b_model.specs.Sound.{IsFitWhat}
 use Rattle.f2b_model.specs.State.{Jail, World, open_of, active_of}
-use Rattle.f2b_model.specs.Steps.{Moves, moves, moves_now, named, names, is_spent, is_due, own_end, ends_before, is_meant, is_meant_jail, end_all, ended_by_time, unbanned, in_jail, at_jail, alone, find_jail, is_followed, followed_to, found_all, read_all, ban_all, kept_or_fresh, configured, done, raised, at_reading, step_by}
+use Rattle.f2b_model.specs.Steps.{Moves, moves, moves_now, names, is_spent, is_due, own_end, ends_before, is_meant, is_meant_jail, end_all, ended_by_time, unbanned, in_jail, at_jail, alone, find_jail, is_followed, followed_to, found_all, read_all, ban_all, kept_or_fresh, configured, done, raised, at_reading, step_by}
 use Rattle.f2b_model.proofs.ListLemmas.{by_test}
 
-pub record KeepsName {J : Type 0} (m : Moves J) : Type 0 where
-  pub found : (at word n : ℕ) (f : Failure) (j : J) → named m (m.found at word n f j).jail ≡ named m j
-  pub banned : (at word n : ℕ) (addr : Addr) (j : J) → named m (m.banned at word n addr j).jail ≡ named m j
-  pub ended : (addr : Addr) (moment : ℕ) (j : J) → named m (m.ended addr moment j) ≡ named m j
-  pub dropped : (at purge : ℕ) (j : J) → named m (m.dropped at purge j) ≡ named m j
-  pub limited : (findtime maxretry : ℕ) (j : J) → named m (m.limited findtime maxretry j) ≡ named m j
-  pub spanned : (secs : ℤ) (j : J) → named m (m.spanned secs j) ≡ named m j
-  pub idle : (idle : Bool) (j : J) → named m (m.idle idle j) ≡ named m j
-  pub ignored : (cidr : Cidr) (add : Bool) (j : J) → named m (m.ignored cidr add j) ≡ named m j
-  pub followed : (path : List ℕ) (place : Place) (j : J) → named m (m.followed path place j) ≡ named m j
-  pub kept : (d : JailDef) (j : J) → named m (m.kept d j) ≡ d.name
-  pub fresh : (d : JailDef) → named m (m.fresh d) ≡ d.name
+-- what is seen of the definition of a jail, and of the definitions of jails
+abbrev pub seen : {J X : Type 0} → Moves J → (JailDef → X) → J → X
+seen m see j = see (m.definition j)
 
-ignored_name : (cidr : Cidr) (add : Bool) (j : Jail) → named moves (moves.ignored cidr add j) ≡ named moves j
-ignored_name cidr true j = refl
-ignored_name cidr false j = refl
+abbrev pub all_seen : {J X : Type 0} → Moves J → (JailDef → X) → List J → List X
+all_seen m see js = map (seen m see) js
 
-pub moves_names : KeepsName moves
+-- no move changes it, but that of a configuration
+pub record Keeps {J X : Type 0} (m : Moves J) (see : JailDef → X) : Type 0 where
+  pub found : (at word n : ℕ) (f : Failure) (j : J) → seen m see (m.found at word n f j).jail ≡ seen m see j
+  pub banned : (at word n : ℕ) (addr : Addr) (j : J) → seen m see (m.banned at word n addr j).jail ≡ seen m see j
+  pub ended : (addr : Addr) (moment : ℕ) (j : J) → seen m see (m.ended addr moment j) ≡ seen m see j
+  pub dropped : (at purge : ℕ) (j : J) → seen m see (m.dropped at purge j) ≡ seen m see j
+  pub limited : (findtime maxretry : ℕ) (j : J) → seen m see (m.limited findtime maxretry j) ≡ seen m see j
+  pub spanned : (secs : ℤ) (j : J) → seen m see (m.spanned secs j) ≡ seen m see j
+  pub idle : (idle : Bool) (j : J) → seen m see (m.idle idle j) ≡ seen m see j
+  pub ignored : (cidr : Cidr) (add : Bool) (j : J) → seen m see (m.ignored cidr add j) ≡ seen m see j
+  pub followed : (path : List ℕ) (place : Place) (j : J) → seen m see (m.followed path place j) ≡ seen m see j
+  pub kept : (d : JailDef) (j : J) → seen m see (m.kept d j) ≡ see d
+  pub fresh : (d : JailDef) → seen m see (m.fresh d) ≡ see d
+
+-- the name in a definition
+abbrev pub name_of : JailDef → List ℕ
+name_of d = d.name
+
+ignored_name : (cidr : Cidr) (add : Bool) (d : JailDef) → (ignored cidr add d).name ≡ d.name
+ignored_name cidr true d = refl
+ignored_name cidr false d = refl
+
+pub moves_names : Keeps moves name_of
 moves_names = record {
   found = λ at word n f j. by_test (counts at j.definition (active_of j.bans) f) _
       (λ e. let k = counted at f j in
@@ -51,18 +64,21 @@ moves_names = record {
   limited = λ findtime maxretry j. by_test ((findtime == j.definition.findtime) && (maxretry == j.definition.maxretry)) _ (λ e. rw e refl) (λ e. rw e refl);
   spanned = λ secs j. refl;
   idle = λ idle j. refl;
-  ignored = ignored_name;
+  ignored = λ cidr add j. ignored_name cidr add j.definition;
   followed = λ path place j. refl;
   kept = λ d j. refl;
   fresh = λ d. refl;
 }
 
-ignored_now_name : (cidr : Cidr) (add : Bool) (j : JailNow) → named moves_now (moves_now.ignored cidr add j) ≡ named moves_now j
-ignored_now_name cidr true j = refl
-ignored_now_name cidr false j = refl
+-- what commands on limits, spans and masks leave as it is
+pub record IsSteady {X : Type 0} (see : JailDef → X) : Type 0 where
+  pub limited : (findtime maxretry : ℕ) (d : JailDef) → see (record d { findtime = findtime; maxretry = maxretry }) ≡ see d
+  pub spanned : (secs : ℤ) (d : JailDef) → see (spanned secs d) ≡ see d
+  pub ignored : (cidr : Cidr) (add : Bool) (d : JailDef) → see (ignored cidr add d) ≡ see d
 
-pub moves_now_names : KeepsName moves_now
-moves_now_names = record {
+-- so do the moves on middle states
+pub keeps_now : {X : Type 0} (see : JailDef → X) → IsSteady see → Keeps moves_now see
+keeps_now see steady = record {
   found = λ at word n f j. by_test (counts at j.definition j.bans f) _
       (λ e. let k = counted_now at f j in
       rw e (by_test (is_full k.definition.findtime k.definition.maxretry f.addr k.failures) _ (λ d. rw d refl) (λ d. rw d refl)))
@@ -70,78 +86,81 @@ moves_now_names = record {
   banned = λ at word n addr j. by_test (is_banned addr j.bans) _ (λ e. rw e refl) (λ e. rw e refl);
   ended = λ addr moment j. by_test (is_banned addr j.bans) _ (λ e. rw e refl) (λ e. rw e refl);
   dropped = λ at purge j. refl;
-  limited = λ findtime maxretry j. by_test ((findtime == j.definition.findtime) && (maxretry == j.definition.maxretry)) _ (λ e. rw e refl) (λ e. rw e refl);
-  spanned = λ secs j. refl;
+  limited = λ findtime maxretry j. by_test ((findtime == j.definition.findtime) && (maxretry == j.definition.maxretry)) _ (λ e. rw e refl) (λ e. rw e (steady.limited findtime maxretry j.definition));
+  spanned = λ secs j. steady.spanned secs j.definition;
   idle = λ idle j. refl;
-  ignored = ignored_now_name;
+  ignored = λ cidr add j. steady.ignored cidr add j.definition;
   followed = λ path place j. refl;
   kept = λ d j. refl;
   fresh = λ d. refl;
 }
 
--- the names after what happened
-abbrev pub names_after : What → List (List ℕ) → List (List ℕ)
-names_after (Config defs) ns = map (λ (d : JailDef). d.name) defs.jails
-names_after _ ns = ns
+pub moves_now_names : Keeps moves_now name_of
+moves_now_names = keeps_now name_of (record { limited = λ findtime maxretry d. refl; spanned = λ secs d. refl; ignored = ignored_name })
 
-module _ {J : Type 0} (m : Moves J) (keeps : KeepsName m) where
-  pub end_all_name : (moment : Ban → ℕ) (bs : List Ban) (j : J) → named m (end_all m moment bs j) ≡ named m j
+-- what is seen of the definitions after what happened
+abbrev pub seen_after : {X : Type 0} → (JailDef → X) → What → List X → List X
+seen_after see (Config defs) xs = map see defs.jails
+seen_after see _ xs = xs
+
+module _ {J X : Type 0} (m : Moves J) {see : JailDef → X} (keeps : Keeps m see) where
+  pub end_all_name : (moment : Ban → ℕ) (bs : List Ban) (j : J) → seen m see (end_all m moment bs j) ≡ seen m see j
   end_all_name moment [] j = refl
   end_all_name moment (b ∷ bs) j = end_all_name moment bs (m.ended b.addr (moment b) j) ∙ keeps.ended b.addr (moment b) j
 
-  pub by_time_name : (at : ℕ) (j : J) → named m (ended_by_time m at j) ≡ named m j
+  pub by_time_name : (at : ℕ) (j : J) → seen m see (ended_by_time m at j) ≡ seen m see j
   by_time_name at j = end_all_name own_end (in_order ends_before (filter (is_due at) (m.active j))) j
 
-  pub each_names : (f : J → J) → ((j : J) → named m (f j) ≡ named m j) → (js : List J) → names m (map f js) ≡ names m js
+  pub each_names : (f : J → J) → ((j : J) → seen m see (f j) ≡ seen m see j) → (js : List J) → all_seen m see (map f js) ≡ all_seen m see js
   each_names f e [] = refl
   each_names f e (j ∷ js) = ap₂ (λ n ns. n ∷ ns) (e j) (each_names f e js)
 
-  pub in_jail_names : (name : List ℕ) (f : ℕ → J → Out J) → ((n : ℕ) (j : J) → named m (f n j).jail ≡ named m j) → (n : ℕ) (js : List J)
-      → names m (in_jail m name f n js).jails ≡ names m js
+  pub in_jail_names : (name : List ℕ) (f : ℕ → J → Out J) → ((n : ℕ) (j : J) → seen m see (f n j).jail ≡ seen m see j) → (n : ℕ) (js : List J)
+      → all_seen m see (in_jail m name f n js).jails ≡ all_seen m see js
   in_jail_names name f e n [] = refl
   in_jail_names name f e n (j ∷ js) =
       by_test (bytes_eq (m.definition j).name name) _
-      (λ t. rw t (ap (λ x. x ∷ names m js) (e n j)))
-      (λ t. rw t (ap (λ ns. named m j ∷ ns) (in_jail_names name f e n js)))
+      (λ t. rw t (ap (λ x. x ∷ all_seen m see js) (e n j)))
+      (λ t. rw t (ap (λ ns. seen m see j ∷ ns) (in_jail_names name f e n js)))
 
-  pub found_all_names : (word : ℕ) (name : List ℕ) (fs : List Failure) (w : World J) → names m (found_all m word name fs w).jails ≡ names m w.jails
+  pub found_all_names : (word : ℕ) (name : List ℕ) (fs : List Failure) (w : World J) → all_seen m see (found_all m word name fs w).jails ≡ all_seen m see w.jails
   found_all_names word name [] w = refl
   found_all_names word name (f ∷ fs) w =
       found_all_names word name fs (at_jail m name (λ n j. m.found w.at word n f j) w)
       ∙ in_jail_names name (λ n j. m.found w.at word n f j) (λ n j. keeps.found w.at word n f j) w.next_ban w.jails
 
-  pub ban_all_names : (word : ℕ) (name : List ℕ) (addrs : List Addr) (w : World J) → names m (ban_all m word name addrs w).jails ≡ names m w.jails
+  pub ban_all_names : (word : ℕ) (name : List ℕ) (addrs : List Addr) (w : World J) → all_seen m see (ban_all m word name addrs w).jails ≡ all_seen m see w.jails
   ban_all_names word name [] w = refl
   ban_all_names word name (addr ∷ addrs) w =
       ban_all_names word name addrs (at_jail m name (λ n j. m.banned w.at word n addr j) w)
       ∙ in_jail_names name (λ n j. m.banned w.at word n addr j) (λ n j. keeps.banned w.at word n addr j) w.next_ban w.jails
 
-  pub followed_to_names : (name path : List ℕ) (place : Place) (w : World J) → names m (followed_to m name path place w).jails ≡ names m w.jails
+  pub followed_to_names : (name path : List ℕ) (place : Place) (w : World J) → all_seen m see (followed_to m name path place w).jails ≡ all_seen m see w.jails
   followed_to_names name path place w = in_jail_names name (alone m (m.followed path place)) (λ n j. keeps.followed path place j) w.next_ban w.jails
 
-  read_all_names : (word : ℕ) (name path : List ℕ) (place : Place) (fs : List Failure) (w : World J) → names m (read_all m word name path place fs w).jails ≡ names m w.jails
+  read_all_names : (word : ℕ) (name path : List ℕ) (place : Place) (fs : List Failure) (w : World J) → all_seen m see (read_all m word name path place fs w).jails ≡ all_seen m see w.jails
   read_all_names word name path place fs w =
       by_test (is_followed m name path w) _
       (λ t. rw t (found_all_names word name fs (followed_to m name path place w) ∙ followed_to_names name path place w))
       (λ t. rw t refl)
 
-  pub configured_names : (ds : List JailDef) (js : List J) → names m (configured m ds js) ≡ map (λ (d : JailDef). d.name) ds
+  pub configured_names : (ds : List JailDef) (js : List J) → all_seen m see (configured m ds js) ≡ map see ds
   configured_names [] js = refl
   configured_names (d ∷ ds) js = ap₂ (λ n ns. n ∷ ns) (one (find_jail m d.name js)) (configured_names ds js)
     where
-      one : (o : Option J) → named m (kept_or_fresh m d o) ≡ d.name
+      one : (o : Option J) → seen m see (kept_or_fresh m d o) ≡ see d
       one None = keeps.fresh d
       one (Some j) = keeps.kept d j
 
-  alone_names : (jail : List ℕ) (f : J → J) → ((j : J) → named m (f j) ≡ named m j) → (w : World J) → names m (at_jail m jail (alone m f) w).jails ≡ names m w.jails
+  alone_names : (jail : List ℕ) (f : J → J) → ((j : J) → seen m see (f j) ≡ seen m see j) → (w : World J) → all_seen m see (at_jail m jail (alone m f) w).jails ≡ all_seen m see w.jails
   alone_names jail f e w = in_jail_names jail (alone m f) (λ n j. e j) w.next_ban w.jails
 
   pub unbanned_name : (at : ℕ) (jail : Option (List ℕ)) (addrs : Option (List Addr)) (j : J)
-      → named m (cond (is_meant_jail jail (m.definition j)) (unbanned m at addrs j) j) ≡ named m j
+      → seen m see (cond (is_meant_jail jail (m.definition j)) (unbanned m at addrs j) j) ≡ seen m see j
   unbanned_name at jail addrs j =
       by_test (is_meant_jail jail (m.definition j)) _ (λ t. rw t (end_all_name (λ b. at) (filter (is_meant addrs) (m.active j)) j)) (λ t. rw t refl)
 
-  pub done_names : (word : ℕ) (what : What) (w : World J) → names m (done m word what w).jails ≡ names_after what (names m w.jails)
+  pub done_names : (word : ℕ) (what : What) (w : World J) → all_seen m see (done m word what w).jails ≡ seen_after see what (all_seen m see w.jails)
   done_names word Tick w = refl
   done_names word (Read jail path place fs) w = read_all_names word jail path place fs w
   done_names word (BanThese jail addrs) w = ban_all_names word jail addrs w
@@ -158,19 +177,19 @@ module _ {J : Type 0} (m : Moves J) (keeps : KeepsName m) where
   done_names word (CheckFailed job outcome) w = refl
   done_names word Stop w = refl
 
-  pub at_reading_names : (secs : ℕ) (w : World J) → names m (at_reading m secs w).jails ≡ names m w.jails
+  pub at_reading_names : (secs : ℕ) (w : World J) → all_seen m see (at_reading m secs w).jails ≡ all_seen m see w.jails
   at_reading_names secs w = each_names (ended_by_time m (raised m secs w).at) (by_time_name (raised m secs w).at) w.jails
 
-  -- the names after a step
-  pub step_names : (w : World J) (input : Input) → is_spent w ≡ false → names m (step_by m w input).jails ≡ names_after input.what (names m w.jails)
+  -- what is seen after a step
+  pub step_names : (w : World J) (input : Input) → is_spent w ≡ false → all_seen m see (step_by m w input).jails ≡ seen_after see input.what (all_seen m see w.jails)
   step_names w input open_yet =
       let after = done m input.word input.what (at_reading m input.secs w) in
       rw open_yet (each_names (m.dropped after.at after.purge) (keeps.dropped after.at after.purge) after.jails
       ∙ done_names input.word input.what (at_reading m input.secs w)
-      ∙ ap (names_after input.what) (at_reading_names input.secs w))
+      ∙ ap (seen_after see input.what) (at_reading_names input.secs w))
 
 -- distinct names stay so
-pub still_distinct : (what : What) (ns : List (List ℕ)) → IsFitWhat what → AreDistinct bytes_eq ns → AreDistinct bytes_eq (names_after what ns)
+pub still_distinct : (what : What) (ns : List (List ℕ)) → IsFitWhat what → AreDistinct bytes_eq ns → AreDistinct bytes_eq (seen_after name_of what ns)
 still_distinct (Config defs) ns fit h = fit.names
 still_distinct what ns fit h = h
 

@@ -28,7 +28,7 @@ stands_fine ends job j due is = elim (cases_Bool (is_settled ends)) [
     fine (a ∷ b ∷ []) h = record { tries = omega arith; waited = omega arith; due = omega arith }
     fine (a ∷ b ∷ c ∷ later) h = absurd (both_ways (is_settled (a ∷ b ∷ c ∷ later)) h (three a b c later))
 
-stands_id : (es : List Ending) (job j : Job) → stands es job ≡ Some j → j.id ≡ job.id
+pub stands_id : (es : List Ending) (job j : Job) → stands es job ≡ Some j → j.id ≡ job.id
 stands_id es job j is = elim (cases_Bool (is_settled (endings_of job.id es))) [
   | inl h ↦ let e : None ≡ Some j = rw h at is in cc
   | inr h ↦ sym (ap (λ (x : Job). x.id) (same_Some (record job { tries = length (endings_of job.id es); due = due_after job.due (endings_of job.id es) }) j (rw h at is)))
@@ -40,7 +40,7 @@ stands_lane es job j is = elim (cases_Bool (is_settled (endings_of job.id es))) 
   | inr h ↦ sym (ap (λ (x : Job). x.lane) (same_Some (record job { tries = length (endings_of job.id es); due = due_after job.due (endings_of job.id es) }) j (rw h at is)))
 ]
 
-ArePending_from : (from more : ℕ) (jobs : List Job) (next : ℕ) → from ≤ more → ArePending more jobs next → ArePending from jobs next
+pub ArePending_from : (from more : ℕ) (jobs : List Job) (next : ℕ) → from ≤ more → ArePending more jobs next → ArePending from jobs next
 ArePending_from from more [] next le h = omega (arith, h, le)
 ArePending_from from more (job ∷ jobs) next le h = (omega (arith, h.0, le), h.1, h.2)
 
@@ -184,7 +184,7 @@ order_ended lane es e from (job ∷ jobs) next made of order = elim (head_at e.j
   )
 ]
 
-below_more : (next : ℕ) (es : List Ending) (e : Ending) → AreBelow next es → e.job < next → AreBelow next (es ++ e ∷ [])
+pub below_more : (next : ℕ) (es : List Ending) (e : Ending) → AreBelow next es → e.job < next → AreBelow next (es ++ e ∷ [])
 below_more next [] e p less = (less, tt)
 below_more next (x ∷ es) e p less = (p.0, below_more next es e p.1 less)
 

@@ -59,7 +59,7 @@ pub once_filter : (p : Ban → Bool) (bs : List Ban) → IsOnceEach bs → IsOnc
 once_filter p [] h = tt
 once_filter p (b ∷ bs) h = by_test (p b) _ (λ e. rw e (banned_filter b.addr p bs h.0, once_filter p bs h.1)) (λ e. rw e (once_filter p bs h.1))
 
-once_push : (bs : List Ban) (b : Ban) → IsOnceEach bs → is_banned b.addr bs ≡ false → IsOnceEach (bs ++ b ∷ [])
+pub once_push : (bs : List Ban) (b : Ban) → IsOnceEach bs → is_banned b.addr bs ≡ false → IsOnceEach (bs ++ b ∷ [])
 once_push [] b h e = (refl, tt)
 once_push (c ∷ cs) b h e =
     by_test (same_addr c.addr b.addr) _

@@ -14,6 +14,7 @@ use Rattle.f2b_base.specs.declared.jail.DateSpec.TheVariants.{Default}
 use Rattle.f2b_base.specs.declared.jail.JailDef.{JailDef}
 use Rattle.f2b_base.specs.declared.jail.Place.TheVariants.{Tail}
 use Rattle.f2b_base.specs.Span.{growth, plain_span, span_of}
+use Rattle.f2b_model.specs.Matches.{matches_of}
 use Rattle.f2b_model.specs.declared.happening.Happening.TheVariants.{Counts, Begins, Ends}
 use Rattle.f2b_model.specs.declared.jail_now.JailNow.{JailNow}
 use Rattle.f2b_model.specs.Full.{is_of}
@@ -168,8 +169,8 @@ none_in_the_middle_state = refl
 
 -- three failures and a ban are told in this order, and nothing of a failure of the banned address; then the ban's end
 tells_a_ban : jails_told moves start (reads 500 (fails 500 ∷ fails 100 ∷ fails 300 ∷ fails 400 ∷ []))
-    ≡ Counts (97 ∷ []) (V4 7) ∷ Counts (97 ∷ []) (V4 7) ∷ Counts (97 ∷ []) (V4 7) ∷ Begins (97 ∷ []) (ban 0 500 0 3) ∷ []
-unfolding plain_span span_of
+    ≡ Counts (97 ∷ []) (V4 7) ∷ Counts (97 ∷ []) (V4 7) ∷ Counts (97 ∷ []) (V4 7) ∷ Begins (97 ∷ []) (ban 0 500 0 3) [] ∷ []
+unfolding plain_span span_of matches_of
 tells_a_ban = refl
 
 tells_its_end : jails_told moves (jails_step start (reads 500 (fails 500 ∷ fails 100 ∷ fails 300 ∷ []))) (sends 1100 Tick) ≡ Ends (97 ∷ []) (ban 0 500 0 3) ∷ []

@@ -22,6 +22,7 @@ use Rattle.f2b_model.specs.Until.{until_after, until_of}
 use Rattle.f2b_model.specs.Lists.{in_order}
 use Rattle.f2b_model.specs.Steps.{moves, moves_now, is_due, own_end, ends_before, is_meant}
 use Rattle.f2b_model.specs.Sound.{IsSoundJail, IsGoodJail, IsNotBefore}
+use Rattle.f2b_model.proofs.ShownLemmas.{shown_shows}
 use Rattle.f2b_model.proofs.OrderlyLemmas.{orderly_later, orderly_counted, orderly_begun, orderly_dropped, orderly_fewer}
 use Rattle.f2b_model.proofs.EndLemmas.{same_addr_same, IsOrderlyJail, IsCalm, by_time_orderly, unbanned_orderly, end_all_sound}
 use Rattle.f2b_model.proofs.ListLemmas.{by_test, filter-append}
@@ -184,6 +185,7 @@ jail_shows = record {
   definition = λ j. refl;
   active = λ j. refl;
   watches = λ j. refl;
+  shown = λ at f j good e. shown_shows at f j good.sound.moment e;
   found = λ at word n f j good. found_shows at word n f j good.sound;
   banned = banned_shows;
   ended = ended_shows;

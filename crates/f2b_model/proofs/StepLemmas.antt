@@ -1,5 +1,5 @@
 -- Where each move on a jail is seen as a move on its picture, a step is seen as the step of the picture.
-use Rattle.std.proofs.Common.{◌≡◌, ℕ, ◌≤◌, max, Bool, cond, List, [], ◌∷◌, map, refl, ◌∙◌, ap, ap₂, arith, ℤ}
+use Rattle.std.proofs.Common.{◌≡◌, ℕ, ◌≤◌, max, Bool, true, cond, List, [], ◌∷◌, map, refl, ◌∙◌, ap, ap₂, arith, ℤ}
 use Rattle.std.specs.Prelude.{bytes_eq, Option, Some, None, option_map}
 use Rattle.std.specs.List.{filter}
 use Rattle.f2b_base.specs.declared.addr.Addr.{Addr}
@@ -13,7 +13,7 @@ use Rattle.f2b_base.specs.declared.input.What.{What}
 use Rattle.f2b_base.specs.declared.input.What.TheVariants.{Tick, Read, Ended, Config, Stop, Ban as BanThese, Unban, Attempt, Ignore, Findtime, Bantime, Maxretry, Idle, CheckFailed}
 use Rattle.f2b_model.specs.Lists.{AllOf, in_order}
 use Rattle.f2b_model.specs.State.{World, world_map}
-use Rattle.f2b_model.specs.Moves.{Out}
+use Rattle.f2b_model.specs.Moves.{Out, counts}
 use Rattle.f2b_model.specs.Steps.{Moves, Outs, with_outs, is_spent, is_due, own_end, ends_before, is_meant, is_meant_jail, end_all, ended_by_time, unbanned, in_jail, find_jail, kept_or_fresh, configured, at_jail, alone, watches_path, is_followed, followed_to, found_all, read_all, ban_all, done, each_jail, raised, step_by}
 use Rattle.f2b_base.specs.Limits.{last_moment}
 use Rattle.f2b_model.specs.Watches.{is_watched}
@@ -32,6 +32,7 @@ pub record Shows {J K : Type 0} (m : Moves J) (k : Moves K) (h : J → K) (Good 
   pub definition : (j : J) → k.definition (h j) ≡ m.definition j
   pub active : (j : J) → k.active (h j) ≡ m.active j
   pub watches : (j : J) → k.watches (h j) ≡ m.watches j
+  pub shown : (at : ℕ) (f : Failure) (j : J) → Good at j → counts at (m.definition j) (m.active j) f ≡ true → m.shown at f j ≡ k.shown at f (h j)
   pub found : (at word n : ℕ) (f : Failure) (j : J) → Good at j → out_map h (m.found at word n f j) ≡ k.found at word n f (h j)
   pub banned : (at word n : ℕ) (addr : Addr) (j : J) → out_map h (m.banned at word n addr j) ≡ k.banned at word n addr (h j)
   pub ended : (addr : Addr) (moment : ℕ) (j : J) → h (m.ended addr moment j) ≡ k.ended addr moment (h j)

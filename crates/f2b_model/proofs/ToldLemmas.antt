@@ -16,22 +16,22 @@ use Rattle.f2b_model.specs.Moves.{Out, counts}
 use Rattle.f2b_model.specs.Steps.{Moves, moves, moves_now, is_spent, is_due, ends_before, is_meant, is_meant_jail, ended_by_time, at_jail, is_followed, followed_to, each_jail, raised}
 use Rattle.f2b_model.specs.Sound.{IsFit, IsGoodJail, AreSoundJails}
 use Rattle.f2b_model.specs.declared.happening.Happening.{Happening}
-use Rattle.f2b_model.specs.Told.{told_each, told_new, told_found, told_banned, told_ends, told_unbanned, told_in, told_all_found, told_all_banned, told_done, jails_told}
-use Rattle.f2b_model.specs.declared.happening.Happening.TheVariants.{Counts, Begins, Ends}
+use Rattle.f2b_model.specs.Told.{begins, told_each, told_new, told_found, told_banned, told_ends, told_unbanned, told_in, told_all_found, told_all_banned, told_done, jails_told}
+use Rattle.f2b_model.specs.declared.happening.Happening.TheVariants.{Counts, Ends}
 use Rattle.f2b_model.proofs.ListLemmas.{by_test}
 use Rattle.f2b_model.proofs.StepLemmas.{Shows, out_map, GoodWorld, at_jail_shows, is_followed_shows, followed_to_shows, followed_to_good, in_good, each_shows, by_time_shows, calm_world, raised_good, ended_good}
 use Rattle.f2b_model.proofs.SoundLemmas.{jail_shows, IsCalmJail}
 
 module _ {J K : Type 0} (m : Moves J) (k : Moves K) (h : J → K) (Good Calm : ℕ → J → Type 0) (shows : Shows m k h Good Calm) where
-  told_new_shows : (j : J) (o : Out J) (p : Out K) → out_map h o ≡ p → told_new m j o.jail ≡ told_new k (h j) p.jail
-  told_new_shows j o p e =
+  told_new_shows : (lines : List ℕ) (j : J) (o : Out J) (p : Out K) → out_map h o ≡ p → told_new m lines j o.jail ≡ told_new k lines (h j) p.jail
+  told_new_shows lines j o p e =
       let d = shows.definition o.jail in
       let a = shows.active o.jail in
       let b = shows.active j in
-      let same : told_new m j o.jail ≡ told_new k (h j) (h o.jail) =
-      ap₂ (λ (x : JailDef) (bs : List Ban). map (Begins x.name) (drop (length (m.active j)) bs)) (sym d) (sym a)
-      ∙ ap (λ (bs : List Ban). map (Begins (k.definition (h o.jail)).name) (drop (length bs) (k.active (h o.jail)))) (sym b) in
-      same ∙ ap (λ (r : Out K). told_new k (h j) r.jail) e
+      let same : told_new m lines j o.jail ≡ told_new k lines (h j) (h o.jail) =
+      ap₂ (λ (x : JailDef) (bs : List Ban). map (begins lines x.name) (drop (length (m.active j)) bs)) (sym d) (sym a)
+      ∙ ap (λ (bs : List Ban). map (begins lines (k.definition (h o.jail)).name) (drop (length bs) (k.active (h o.jail)))) (sym b) in
+      same ∙ ap (λ (r : Out K). told_new k lines (h j) r.jail) e
 
   told_each_shows : (t : J → List Happening) (u : K → List Happening) → ((j : J) → t j ≡ u (h j)) → (js : List J) → told_each t js ≡ told_each u (map h js)
   told_each_shows t u e [] = refl
@@ -51,7 +51,9 @@ module _ {J K : Type 0} (m : Moves J) (k : Moves K) (h : J → K) (Good Calm : �
       ap₂ (λ (x : JailDef) (bs : List Ban). counts at x bs f) d (shows.active j) in
       by_test (counts at (m.definition j) (m.active j) f) _
       (λ q. let there = alike ∙ q in
-      rw (q, there) (ap₂ (λ (x : JailDef) (r : List Happening). Counts x.name f.addr ∷ r) (sym d) (told_new_shows j (m.found at word n f j) (k.found at word n f (h j)) (shows.found at word n f j good))))
+      rw (q, there) (ap₂ (λ (x : JailDef) (r : List Happening). Counts x.name f.addr ∷ r) (sym d)
+      (told_new_shows (m.shown at f j) j (m.found at word n f j) (k.found at word n f (h j)) (shows.found at word n f j good)
+      ∙ ap (λ (ls : List ℕ). told_new k ls (h j) (k.found at word n f (h j)).jail) (shows.shown at f j good q))))
       (λ q. let there = alike ∙ q in rw (q, there) refl)
 
   all_found_shows : (word : ℕ) (name : List ℕ) (fs : List Failure) (w : World J) → GoodWorld m k h Good Calm shows w
@@ -71,7 +73,7 @@ module _ {J K : Type 0} (m : Moves J) (k : Moves K) (h : J → K) (Good Calm : �
   all_banned_shows word name (f ∷ fs) w a =
       ap₂ (λ x y. x ++ y)
       (told_in_shows w.at name (told_banned m w.at word f w.next_ban) (told_banned k w.at word f w.next_ban)
-      (λ j good. told_new_shows j (m.banned w.at word w.next_ban f j) (k.banned w.at word w.next_ban f (h j)) (shows.banned w.at word w.next_ban f j)) w.jails a.1)
+      (λ j good. told_new_shows [] j (m.banned w.at word w.next_ban f j) (k.banned w.at word w.next_ban f (h j)) (shows.banned w.at word w.next_ban f j)) w.jails a.1)
       (all_banned_shows word name fs (at_jail m name (λ n j. m.banned w.at word n f j) w)
       (in_good m k h Good Calm shows name (λ n j. m.banned w.at word n f j) w a (λ n j. shows.good_banned w.at word n f j a.0))
       ∙ ap (told_all_banned k word name fs)

@@ -18,7 +18,7 @@ use Rattle.f2b_model.specs.Full.{is_full}
 use Rattle.f2b_model.specs.Laws.{AreWatched, IsWatched}
 use Rattle.f2b_model.specs.Lists.{AllOf, in_order}
 use Rattle.f2b_model.specs.Moves.{Out, counts, is_banned}
-use Rattle.f2b_model.specs.NowMoves.{counted_now, found_now, banned_now, ended_now, limited_now, followed_now, kept_now, fresh_now, dropped_now}
+use Rattle.f2b_model.specs.NowMoves.{counted_now, found_now, banned_now, ended_now, limited_now, followed_now, dropped_now}
 use Rattle.f2b_model.specs.Nows.{JailsNow}
 use Rattle.f2b_model.specs.Steps.{moves_now, is_spent, is_due, own_end, ends_before, is_meant, is_meant_jail, end_all, ended_by_time, unbanned, in_jail, at_jail, alone, find_jail, is_followed, followed_to, found_all, ban_all, kept_or_fresh, configured, done, at_reading, jails_step_now}
 use Rattle.f2b_model.specs.Watches.{watches_of, with_place}

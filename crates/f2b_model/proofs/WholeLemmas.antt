@@ -8,21 +8,22 @@ use Rattle.f2b_model.specs.declared.jail_now.JailNow.{JailNow}
 use Rattle.f2b_model.specs.Active.{held}
 use Rattle.f2b_model.specs.Jobs.{pending, settled, head}
 use Rattle.f2b_model.specs.LaneSound.{AreSoundLanes, is_banned_in, never}
-use Rattle.f2b_model.specs.Lanes.{books, books_now, lanes_step, lanes_now, lanes_from}
+use Rattle.f2b_model.specs.Lanes.{books, books_now, lanes_issued, lanes_step, lanes_now, lanes_from}
+use Rattle.f2b_model.specs.LanesTold.{lanes_told}
 use Rattle.f2b_model.specs.Lists.{AllOf}
 use Rattle.f2b_model.specs.Nows.{jail_now, jails_now_of, jails_from}
 use Rattle.f2b_model.specs.Orders.{Held}
 use Rattle.f2b_model.specs.Sound.{IsFit, IsSound, IsSoundFrom, IsSoundView}
 use Rattle.f2b_model.specs.Steps.{moves, moves_now, is_spent, at_reading, jails_step, jails_step_now}
 use Rattle.f2b_model.specs.Told.{jails_told}
-use Rattle.f2b_model.specs.Turns.{bans_and_unbans, Alternate, last_is_ban}
+use Rattle.f2b_model.specs.Turns.{kinds_of, Alternate, last_is_ban}
 use Rattle.f2b_model.specs.Views.{jail_view, spread, jails_of, gathered, view_of, back}
 use Rattle.f2b_model.specs.Whole.{State, Now, is_whole_spent, now_of, state_from, step, steps, step_now, steps_now, told, told_now, empty_state}
 use Rattle.f2b_model.proofs.BanStepLemmas.{ban_step, held_shows, held_back, reading_held, step_held}
 use Rattle.f2b_model.proofs.FitLemmas.{fit_for_lanes}
 use Rattle.f2b_model.proofs.LaneBackLemmas.{pending_bounds, lanes_again, back_sound as lanes_back}
 use Rattle.f2b_model.proofs.LaneLawLemmas.{alternates, settled_bans}
-use Rattle.f2b_model.proofs.LaneNowLemmas.{lanes_now_step}
+use Rattle.f2b_model.proofs.LaneNowLemmas.{lanes_now_step, lanes_told_now, ordered_below}
 use Rattle.f2b_model.proofs.LaneOrderLemmas.{sound_kept, first_sound as first_lanes_sound}
 use Rattle.f2b_model.proofs.LawLemmas.{now_step, sound_step, now_again as jails_again, back_sound as jails_back}
 use Rattle.f2b_model.proofs.ListLemmas.{by_test}
@@ -43,7 +44,7 @@ step_shows base s input fit sound =
     let mid = held moves (at_reading moves input.secs s.world) in
     let after = held moves (jails_step s.world input) in
     let tells = jails_told moves s.world input in
-    let lanes = lanes_now_step (jails_step s.world input).at input.what mid after tells s.lanes sound.lanes.jobs.below in
+    let lanes = lanes_now_step (jails_step s.world input).at input.what mid after tells s.lanes (ordered_below s.lanes sound.lanes.jobs) in
     let mid_is = reading_held s.world input fit sound.jails in
     let after_is = step_held s.world input fit sound.jails in
     let tells_is = told_by_now s.world input fit sound.jails in
@@ -76,7 +77,19 @@ whole_keeps s input fit sound = record { base = sound.base; from = step_keeps so
 
 pub whole_tells : (s : State) (input : Input) → IsFit input → IsSound s → told s input ≡ told_now (now_of s) input
 whole_tells s input fit sound =
-    by_test (is_whole_spent moves books s) _ (λ t. rw t refl) (λ t. rw t (told_by_now s.world input fit sound.from.jails))
+    by_test (is_whole_spent moves books s) _
+    (λ t. rw t refl)
+    (λ t.
+    let world = now_step s.world input fit sound.from.jails in
+    let tells = jails_told moves s.world input in
+    let tells_is = told_by_now s.world input fit sound.from.jails in
+    let lanes = lanes_told_now (jails_step s.world input).at input.what tells s.lanes (ordered_below s.lanes sound.from.lanes.jobs) in
+    let rest : lanes_told books_now (jails_step s.world input).at input.what (lanes_issued books_now (jails_step s.world input).at tells (lanes_now s.lanes))
+    ≡ lanes_told books_now (jails_step_now (jails_now_of s.world) input).at input.what
+    (lanes_issued books_now (jails_step_now (jails_now_of s.world) input).at (jails_told moves_now (jails_now_of s.world) input) (lanes_now s.lanes)) =
+    λ i. lanes_told books_now (world i).at input.what (lanes_issued books_now (world i).at (tells_is i) (lanes_now s.lanes)) in
+    let both = lanes ∙ rest in
+    rw t (λ i. record { jails = tells_is i; lanes = both i }))
 
 -- ---- many steps
 
@@ -167,12 +180,12 @@ kept_sound v input fit is =
 pub empty_sound : IsSoundFrom never empty_state
 empty_sound = record { jails = record { at = omega arith; jails = tt; names = tt }; lanes = first_lanes_sound }
 
-pub all_alternate : (inputs : List Input) → AllOf IsFit inputs → (id : LaneId) (addr : Addr) → Alternate false (bans_and_unbans id addr (steps empty_state inputs).lanes.jobs.made)
+pub all_alternate : (inputs : List Input) → AllOf IsFit inputs → (id : LaneId) (addr : Addr) → Alternate false (kinds_of id addr (steps empty_state inputs).lanes.jobs.made)
 all_alternate inputs fit id addr =
     let s = steps empty_state inputs in alternates (held moves s.world) s.lanes (steps_keep never empty_state inputs fit empty_sound).lanes id addr
 
 pub all_settled : (inputs : List Input) → AllOf IsFit inputs → (id : LaneId) (addr : Addr) → head id (pending (steps empty_state inputs).lanes.jobs) ≡ None
-    → last_is_ban false (bans_and_unbans id addr (settled (steps empty_state inputs).lanes.jobs))
+    → last_is_ban false (kinds_of id addr (settled (steps empty_state inputs).lanes.jobs))
     ≡ is_banned_in (steps empty_state inputs).lanes.up (held moves (steps empty_state inputs).world) id addr
 all_settled inputs fit id addr none =
     let s = steps empty_state inputs in settled_bans (held moves s.world) s.lanes (steps_keep never empty_state inputs fit empty_sound).lanes id addr none

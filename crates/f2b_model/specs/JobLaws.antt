@@ -9,12 +9,13 @@ use Rattle.f2b_base.specs.declared.job.Job.{Job}
 use Rattle.f2b_base.specs.declared.job.LaneId.{LaneId}
 use Rattle.f2b_base.specs.declared.job.UpLane.{UpLane}
 use Rattle.f2b_model.specs.declared.happening.Happening.{Happening}
-use Rattle.f2b_model.specs.Jobs.{Ending, Ledger, pending, settled, head, next_due, settle_in, with_jobs, with_ending, StandFor, ArePending}
+use Rattle.f2b_model.specs.Checks.{void_ids, left_by_check}
+use Rattle.f2b_model.specs.Jobs.{Ending, Ledger, pending, settled, head, next_due, settle_in, with_jobs, with_ending, StandFor, ArePending, AreById}
 use Rattle.f2b_model.specs.LaneSound.{AreApart, AreSoundLanes, IsBanStep, IsFitForLanes, IsOrdered, is_banned_in, never}
-use Rattle.f2b_model.specs.Lanes.{Lanes, books, books_now, lanes_step, first_lanes, lanes_of, lanes_now, lanes_from}
+use Rattle.f2b_model.specs.Lanes.{Lanes, books, books_now, void_all, lanes_step, first_lanes, lanes_of, lanes_now, lanes_from}
 use Rattle.f2b_model.specs.Lists.{IsIn}
 use Rattle.f2b_model.specs.Orders.{Held}
-use Rattle.f2b_model.specs.Turns.{Order, numbered, bans_and_unbans, Alternate, last_is_ban}
+use Rattle.f2b_model.specs.Turns.{Order, numbered, kinds_of, Alternate, last_is_ban}
 use Rattle.f2b_base.specs.Limits.{last_moment}
 
 -- a job may be tried: it is the first pending job of its lane, due, and not running
@@ -35,15 +36,17 @@ pub record JobLaw : Type 0 where
   pub first : AreSoundLanes never [] first_lanes
   pub sound : (base : LaneId → Addr → Bool) (at : ℕ) (what : What) (before mid after : List Held) (told : List Happening) (l : Lanes Ledger) → at ≤ last_moment → IsFitForLanes what
       → IsBanStep what before mid after told → AreSoundLanes base before l → AreSoundLanes base after (lanes_step books at what mid after told l)
-  -- over all jobs that were ever made, the Ban and Unban jobs of an address in a lane alternate, beginning with a Ban
-  pub alternate : (held : List Held) (l : Lanes Ledger) → AreSoundLanes never held l → (id : LaneId) (addr : Addr) → Alternate false (bans_and_unbans id addr l.jobs.made)
-  -- where a lane has no pending job, the addresses whose last settled job there is a Ban are the active ones of its family where it is up, and none where it is down
+  -- over all jobs that were ever made, in each epoch of a lane the Ban or Reban and the Unban jobs of an address alternate, beginning with a Ban or Reban
+  pub alternate : (held : List Held) (l : Lanes Ledger) → AreSoundLanes never held l → (id : LaneId) (addr : Addr) → Alternate false (kinds_of id addr l.jobs.made)
+  -- where a lane has no pending job, the addresses whose last settled job of its last epoch is a Ban or Reban are the active ones of its family where it is up, and none where it is down
   pub settled : (held : List Held) (l : Lanes Ledger) → AreSoundLanes never held l → (id : LaneId) (addr : Addr) → head id (pending l.jobs) ≡ None
-      → last_is_ban false (bans_and_unbans id addr (settled l.jobs)) ≡ is_banned_in l.up held id addr
+      → last_is_ban false (kinds_of id addr (settled l.jobs)) ≡ is_banned_in l.up held id addr
   -- what stands for the pending jobs does so after new jobs and after an ending, with their tries and due moments
   pub pushed : (jobs : List Job) (l : Ledger) (next at : ℕ) (os : List Order) → IsOrdered l next → StandFor jobs l
       → StandFor (jobs ++ numbered next at os) (with_jobs l (numbered next at os))
   pub ended : (jobs : List Job) (l : Ledger) (e : Ending) → StandFor jobs l → StandFor (settle_in e jobs) (with_ending l e)
+  -- a check that fails voids the jobs of its lane up to its first Stop, and leaves all others as they are
+  pub voids : (at : ℕ) (lane : LaneId) (from top : ℕ) (n : Lanes (List Job)) → AreById from n.jobs top → (void_all books_now at (void_ids lane n.jobs) n).jobs ≡ left_by_check lane n.jobs
   -- the job that is tried next is the least of those that may be
   pub next : (now : ℕ) (running : List ℕ) (jobs : List Job) (from top : ℕ) → ArePending from jobs top → IsNext now running jobs (next_due now running jobs)
   -- the step of lanes is seen in their pending jobs as its step

@@ -1,5 +1,5 @@
--- All jobs that were made and all endings of their tries, and the jobs that are pending by them.
-use Rattle.std.specs.Prelude.{ℕ, zero, suc, ◌+◌, ◌-◌, ◌==◌, ◌≡◌, ◌<◌, ◌≤◌, min, nat_le, Bool, false, not, ◌&&◌, ◌||◌, if◌then◌else◌, Option, Some, None, is_none, List, [], ◌∷◌, ◌++◌, length, map, filter, find, replicate, pos}
+-- All jobs that were made and all their endings, and the jobs that are pending by them.
+use Rattle.std.specs.Prelude.{ℕ, zero, suc, ◌+◌, ◌-◌, ◌==◌, ◌≡◌, ◌<◌, ◌≤◌, min, nat_le, Bool, true, false, not, ◌&&◌, ◌||◌, if◌then◌else◌, Option, Some, None, is_none, List, [], ◌∷◌, ◌++◌, length, map, filter, find, replicate, pos}
 use Rattle.std.specs.List.{filter_map, list_any, flat_map}
 use Rattle.std.specs.Ordering.{int_eq}
 use Rattle.f2b_base.specs.declared.job.Job.{Job}
@@ -13,9 +13,10 @@ use Rattle.f2b_base.specs.Limits.{last_moment}
 
 -- ---- jobs and their endings
 
--- how a job came nearer to being settled: a try of it ended
+-- how a job came nearer to being settled: a try of it ended, or it was voided, since the check of its lane failed
 pub data How : Type 0 where
   Tried : Outcome → How
+  Voided : How
 
 -- an ending of a job, and the moment of it
 pub record Ending : Type 0 where
@@ -34,9 +35,10 @@ is_success (Status status) = int_eq status (pos 0)
 is_success NotStarted = false
 is_success TimedOut = false
 
--- how a job is settled at once: by a try that succeeds
+-- how a job is settled at once: by a try that succeeds, or as it is voided
 abbrev pub settles_how : How → Bool
 settles_how (Tried outcome) = is_success outcome
+settles_how Voided = true
 
 -- an ending that settles its job by itself
 abbrev pub settles : Ending → Bool
@@ -127,6 +129,11 @@ abbrev pub AllIdsBelow : ℕ → List Job → Type 0
 AllIdsBelow next [] = Unit {0}
 AllIdsBelow next (job ∷ jobs) = (job.id < next) × AllIdsBelow next jobs
 
+-- the ids rise, from a number on and below another
+abbrev pub AreById : ℕ → List Job → ℕ → Type 0
+AreById from [] next = from ≤ next
+AreById from (job ∷ jobs) next = (from ≤ job.id) × AreById (job.id + 1) jobs next
+
 -- ---- what an ending does to pending jobs
 
 -- how many seconds a job waits after a failed try, by the failed tries before it
@@ -134,7 +141,7 @@ abbrev pub wait_after : ℕ → ℕ
 wait_after zero = 2
 wait_after (suc tries) = 4
 
--- what the ending does to its job
+-- what the ending does to its job: one that is voided is done with
 abbrev pub settled_as : Ending → Job → Settled
 settled_as e job = if settles e then Done else (if nat_le 2 job.tries then GivenUp else Again (capped (e.at + wait_after job.tries)))
 

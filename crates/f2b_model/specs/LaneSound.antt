@@ -44,7 +44,7 @@ pub record IsHeldOnce (held : List Held) : Type 0 where
 -- the address is not banned, and ends where it is.
 abbrev pub follow_one : List ℕ → Addr → Bool → Happening → Option Bool
 follow_one jail addr b (Counts of a) = Some b
-follow_one jail addr b (Begins of ban) = if is_held_of jail addr (record { jail = of; ban = ban }) then turn Ban b else Some b
+follow_one jail addr b (Begins of ban matches) = if is_held_of jail addr (record { jail = of; ban = ban }) then turn Ban b else Some b
 follow_one jail addr b (Ends of ban) = if is_held_of jail addr (record { jail = of; ban = ban }) then turn Unban b else Some b
 
 -- the same after all that was told

@@ -1,18 +1,20 @@
 -- The lanes of a server and their jobs, and what a step of the server makes of them.
-use Rattle.std.specs.Prelude.{ℕ, ◌+◌, Bool, true, false, not, if◌then◌else◌, List, [], ◌∷◌, ◌++◌, length, map, filter}
+use Rattle.std.specs.Prelude.{ℕ, ◌+◌, Bool, true, false, not, if◌then◌else◌, List, [], ◌∷◌, ◌++◌, length, map, filter, Option, Some, None}
 use Rattle.std.specs.List.{list_any, flat_map}
 use Rattle.f2b_base.specs.declared.input.What.{What}
-use Rattle.f2b_base.specs.declared.input.What.TheVariants.{Ended, Config, Stop}
+use Rattle.f2b_base.specs.declared.input.What.TheVariants.{Ended, Config, Stop, CheckFailed}
 use Rattle.f2b_base.specs.declared.jail.ActionDef.{ActionDef}
 use Rattle.f2b_base.specs.declared.jail.Defs.{Defs}
 use Rattle.f2b_base.specs.declared.jail.JailDef.{JailDef}
 use Rattle.f2b_base.specs.declared.job.Job.{Job}
+use Rattle.f2b_base.specs.declared.job.LaneId.{LaneId}
 use Rattle.f2b_base.specs.declared.job.Outcome.{Outcome}
 use Rattle.f2b_base.specs.declared.job.UpLane.{UpLane}
 use Rattle.f2b_model.specs.declared.happening.Happening.{Happening}
 use Rattle.f2b_model.specs.Families.{same_up}
+use Rattle.f2b_model.specs.Checks.{is_closing, lane_of, checked_lane, void_ids, voided_at}
 use Rattle.f2b_model.specs.Jobs.{Ending, Tried, Ledger, with_jobs, with_ending, pending, is_head_id, settle_in, back_from}
-use Rattle.f2b_model.specs.Orders.{Held, lane_id, is_lane, is_up, down_orders, up_orders, told_orders}
+use Rattle.f2b_model.specs.Orders.{Held, lane_id, is_lane, is_up, down_orders, up_orders, restart_orders, told_orders}
 use Rattle.f2b_model.specs.Turns.{Order, numbered}
 
 -- the lanes that are up, in order of coming up; whether a stop was asked for; the jobs; and the id of the job to come
@@ -76,6 +78,32 @@ module _ {L : Type 0} (b : Books L) where
   try_ended at job outcome l =
       if is_head_id job (b.pending l.jobs) then record l { jobs = b.settle l.jobs (record { job = job; how = Tried outcome; at = at }) } else l
 
+  -- these jobs are voided, one after the other
+  abbrev pub void_all : ℕ → List ℕ → Lanes L → Lanes L
+  void_all at [] l = l
+  void_all at (id ∷ ids) l = void_all at ids (record l { jobs = b.settle l.jobs (voided_at id at) })
+
+  -- a lane starts anew where it is up, and these are its bans
+  abbrev pub restarted : ℕ → List Held → Option UpLane → Lanes L → Lanes L
+  restarted at held None l = l
+  restarted at held (Some lane) l = issue at (restart_orders lane held) l
+
+  -- The check of a lane failed: its jobs are voided up to its first Stop, and where it has none it starts anew.
+  abbrev pub lane_failed : ℕ → List Held → LaneId → Lanes L → Lanes L
+  lane_failed at held lane l =
+      let jobs = b.pending l.jobs in
+      let left = void_all at (void_ids lane jobs) l in
+      if is_closing lane jobs then left else restarted at held (lane_of lane l.up) left
+
+  -- the same of the lane of a job that was checked, if it was
+  abbrev pub failed_in : ℕ → List Held → Option LaneId → Lanes L → Lanes L
+  failed_in at held None l = l
+  failed_in at held (Some lane) l = lane_failed at held lane l
+
+  -- the check of a job failed: it counts where the job is a Ban or an Unban and the first of its lane
+  abbrev pub check_failed : ℕ → List Held → ℕ → Lanes L → Lanes L
+  check_failed at held job l = failed_in at held (checked_lane job (b.pending l.jobs)) l
+
   -- a stop: each lane goes down
   abbrev pub stopped : ℕ → List Held → Lanes L → Lanes L
   stopped at held l = record (all_down at held l.up l) { stopping = true }
@@ -97,12 +125,17 @@ module _ {L : Type 0} (b : Books L) where
   lanes_done at (Ended job outcome) mid after l = try_ended at job outcome l
   lanes_done at Stop mid after l = stopped at mid l
   lanes_done at (Config defs) mid after l = lanes_configured at mid after (lanes_of defs) l
+  lanes_done at (CheckFailed job outcome) mid after l = check_failed at after job l
   lanes_done at _ mid after l = l
 
-  -- The step: what the jails tell becomes jobs of the lanes that are up, then what happened is done. `mid` are the active bans at
-  -- the reading, once those that were due have ended, and `after` those after the step.
+  -- what the jails tell becomes jobs of the lanes that are up
+  abbrev pub lanes_issued : ℕ → List Happening → Lanes L → Lanes L
+  lanes_issued at told l = issue at (told_orders l.up told) l
+
+  -- The step: what the jails tell becomes jobs, then what happened is done. `mid` are the active bans at the reading, once those that
+  -- were due have ended, and `after` those after the step.
   abbrev pub lanes_step : ℕ → What → List Held → List Held → List Happening → Lanes L → Lanes L
-  lanes_step at what mid after told l = lanes_done at what mid after (issue at (told_orders l.up told) l)
+  lanes_step at what mid after told l = lanes_done at what mid after (lanes_issued at told l)
 
 -- the lanes before any configuration, over all jobs
 abbrev pub first_lanes : Lanes Ledger

@@ -1,5 +1,5 @@
 -- What is proved of the model.
-use Rattle.std.specs.Prelude.{◌≡◌, ℕ, ◌+◌, ◌-◌, ◌*◌, ◌<◌, ◌≤◌, ◌↔◌, true, false, List, [], ◌∷◌, ◌++◌, length, filter, map, None}
+use Rattle.std.specs.Prelude.{◌≡◌, ℕ, ◌+◌, ◌-◌, ◌*◌, ◌<◌, ◌≤◌, ◌↔◌, true, false, List, [], ◌∷◌, ◌++◌, length, filter, map, None, is_some}
 use Rattle.f2b_base.specs.declared.addr.Addr.{Addr}
 use Rattle.f2b_base.specs.declared.ban.Failure.{Failure}
 use Rattle.f2b_base.specs.declared.input.Input.{Input}
@@ -9,21 +9,24 @@ use Rattle.f2b_base.specs.declared.view.WatchView.{WatchView}
 use Rattle.f2b_base.specs.declared.job.LaneId.{LaneId}
 use Rattle.f2b_base.specs.declared.view.View.{View}
 use Rattle.f2b_model.specs.declared.jail_now.JailNow.{JailNow}
+use Rattle.f2b_base.specs.Limits.{last_moment}
 use Rattle.f2b_model.specs.Lists.{AllOf, placed}
 use Rattle.f2b_model.specs.Full.{IsFull, IsFullByChoice, is_full, is_late}
 use Rattle.f2b_model.specs.State.{JailsState}
 use Rattle.f2b_model.specs.Nows.{comes_before, JailsNow, jails_now_of, jails_from}
 use Rattle.f2b_model.specs.Steps.{moves, moves_now, is_spent, at_reading, jails_step, jails_steps, jails_step_now, first_jails, first_jails_now}
 use Rattle.f2b_model.specs.Sound.{AreFitDefs, IsFit, IsNumbered, IsSound, IsSoundView, AreSoundJails}
+use Rattle.f2b_model.specs.Starts.{IsStartsLaw}
 use Rattle.f2b_model.specs.Stands.{StandsFor, IsShown}
+use Rattle.f2b_model.specs.Storable.{most_numbers, IsStorable, IsStorableJail, IsStorableInput}
 use Rattle.f2b_model.specs.Told.{jails_told}
 use Rattle.f2b_model.specs.Active.{held}
 use Rattle.f2b_model.specs.LaneSound.{IsBanStep, is_banned_in}
-use Rattle.f2b_model.specs.Jobs.{pending, settled, head}
-use Rattle.f2b_model.specs.Turns.{bans_and_unbans, Alternate, last_is_ban}
+use Rattle.f2b_model.specs.Jobs.{AreById, pending, settled, head, is_head_id, job_by_id}
+use Rattle.f2b_model.specs.Turns.{kinds_of, Alternate, last_is_ban}
 use Rattle.f2b_model.specs.Views.{spread, gathered, view_of, back, empty_view}
 use Rattle.f2b_model.specs.Whole.{State, Now, now_of, step, steps, step_now, told, told_now, empty_state}
-use Rattle.f2b_model.specs.Windows.{IsRising, IsFullBy, HasRun}
+use Rattle.f2b_model.specs.Windows.{IsRising, IsFullBy, HasRun, times_of}
 
 -- in each jail the serials of the active bans rise, and all are below the next one
 abbrev pub AreNumbered : JailsNow → Type 0
@@ -57,6 +60,8 @@ pub record JailsLaw : Type 0 where
   -- bans stay numbered, and paths watched
   pub numbered : (n : JailsNow) (input : Input) → AreNumbered n → AreNumbered (jails_step_now n input)
   pub watched : (n : JailsNow) (input : Input) → AreWatched n → AreWatched (jails_step_now n input)
+  -- what is stored of jails stays within its bounds
+  pub stored : (n : JailsNow) (input : Input) → n.at ≤ last_moment → IsStorableInput input → AllOf IsStorableJail n.jails → AllOf IsStorableJail (jails_step_now n input).jails
 
 pub record FullLaw : Type 0 where
   -- full by choice is full by spans, and the test decides it
@@ -66,6 +71,8 @@ pub record FullLaw : Type 0 where
   pub neighbours : (findtime maxretry : ℕ) (ts : List ℕ) → IsRising ts → 1 ≤ maxretry → IsFullBy findtime maxretry ts ↔ HasRun findtime maxretry ts
   pub short : (findtime maxretry now : ℕ) (ts : List ℕ) → 1 ≤ maxretry → (IsFullBy findtime maxretry ts → ⊥)
       → AllOf (λ t. (t ≤ now) × (now < t + 2 * findtime)) ts → length ts ≤ 2 * maxretry - 2
+  -- so the three forms are one: an address is full exactly where of its failures, in order of time, some `maxretry` side by side are close
+  pub joined : (findtime maxretry : ℕ) (addr : Addr) (fs : List Failure) → 1 ≤ maxretry → IsFull findtime maxretry addr fs ↔ HasRun findtime maxretry (times_of addr fs)
   -- a window stands for all failures since it began, and is full where they are
   pub added : (last now findtime : ℕ) (kept whole : List Failure) (f : Failure) → StandsFor last findtime kept whole → last ≤ now → now < f.time + findtime
       → StandsFor now findtime (filter (is_late now findtime) (placed comes_before f kept)) (whole ++ f ∷ [])
@@ -94,9 +101,19 @@ pub record WholeLaw : Type 0 where
   pub kept_sound : (v : View) (input : Input) → IsFit input → IsSoundView v → IsSoundView (spread (step_now (gathered v) input))
   -- what a step tells depends on the view alone
   pub told_alike : (s t : State) (input : Input) → IsFit input → IsSound s → IsSound t → view_of s ≡ view_of t → told s input ≡ told t input
-  -- over all jobs that were ever made, the bans and unbans of an address in a lane alternate, beginning with a ban
-  pub alternate : (inputs : List Input) → AllOf IsFit inputs → (id : LaneId) (addr : Addr) → Alternate false (bans_and_unbans id addr (steps empty_state inputs).lanes.jobs.made)
-  -- where a lane has no pending job, the addresses whose last settled job is a ban are the active ones of its family where it is up, and none where it is down
+  -- over all jobs that were ever made, in each epoch of a lane bans and unbans of an address alternate, beginning with a ban or a ban once more
+  pub alternate : (inputs : List Input) → AllOf IsFit inputs → (id : LaneId) (addr : Addr) → Alternate false (kinds_of id addr (steps empty_state inputs).lanes.jobs.made)
+  -- where a lane has no pending job, the addresses whose last settled job of its last epoch bans are the active ones of its family where it is up, and none where it is down
   pub settled : (inputs : List Input) → AllOf IsFit inputs → (id : LaneId) (addr : Addr) → head id (pending (steps empty_state inputs).lanes.jobs) ≡ None
-      → last_is_ban false (bans_and_unbans id addr (settled (steps empty_state inputs).lanes.jobs))
+      → last_is_ban false (kinds_of id addr (settled (steps empty_state inputs).lanes.jobs))
       ≡ is_banned_in (steps empty_state inputs).lanes.up (held moves (steps empty_state inputs).world) id addr
+  -- starts that fail come to an end: each leaves fewer tries or fewer checks
+  pub starts : IsStartsLaw
+  -- the first job of its lane stays so through each step after which it is pending, that is, until it is settled or voided: so a child of it may run on
+  pub stays_first : (n : Now) (input : Input) (id : ℕ) → AreById 0 n.lanes.jobs n.lanes.next_job → is_head_id id n.lanes.jobs ≡ true → is_some (job_by_id id (step_now n input).lanes.jobs) ≡ true
+      → is_head_id id (step_now n input).lanes.jobs ≡ true
+  -- an input that can be stored is fit, and the empty state can be stored
+  pub stored_fits : (input : Input) → IsStorableInput input → IsFit input
+  pub stored_first : IsStorable (now_of empty_state)
+  -- what is stored stays within its bounds, where there is an id for each job that the step makes
+  pub stored : (n : Now) (input : Input) → IsStorableInput input → (step_now n input).lanes.next_job ≤ most_numbers → IsStorable n → IsStorable (step_now n input)

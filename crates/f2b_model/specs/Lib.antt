@@ -1,6 +1,8 @@
 pub mod Lists
 pub mod Full
 pub mod Until
+pub mod Escapes
+pub mod Matches
 pub mod Watches
 pub mod State
 pub mod Nows
@@ -17,10 +19,14 @@ pub mod Jobs
 pub mod Turns
 pub mod Render
 pub mod Orders
+pub mod Checks
 pub mod Lanes
+pub mod LanesTold
 pub mod LaneSound
 pub mod Active
 pub mod Whole
+pub mod Starts
+pub mod Storable
 pub mod Views
 pub mod JobLaws
 pub mod RenderLaws

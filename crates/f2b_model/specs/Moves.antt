@@ -10,6 +10,8 @@ use Rattle.f2b_base.specs.declared.jail.Place.{Place}
 use Rattle.f2b_base.specs.declared.ban.Past.{Past}
 use Rattle.f2b_base.specs.Addresses.{same_addr}
 use Rattle.f2b_model.specs.Full.{is_of, is_full}
+use Rattle.f2b_model.specs.Lists.{in_order}
+use Rattle.f2b_model.specs.Matches.{matches_of}
 use Rattle.f2b_model.specs.Until.{until_of}
 use Rattle.f2b_model.specs.Watches.{watches_of, with_place}
 use Rattle.f2b_model.specs.State.{Jail, open_of, active_of, kept_of, forget, stop, drop_ends}
@@ -62,6 +64,14 @@ counted at f j = record j {
   moment = at;
   failures = j.failures ++ record { failure = f; is_open = true } ∷ [];
 }
+
+-- by time
+abbrev pub earlier : Failure → Failure → Bool
+earlier f g = nat_lt f.time g.time
+
+-- what the ban shows that a found failure begins: the lines of the failures that led to it, by time
+abbrev pub shown : ℕ → Failure → Jail → List ℕ
+shown at f j = matches_of j.definition.maxmatches (in_order earlier (filter (is_near j.definition.findtime f) (open_of (counted at f j).failures)))
 
 -- the ban that begins now
 abbrev pub new_ban : JailDef → List Past → ℕ → ℕ → ℕ → Addr → ℕ → Ban

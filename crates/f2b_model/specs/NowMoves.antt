@@ -5,6 +5,7 @@ use Rattle.f2b_base.specs.declared.ban.Failure.{Failure}
 use Rattle.f2b_base.specs.declared.jail.JailDef.{JailDef}
 use Rattle.f2b_base.specs.declared.jail.Place.{Place}
 use Rattle.f2b_model.specs.Lists.{placed}
+use Rattle.f2b_model.specs.Matches.{matches_of}
 use Rattle.f2b_model.specs.Full.{is_of, is_full, is_late}
 use Rattle.f2b_model.specs.Watches.{watches_of, with_place}
 use Rattle.f2b_model.specs.declared.jail_now.JailNow.{JailNow}
@@ -18,6 +19,10 @@ counted_now at f j = record j {
   moment = at;
   failures = filter (is_late at j.definition.findtime) (placed comes_before f j.failures);
 }
+
+-- what the ban shows that a found failure begins: the lines of the failures that led to it, which stand by time
+abbrev pub shown_now : ℕ → Failure → JailNow → List ℕ
+shown_now at f j = matches_of j.definition.maxmatches (filter (is_near j.definition.findtime f) (counted_now at f j).failures)
 
 -- a ban begins, and the address's failures go
 abbrev pub begun_now : ℕ → ℕ → ℕ → Addr → ℕ → JailNow → JailNow

@@ -1,5 +1,5 @@
 -- The jobs that bans and lanes order: which lanes take a ban, and what is ordered when a ban begins or ends, and when a lane goes
--- down or comes up.
+-- down, comes up or starts anew.
 use Rattle.std.specs.Prelude.{ℕ, ◌-◌, Bool, ◌&&◌, Option, Some, None, List, [], ◌∷◌, ◌++◌, map, filter, ℤ, pos, negsuc, bytes_eq}
 use Rattle.std.specs.List.{list_any}
 use Rattle.f2b_base.specs.declared.addr.Addr.{Addr}
@@ -84,7 +84,7 @@ abbrev pub lasting : ℕ → Until → ℤ
 lasting begin Never = negsuc 0
 lasting begin (At end) = pos (end - begin)
 
--- the values of a ban's job, and of a Start or Stop of a lane of a family
+-- the values of a ban's job, and of a Start, a Stop or a check of a lane of a family; no lines are shown
 abbrev pub fill_of : Family → Option Held → Fill
 fill_of family None = record { ip = None; family = shown_family family; failures = 0; time = 0; bantime = pos 0; bancount = 0; matches = [] }
 fill_of family (Some h) = record {
@@ -97,21 +97,25 @@ fill_of family (Some h) = record {
   matches = [];
 }
 
--- a job of that kind for the lane, of a ban or of none
-abbrev pub order : JobKind → Option Held → UpLane → Order
-order kind of lane = record {
+-- a job of that kind for the lane, of a ban or of none, whose command shows these lines
+abbrev pub order_showing : List ℕ → JobKind → Option Held → UpLane → Order
+order_showing lines kind of lane = record {
   lane = lane_id lane;
   kind = kind;
   addr = addr_in of;
-  text = rendered (template kind lane.action) (fill_of lane.action.family of);
+  text = rendered (template kind lane.action) (record (fill_of lane.action.family of) { matches = lines });
   timeout = lane.action.timeout;
 }
 
+-- one that shows no lines
+abbrev pub order : JobKind → Option Held → UpLane → Order
+order kind of lane = order_showing [] kind of lane
+
 -- ---- what is ordered
 
--- one job for each lane that takes the ban, in order of coming up
-abbrev pub ban_orders : JobKind → Held → List UpLane → List Order
-ban_orders kind h up = map (order kind (Some h)) (filter (λ lane. takes lane h) up)
+-- one job for each lane that takes the ban, in order of coming up, whose command shows these lines
+abbrev pub ban_orders : List ℕ → JobKind → Held → List UpLane → List Order
+ban_orders lines kind h up = map (order_showing lines kind (Some h)) (filter (λ lane. takes lane h) up)
 
 -- one job for each ban that the lane takes
 abbrev pub lane_orders : JobKind → UpLane → List Held → List Order
@@ -125,9 +129,13 @@ down_orders lane held = lane_orders Unban lane held ++ order Stop None lane ∷ 
 abbrev pub up_orders : UpLane → List Held → List Order
 up_orders lane held = order Start None lane ∷ lane_orders Ban lane held
 
--- Ban jobs as bans begin, Unban jobs as bans end
+-- a lane starts anew: it stops and starts, then takes its bans again
+abbrev pub restart_orders : UpLane → List Held → List Order
+restart_orders lane held = order Stop None lane ∷ order Start None lane ∷ lane_orders Reban lane held
+
+-- Ban jobs as bans begin, which show the lines of the failures that led to them, and Unban jobs as bans end
 abbrev pub told_orders : List UpLane → List Happening → List Order
 told_orders up [] = []
 told_orders up (Counts jail addr ∷ told) = told_orders up told
-told_orders up (Begins jail ban ∷ told) = ban_orders Ban (record { jail = jail; ban = ban }) up ++ told_orders up told
-told_orders up (Ends jail ban ∷ told) = ban_orders Unban (record { jail = jail; ban = ban }) up ++ told_orders up told
+told_orders up (Begins jail ban matches ∷ told) = ban_orders matches Ban (record { jail = jail; ban = ban }) up ++ told_orders up told
+told_orders up (Ends jail ban ∷ told) = ban_orders [] Unban (record { jail = jail; ban = ban }) up ++ told_orders up told

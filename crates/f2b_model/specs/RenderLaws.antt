@@ -1,8 +1,13 @@
 -- What is proved of commands: which parts of a template are tags, and what becomes of all others.
-use Rattle.std.specs.Prelude.{◌≡◌, ℕ, ◌==◌, true, false, List, ◌∷◌, ◌++◌, Some, None}
-use Rattle.std.specs.List.{list_any}
+use Rattle.std.specs.Prelude.{◌≡◌, ℕ, ◌≤◌, ◌==◌, true, false, List, ◌∷◌, ◌++◌, length, Some, None}
+use Rattle.std.specs.List.{list_all, list_any}
+use Rattle.std.specs.Str.{IsUtf8}
+use Rattle.f2b_base.specs.declared.ban.Failure.{Failure}
 use Rattle.f2b_model.specs.declared.fill.Fill.{Fill}
-use Rattle.f2b_model.specs.Render.{value_of, opens_group, rendered}
+use Rattle.f2b_model.specs.Escapes.{is_safe}
+use Rattle.f2b_model.specs.Lists.{AllOf}
+use Rattle.f2b_model.specs.Matches.{matches_bytes, matches_of}
+use Rattle.f2b_model.specs.Render.{values, value_of, opens_group, rendered}
 
 -- no byte of the text is this one
 abbrev pub IsWithout : ℕ → List ℕ → Type 0
@@ -22,3 +27,8 @@ pub record RenderLaw : Type 0 where
   -- any other `<` stays
   pub group : (before rest : List ℕ) (f : Fill) → IsWithout 60 before → opens_group before ≡ true → rendered (before ++ 60 ∷ rest) f ≡ before ++ 60 ∷ rendered rest f
   pub other : (before rest : List ℕ) (f : Fill) → IsWithout 60 before → BeginsNoTag f rest → rendered (before ++ 60 ∷ rest) f ≡ before ++ 60 ∷ rendered rest f
+  -- a command is a text where its template and the values of its tags are
+  pub utf8 : (template : List ℕ) (f : Fill) → IsUtf8 template → AllOf (λ (entry : List ℕ × List ℕ). IsUtf8 entry.1) (values f) → IsUtf8 (rendered template f)
+  -- what a ban shows has at most 8,192 bytes, each of which means nothing to a shell
+  pub short : (maxmatches : ℕ) (fs : List Failure) → length (matches_of maxmatches fs) ≤ matches_bytes
+  pub safe : (maxmatches : ℕ) (fs : List Failure) → list_all is_safe (matches_of maxmatches fs) ≡ true

@@ -21,7 +21,7 @@ pub record Ended : Type 0 where
   pub past : Past
   pub is_kept : Bool
 
--- a jail, with all that ever happened in it
+-- a jail, with all that happened in it since it was added
 pub record Jail : Type 0 where
   pub definition : JailDef
   pub idle : Bool

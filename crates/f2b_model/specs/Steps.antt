@@ -20,14 +20,16 @@ use Rattle.f2b_model.specs.Watches.{is_watched}
 use Rattle.f2b_model.specs.State.{Jail, World, JailsState, active_of}
 use Rattle.f2b_model.specs.declared.jail_now.JailNow.{JailNow}
 use Rattle.f2b_model.specs.Nows.{JailsNow}
-use Rattle.f2b_model.specs.Moves.{Out, found, banned, ended, dropped, limited, spanned, ignored, followed, kept, fresh}
-use Rattle.f2b_model.specs.NowMoves.{found_now, banned_now, ended_now, dropped_now, limited_now, followed_now, kept_now, fresh_now}
+use Rattle.f2b_model.specs.Moves.{Out, shown, found, banned, ended, dropped, limited, spanned, ignored, followed, kept, fresh}
+use Rattle.f2b_model.specs.NowMoves.{shown_now, found_now, banned_now, ended_now, dropped_now, limited_now, followed_now, kept_now, fresh_now}
 
 -- the moves on one kind of jail
 pub record Moves (J : Type 0) : Type 0 where
   pub definition : J → JailDef
   pub active : J → List Ban
   pub watches : J → List WatchView
+  -- at: the lines of the ban that a found failure begins
+  pub shown : ℕ → Failure → J → List ℕ
   -- at, word, next serial
   pub found : ℕ → ℕ → ℕ → Failure → J → Out J
   pub banned : ℕ → ℕ → ℕ → Addr → J → Out J
@@ -52,6 +54,7 @@ moves = record {
   definition = λ j. j.definition;
   active = λ j. active_of j.bans;
   watches = λ j. j.watches;
+  shown = shown;
   found = found;
   banned = banned;
   ended = ended;
@@ -71,6 +74,7 @@ moves_now = record {
   definition = λ j. j.definition;
   active = λ j. j.bans;
   watches = λ j. j.watches;
+  shown = shown_now;
   found = found_now;
   banned = banned_now;
   ended = ended_now;

@@ -1,6 +1,7 @@
--- What a step tells, in its order: failures that count, bans that begin and bans that end. Lines and jobs are made of it.
+-- What a step tells of the jails, in its order: failures that count, bans that begin and bans that end. Lines and jobs are made of it.
 use Rattle.std.specs.Prelude.{ℕ, max, cond, List, [], ◌∷◌, ◌++◌, length, drop, filter, map, bytes_eq, Option}
 use Rattle.f2b_base.specs.declared.addr.Addr.{Addr}
+use Rattle.f2b_base.specs.declared.ban.Ban.{Ban}
 use Rattle.f2b_base.specs.declared.ban.Failure.{Failure}
 use Rattle.f2b_base.specs.declared.input.Input.{Input}
 use Rattle.f2b_base.specs.declared.input.What.{What}
@@ -17,18 +18,22 @@ abbrev pub told_each : {J : Type 0} → (J → List Happening) → List J → Li
 told_each t [] = []
 told_each t (j ∷ js) = t j ++ told_each t js
 
+-- a ban began in the jail of a name, which shows these lines
+abbrev pub begins : List ℕ → List ℕ → Ban → Happening
+begins lines name ban = Begins name ban lines
+
 module _ {J : Type 0} (m : Moves J) where
-  -- the bans that began in a move: those behind the ones that were active before
-  abbrev pub told_new : J → J → List Happening
-  told_new old new = map (Begins (named m new)) (drop (length (m.active old)) (m.active new))
+  -- the bans that began in a move, which show these lines: those behind the ones that were active before
+  abbrev pub told_new : List ℕ → J → J → List Happening
+  told_new lines old new = map (begins lines (named m new)) (drop (length (m.active old)) (m.active new))
 
   -- a found failure tells where it counts, and then the ban that began
   abbrev pub told_found : ℕ → ℕ → Failure → ℕ → J → List Happening
-  told_found at word f n j = cond (counts at (m.definition j) (m.active j) f) (Counts (named m j) f.addr ∷ told_new j (m.found at word n f j).jail) []
+  told_found at word f n j = cond (counts at (m.definition j) (m.active j) f) (Counts (named m j) f.addr ∷ told_new (m.shown at f j) j (m.found at word n f j).jail) []
 
-  -- a ban by command
+  -- a ban by command, which shows no lines
   abbrev pub told_banned : ℕ → ℕ → Addr → ℕ → J → List Happening
-  told_banned at word addr n j = told_new j (m.banned at word n addr j).jail
+  told_banned at word addr n j = told_new [] j (m.banned at word n addr j).jail
 
   -- the bans that end by time, by end and serial
   abbrev pub told_ends : ℕ → J → List Happening

@@ -36,7 +36,7 @@ abbrev pub touches : LaneId → Addr → Order → Bool
 touches lane addr o = same_lane o.lane lane && concerns o.addr addr
 
 -- whether the address is banned in the lane after a job of that kind, or none where such a job may not come: Ban and Reban come
--- where the address is not banned, Unban where it is, Start and Stop where it is not
+-- where the address is not banned, Unban where it is, Start where it is not; a Stop leaves nobody banned
 abbrev pub turn : JobKind → Bool → Option Bool
 turn Ban false = Some true
 turn Ban true = None
@@ -47,42 +47,33 @@ turn Unban false = None
 turn Start false = Some false
 turn Start true = None
 turn Stop false = Some false
-turn Stop true = None
+turn Stop true = Some false
 
 -- whether the address is banned in the lane after these orders, where `b` says whether it was so before
 abbrev pub follow : LaneId → Addr → Bool → List Order → Option Bool
 follow lane addr b [] = Some b
 follow lane addr b (o ∷ os) = if touches lane addr o then option_and_then (λ c. follow lane addr c os) (turn o.kind b) else follow lane addr b os
 
--- whether a job bans or takes a ban back
-abbrev pub is_ban_or_unban : JobKind → Bool
-is_ban_or_unban Ban = true
-is_ban_or_unban Reban = true
-is_ban_or_unban Unban = true
-is_ban_or_unban Start = false
-is_ban_or_unban Stop = false
+-- the kinds of the jobs of a lane that are of an address or, as Start and Stop, of each, in order
+abbrev pub kinds_of : LaneId → Addr → List Job → List JobKind
+kinds_of lane addr jobs = map (λ job. job.kind) (filter (λ job. touches lane addr (order_of job)) jobs)
 
--- the Ban, Reban and Unban jobs of an address in a lane, in order
-abbrev pub bans_and_unbans : LaneId → Addr → List Job → List JobKind
-bans_and_unbans lane addr jobs = map (λ job. job.kind) (filter (λ job. touches lane addr (order_of job) && is_ban_or_unban job.kind) jobs)
-
--- Ban or Reban and Unban in turn, beginning with Ban or Reban where the address is not banned before
+-- In each epoch, which a Start begins and a Stop ends, Ban or Reban and Unban in turn, beginning with Ban or Reban. The flag says
+-- whether the address is banned before.
 abbrev pub Alternate : Bool → List JobKind → Type 0
 Alternate b [] = Unit {0}
+Alternate b (Start ∷ kinds) = Alternate false kinds
+Alternate b (Stop ∷ kinds) = Alternate false kinds
 Alternate false (Ban ∷ kinds) = Alternate true kinds
 Alternate false (Reban ∷ kinds) = Alternate true kinds
 Alternate true (Unban ∷ kinds) = Alternate false kinds
 Alternate _ _ = ⊥
 
--- whether a job bans
-abbrev pub is_ban : JobKind → Bool
-is_ban Ban = true
-is_ban Reban = true
-is_ban Unban = false
-is_ban Start = false
-is_ban Stop = false
-
--- whether the last one bans, or what was before where there is none
+-- whether the last one of the last epoch is a Ban or Reban, or what was before where there was no epoch and none
 abbrev pub last_is_ban : Bool → List JobKind → Bool
 last_is_ban b [] = b
-last_is_ban b (kind ∷ kinds) = last_is_ban (is_ban kind) kinds
+last_is_ban b (Start ∷ kinds) = last_is_ban false kinds
+last_is_ban b (Stop ∷ kinds) = last_is_ban false kinds
+last_is_ban b (Ban ∷ kinds) = last_is_ban true kinds
+last_is_ban b (Reban ∷ kinds) = last_is_ban true kinds
+last_is_ban b (Unban ∷ kinds) = last_is_ban false kinds

@@ -3,11 +3,12 @@ use Rattle.std.specs.Prelude.{◌^◌, Bool, cond, ◌||◌, nat_lt, List, [], �
 use Rattle.f2b_base.specs.Limits.{default_purge}
 use Rattle.f2b_base.specs.declared.input.Input.{Input}
 use Rattle.f2b_base.specs.declared.job.Job.{Job}
-use Rattle.f2b_model.specs.declared.happening.Happening.{Happening}
+use Rattle.f2b_model.specs.declared.told.Told.{Told}
 use Rattle.f2b_model.specs.declared.jail_now.JailNow.{JailNow}
 use Rattle.f2b_model.specs.Active.{held}
 use Rattle.f2b_model.specs.Jobs.{Ledger}
-use Rattle.f2b_model.specs.Lanes.{Lanes, Books, books, books_now, lanes_step, first_lanes, lanes_now, lanes_from}
+use Rattle.f2b_model.specs.Lanes.{Lanes, Books, books, books_now, lanes_issued, lanes_step, first_lanes, lanes_now, lanes_from}
+use Rattle.f2b_model.specs.LanesTold.{lanes_told}
 use Rattle.f2b_model.specs.Nows.{jails_now_of, jails_from}
 use Rattle.f2b_model.specs.State.{Jail, World}
 use Rattle.f2b_model.specs.Steps.{Moves, moves, moves_now, is_spent, at_reading, step_by}
@@ -33,11 +34,15 @@ module _ {J L : Type 0} (m : Moves J) (b : Books L) where
         lanes = lanes_step b after.at input.what (held m (at_reading m input.secs w.world)) (held m after) (jails_told m w.world input) w.lanes;
       })
 
-  -- what a step tells
-  abbrev pub whole_told : Whole J L → Input → List Happening
-  whole_told w input = cond (is_whole_spent w) [] (jails_told m w.world input)
+  -- what a step tells: of the jails, and of the lanes once what the jails tell has become jobs
+  abbrev pub whole_told : Whole J L → Input → Told
+  whole_told w input =
+      cond (is_whole_spent w) (record { jails = []; lanes = [] }) (
+      let after = step_by m w.world input in
+      let told = jails_told m w.world input in
+      record { jails = told; lanes = lanes_told b after.at input.what (lanes_issued b after.at told w.lanes) })
 
--- the state: all that ever happened
+-- the state: all that happened in the jails that are there, and all jobs that were ever made with all their endings
 abbrev pub State : Type 0
 State = Whole Jail Ledger
 
@@ -72,11 +77,11 @@ steps_now n [] = n
 steps_now n (input ∷ inputs) = steps_now (step_now n input) inputs
 
 -- what the step of a state tells
-abbrev pub told : State → Input → List Happening
+abbrev pub told : State → Input → Told
 told = whole_told moves books
 
 -- what the step of a middle state tells
-abbrev pub told_now : Now → Input → List Happening
+abbrev pub told_now : Now → Input → Told
 told_now = whole_told moves_now books_now
 
 -- the state before the first configuration: nothing is there, and bans that are over count for a day

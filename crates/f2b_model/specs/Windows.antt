@@ -1,6 +1,13 @@
 -- The failures of one address, by their times alone: when they fill it.
-use Rattle.std.specs.Prelude.{◌≡◌, ℕ, ◌+◌, ◌<◌, ◌≤◌, Bool, ◌&&◌, nat_lt, nat_le, List, [], ◌∷◌, length, filter, get_or}
-use Rattle.f2b_model.specs.Lists.{AllOf}
+use Rattle.std.specs.Prelude.{◌≡◌, ℕ, ◌+◌, ◌<◌, ◌≤◌, Bool, ◌&&◌, nat_lt, nat_le, List, [], ◌∷◌, length, map, filter, get_or}
+use Rattle.f2b_base.specs.declared.addr.Addr.{Addr}
+use Rattle.f2b_base.specs.declared.ban.Failure.{Failure}
+use Rattle.f2b_model.specs.Full.{is_of}
+use Rattle.f2b_model.specs.Lists.{AllOf, in_order}
+
+-- the times of an address's failures, in order
+abbrev pub times_of : Addr → List Failure → List ℕ
+times_of addr fs = in_order nat_lt (map (λ (f : Failure). f.time) (filter (is_of addr) fs))
 
 -- whether a time is in the span of `findtime` seconds that begins at `start`
 abbrev pub in_time : ℕ → ℕ → ℕ → Bool

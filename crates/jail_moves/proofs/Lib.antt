@@ -9,3 +9,4 @@ pub mod WindowCounts
 pub mod WindowLosses
 pub mod WindowTurns
 pub mod WindowReads
+pub mod LineLemmas

@@ -12,14 +12,15 @@ use Rattle.f2b_base.specs.declared.ban.Failure.{Failure}
 use Rattle.f2b_base.specs.declared.jail.JailDef.{JailDef}
 use Rattle.f2b_base.specs.declared.view.JailView.{JailView}
 use Rattle.f2b_model.specs.declared.happening.Happening.{Happening}
-use Rattle.f2b_model.specs.declared.happening.Happening.TheVariants.{Counts, Begins}
+use Rattle.f2b_model.specs.declared.happening.Happening.TheVariants.{Counts}
 use Rattle.f2b_model.specs.declared.jail_now.JailNow.{JailNow}
 use Rattle.f2b_model.specs.Full.{is_full, is_late, is_of}
 use Rattle.f2b_model.specs.Lists.{AllOf}
+use Rattle.f2b_model.specs.Matches.{matches_of}
 use Rattle.f2b_model.specs.Moves.{Out, counts, is_banned, is_near, new_ban, up_64}
-use Rattle.f2b_model.specs.NowMoves.{banned_now, begun_now, counted_now, ended_now, found_now}
+use Rattle.f2b_model.specs.NowMoves.{banned_now, begun_now, counted_now, ended_now, found_now, shown_now}
 use Rattle.f2b_model.specs.Steps.{moves_now, end_all}
-use Rattle.f2b_model.specs.Told.{told_banned, told_found, told_new}
+use Rattle.f2b_model.specs.Told.{begins, told_banned, told_found, told_new}
 use Rattle.f2b_model.specs.Views.{jail_of}
 use Rattle.f2b_model.proofs.FullLemmas.{lt_true}
 use Rattle.f2b_model.proofs.ListLemmas.{by_test, filter_swap}
@@ -109,7 +110,7 @@ with_ban_kept at word serial addr failures d c kept = record {
 }
 
 -- so does a failure that was counted
-pub counted_kept : (at next : ℕ) (f : Failure) (d : JailDef) (c n : Contents) (full : Option ℕ) → IsKept at next d c → IsCounted at f c n full → IsKept at next d n
+pub counted_kept : (at next : ℕ) (f : Failure) (d : JailDef) (c n : Contents) (full : Option (List Failure)) → IsKept at next d c → IsCounted at f c n full → IsKept at next d n
 counted_kept at next f d c n full kept counted =
     subst (IsKept at next d) (sym counted.room) (record {
       bounded = kept.bounded;
@@ -140,23 +141,23 @@ not_full at next f d c n kept counted =
     )
 
 -- a failure was counted, and its address is full
-is_filled : (at next word serial near : ℕ) (f : Failure) (d : JailDef) (c n : Contents) → IsKept at next d c → IsCounted at f c n (Some near)
+is_filled : (at next word serial : ℕ) (near : List Failure) (f : Failure) (d : JailDef) (c n : Contents) → IsKept at next d c → IsCounted at f c n (Some near)
     → (begun_now at word serial f.addr (length (filter (is_near d.findtime f) (counted_now at f (jail_in d c)).failures)) (counted_now at f (jail_in d c))
-    ≡ jail_in d (with_ban d at word serial f.addr near n))
+    ≡ jail_in d (with_ban d at word serial f.addr (length near) n))
     × (is_full d.findtime d.maxretry f.addr (counted_now at f (jail_in d c)).failures ≡ true)
-    × (near ≡ length (filter (is_near d.findtime f) (counted_now at f (jail_in d c)).failures))
+    × (near ≡ filter (is_near d.findtime f) (counted_now at f (jail_in d c)).failures)
 is_filled at next word serial near f d c n kept counted =
     let S : ℕ → Type 0 = λ t. filter (is_late at t) n.windows.failures ≡ filter (λ (g : Failure). not (is_of f.addr g)) (with_failure c.moment at t f c.windows.failures) in
     let T : ℕ → ℕ → Type 0 = λ t m. true ≡ is_full t m f.addr (with_failure c.moment at t f c.windows.failures) in
-    let N : ℕ → Type 0 = λ t. near ≡ length (filter (is_near t f) (with_failure c.moment at t f c.windows.failures)) in
+    let N : ℕ → Type 0 = λ t. near ≡ filter (is_near t f) (with_failure c.moment at t f c.windows.failures) in
     let goes : S d.findtime = subst S kept.findtime (counted.added.goes c.moment kept.moment refl) in
     let tells : T d.findtime d.maxretry = subst (T d.findtime) kept.maxretry (subst (λ t. T t c.windows.maxretry) kept.findtime (counted.added.tells c.moment kept.moment)) in
-    let count : N d.findtime = subst N kept.findtime (counted.added.near c.moment kept.moment) in
+    let those : N d.findtime = subst N kept.findtime (counted.added.near c.moment kept.moment) in
     let filled : ℕ → List Failure → JailNow = λ m fs. record (jail_in d (with_ban d at word serial f.addr m (with_count at n.windows c))) { failures = fs } in (
-      sym (ap (λ (r : Contents). jail_in d (with_ban d at word serial f.addr near r)) counted.room
-          ∙ ap₂ filled count goes),
+      sym (ap (λ (r : Contents). jail_in d (with_ban d at word serial f.addr (length near) r)) counted.room
+          ∙ ap₂ filled (ap length those) goes),
       sym tells,
-      count,
+      those,
     )
 
 -- a failure that counts and does not fill its address
@@ -165,35 +166,42 @@ pub found_open : (at word serial : ℕ) (f : Failure) (d : JailDef) (c n : Conte
     × (told_found moves_now at word f serial (jail_in d c) ≡ Counts d.name f.addr ∷ [])
 found_open at word serial f d c n kept is counted =
     let least = not_full at serial f d c n kept counted in
+    let lines : List ℕ = shown_now at f (jail_in d c) in
     let same : found_now at word serial f (jail_in d c) ≡ record { jail = jail_in d n; next = serial } =
     rw is (rw (least.1) (ap (λ (j : JailNow). record { jail = j; next = serial }) least.0)) in (
       same,
-      rw is (ap (λ (o : Out JailNow). Counts d.name f.addr ∷ told_new moves_now (jail_in d c) o.jail) (rw is at same)
-          ∙ ap (λ (r : Contents). Counts d.name f.addr ∷ told_new moves_now (jail_in d c) (jail_in d r)) counted.room
-          ∙ ap (λ (bs : List Ban). Counts d.name f.addr ∷ map (Begins d.name) bs) (drop-length c.bans.active)),
+      rw is (ap (λ (o : Out JailNow). Counts d.name f.addr ∷ told_new moves_now lines (jail_in d c) o.jail) (rw is at same)
+          ∙ ap (λ (r : Contents). Counts d.name f.addr ∷ told_new moves_now lines (jail_in d c) (jail_in d r)) counted.room
+          ∙ ap (λ (bs : List Ban). Counts d.name f.addr ∷ map (begins lines d.name) bs) (drop-length c.bans.active)),
     )
 
 -- what the ban that began tells
-told_ban : (at word serial : ℕ) (addr : Addr) (failures : ℕ) (d : JailDef) (c n : Contents) → n.bans ≡ c.bans
-    → told_new moves_now (jail_in d c) (jail_in d (with_ban d at word serial addr failures n)) ≡ Begins d.name (new_ban d n.bans.past at word serial addr failures) ∷ []
-told_ban at word serial addr failures d c n same =
+told_ban : (lines : List ℕ) (at word serial : ℕ) (addr : Addr) (failures : ℕ) (d : JailDef) (c n : Contents) → n.bans ≡ c.bans
+    → told_new moves_now lines (jail_in d c) (jail_in d (with_ban d at word serial addr failures n)) ≡ begins lines d.name (new_ban d n.bans.past at word serial addr failures) ∷ []
+told_ban lines at word serial addr failures d c n same =
     let ban = new_ban d n.bans.past at word serial addr failures in
-    ap (λ (bs : List Ban). map (Begins d.name) (drop (length c.bans.active) (bs ++ ban ∷ []))) (ap (λ (t : BanLists). t.active) same)
-    ∙ ap (λ (bs : List Ban). map (Begins d.name) bs) (drop-append_seam c.bans.active (ban ∷ []))
+    ap (λ (bs : List Ban). map (begins lines d.name) (drop (length c.bans.active) (bs ++ ban ∷ []))) (ap (λ (t : BanLists). t.active) same)
+    ∙ ap (λ (bs : List Ban). map (begins lines d.name) bs) (drop-append_seam c.bans.active (ban ∷ []))
 
 -- a failure that counts and fills its address
-pub found_full : (at word serial near : ℕ) (f : Failure) (d : JailDef) (c n : Contents) → IsKept at serial d c → counts at d c.bans.active f ≡ true → IsCounted at f c n (Some near)
-    → (found_now at word serial f (jail_in d c) ≡ record { jail = jail_in d (with_ban d at word serial f.addr near n); next = serial + 1 })
-    × (told_found moves_now at word f serial (jail_in d c) ≡ Counts d.name f.addr ∷ Begins d.name (new_ban d n.bans.past at word serial f.addr near) ∷ [])
+pub found_full : (at word serial : ℕ) (near : List Failure) (f : Failure) (d : JailDef) (c n : Contents) → IsKept at serial d c → counts at d c.bans.active f ≡ true
+    → IsCounted at f c n (Some near)
+    → (found_now at word serial f (jail_in d c) ≡ record { jail = jail_in d (with_ban d at word serial f.addr (length near) n); next = serial + 1 })
+    × (told_found moves_now at word f serial (jail_in d c)
+    ≡ Counts d.name f.addr ∷ begins (matches_of d.maxmatches near) d.name (new_ban d n.bans.past at word serial f.addr (length near)) ∷ [])
 found_full at word serial near f d c n kept is counted =
     let filled = is_filled at serial word serial near f d c n kept counted in
     let bans : n.bans ≡ c.bans = ap (λ (r : Contents). r.bans) counted.room in
     let up : suc serial ≡ serial + 1 = omega arith in
-    let same : found_now at word serial f (jail_in d c) ≡ record { jail = jail_in d (with_ban d at word serial f.addr near n); next = serial + 1 } =
+    let lines : List ℕ = shown_now at f (jail_in d c) in
+    let shown : lines ≡ matches_of d.maxmatches near = ap (matches_of d.maxmatches) (sym filled.2) in
+    let ban = new_ban d n.bans.past at word serial f.addr (length near) in
+    let same : found_now at word serial f (jail_in d c) ≡ record { jail = jail_in d (with_ban d at word serial f.addr (length near) n); next = serial + 1 } =
     rw is (rw (filled.1) (ap₂ (λ (j : JailNow) (k : ℕ). record { jail = j; next = k }) filled.0 up)) in (
       same,
-      rw is (ap (λ (o : Out JailNow). Counts d.name f.addr ∷ told_new moves_now (jail_in d c) o.jail) (rw is at same)
-          ∙ ap (λ (r : List Happening). Counts d.name f.addr ∷ r) (told_ban at word serial f.addr near d c n bans)),
+      rw is (ap (λ (o : Out JailNow). Counts d.name f.addr ∷ told_new moves_now lines (jail_in d c) o.jail) (rw is at same)
+          ∙ ap (λ (r : List Happening). Counts d.name f.addr ∷ r) (told_ban lines at word serial f.addr (length near) d c n bans)
+          ∙ ap (λ (r : List ℕ). Counts d.name f.addr ∷ begins r d.name ban ∷ []) shown),
     )
 
 -- ---- bans by command
@@ -202,14 +210,14 @@ found_full at word serial near f d c n kept is counted =
 pub banned_already : (at word serial : ℕ) (addr : Addr) (d : JailDef) (c : Contents) → is_banned addr c.bans.active ≡ true
     → (banned_now at word serial addr (jail_in d c) ≡ record { jail = jail_in d c; next = serial }) × (told_banned moves_now at word addr serial (jail_in d c) ≡ [])
 banned_already at word serial addr d c e =
-    let none : map (Begins d.name) (drop (length c.bans.active) c.bans.active) ≡ [] = ap (λ (bs : List Ban). map (Begins d.name) bs) (drop-length c.bans.active) in
+    let none : map (begins [] d.name) (drop (length c.bans.active) c.bans.active) ≡ [] = ap (λ (bs : List Ban). map (begins [] d.name) bs) (drop-length c.bans.active) in
     rw e (refl, none)
 
 -- and any other is, once its failures are forgotten
 pub banned_anew : (at word serial : ℕ) (addr : Addr) (d : JailDef) (c : Contents) (w : Opened) → is_banned addr c.bans.active ≡ false
     → w ≡ record (c.windows) { failures = filter (λ (f : Failure). not (is_of addr f)) c.windows.failures }
     → (banned_now at word serial addr (jail_in d c) ≡ record { jail = jail_in d (with_ban d at word serial addr 0 (record c { windows = w })); next = serial + 1 })
-    × (told_banned moves_now at word addr serial (jail_in d c) ≡ Begins d.name (new_ban d c.bans.past at word serial addr 0) ∷ [])
+    × (told_banned moves_now at word addr serial (jail_in d c) ≡ begins [] d.name (new_ban d c.bans.past at word serial addr 0) ∷ [])
 banned_anew at word serial addr d c w e w_is =
     let n = record c { windows = w } in
     let up : suc serial ≡ serial + 1 = omega arith in
@@ -218,7 +226,7 @@ banned_anew at word serial addr d c w e w_is =
     let same : banned_now at word serial addr (jail_in d c) ≡ record { jail = jail_in d (with_ban d at word serial addr 0 n); next = serial + 1 } =
     rw e (ap₂ (λ (fs : List Failure) (k : ℕ). record { jail = record (jail_in d (with_ban d at word serial addr 0 n)) { failures = fs }; next = k }) swap up) in (
       same,
-      ap (λ (o : Out JailNow). told_new moves_now (jail_in d c) o.jail) same ∙ told_ban at word serial addr 0 d c n refl,
+      ap (λ (o : Out JailNow). told_new moves_now [] (jail_in d c) o.jail) same ∙ told_ban [] at word serial addr 0 d c n refl,
     )
 
 -- forgotten failures keep what always holds

@@ -36,11 +36,11 @@ lost findtime maxretry addr old new before is rising changes =
           (changed_own findtime maxretry addr None old new windows changes) (changed_others findtime maxretry addr None old new before windows changes);
     }
 
--- the failures that are counted then are the address's
+-- the failures that are near then are the address's
 pub near_lost : (findtime maxretry time : ℕ) (addr : Addr) (es : List Entry) (w : Option AddrWindow) → AreWindows findtime maxretry es → w ≡ window_at (key_of addr) es
-    → length (filter (is_near_to addr time findtime) (failures_of w)) ≡ length (filter (is_near_to addr time findtime) (own_in addr es))
+    → filter (is_near_to addr time findtime) (failures_of w) ≡ filter (is_near_to addr time findtime) (own_in addr es)
 near_lost findtime maxretry time addr es w windows is =
-    ap (λ gs. length (filter (is_near_to addr time findtime) gs)) (ap failures_of is ∙ sym (own_of findtime maxretry addr es windows))
+    ap (λ gs. filter (is_near_to addr time findtime) gs) (ap failures_of is ∙ sym (own_of findtime maxretry addr es windows))
 
 -- ---- one more failure is counted
 
@@ -74,8 +74,8 @@ counted_on findtime maxretry now f old new full held not_full enters = record {
 }
 
 -- its address is full
-pub counted_out : (findtime maxretry now : ℕ) (f : Failure) (old mid new : List Entry) (full : Bool) (near : ℕ) → IsHeld findtime maxretry old → full ≡ true
-    → Enters findtime maxretry now f old mid full → Loses findtime maxretry f.addr mid new → near ≡ length (filter (is_near findtime f) (own_in f.addr mid))
+pub counted_out : (findtime maxretry now : ℕ) (f : Failure) (old mid new : List Entry) (full : Bool) (near : List Failure) → IsHeld findtime maxretry old → full ≡ true
+    → Enters findtime maxretry now f old mid full → Loses findtime maxretry f.addr mid new → near ≡ filter (is_near findtime f) (own_in f.addr mid)
     → Counts findtime maxretry now f old new (Some near)
 counted_out findtime maxretry now f old mid new full near held is_full_now enters loses counted =
     let gone : own_in f.addr new ≡ [] = ap (λ gs. filter (is_of f.addr) gs) loses.failures ∙ own_gone f.addr (failures_in mid) in
@@ -94,7 +94,7 @@ counted_out findtime maxretry now f old mid new full near held is_full_now enter
             (λ e. held.none_full addr (full_by_own findtime maxretry addr (failures_in new) (failures_in old) (others addr e) filled));
       };
       tells = sym is_full_now ∙ tells_own findtime maxretry now f old mid full held.most enters;
-      near = counted ∙ ap (λ gs. length (filter (is_near findtime f) gs)) enters.own;
+      near = counted ∙ ap (λ gs. filter (is_near findtime f) gs) enters.own;
       stays = λ e. absurd (let k : true ≡ false = e in cc);
       goes = λ e. gone;
       others = others;

@@ -142,7 +142,7 @@ own_read findtime moment i fs f lt is order late =
         (λ g l. (let a = here.0 in let b = l.1 in true_lt f.time (g.time + 2 * findtime) (omega arith))) fs late))
 
 -- none was left out so far
-same_read : (findtime maxretry at i moment : ℕ) (fs : List Failure) (es new : List Entry) (f : Failure) (full : Option ℕ) → IsRead findtime maxretry at i fs es → i < length fs
+same_read : (findtime maxretry at i moment : ℕ) (fs : List Failure) (es new : List Entry) (f : Failure) (full : Option (List Failure)) → IsRead findtime maxretry at i fs es → i < length fs
     → f ≡ get_or fs i f → IsInOrder comes_before fs → Counts findtime maxretry f.time f es new full → NoneFull findtime maxretry fs → AllOf (IsLate moment findtime) fs
     → failures_in new ≡ take (i + 1) fs
 same_read findtime maxretry at i moment fs es new f full read lt is order counts unfilled late =
@@ -175,7 +175,7 @@ same_read findtime maxretry at i moment fs es new f full read lt is order counts
         ∙ ap (λ gs. filter (is_of addr) (take i fs) ++ gs) nothing ∙ append-nil (filter (is_of addr) (take i fs)))
 
 -- one more was read
-pub read_on : (findtime maxretry at i : ℕ) (fs : List Failure) (es new : List Entry) (f copy : Failure) (full : Option ℕ) → IsRead findtime maxretry at i fs es → i < length fs
+pub read_on : (findtime maxretry at i : ℕ) (fs : List Failure) (es new : List Entry) (f copy : Failure) (full : Option (List Failure)) → IsRead findtime maxretry at i fs es → i < length fs
     → f ≡ get_or fs i f → IsInOrder comes_before fs → AllOf (λ (g : Failure). g.time ≤ at) fs → copy ≡ f → Counts findtime maxretry f.time copy es new full
     → IsRead findtime maxretry at (i + 1) fs new
 read_on findtime maxretry at i fs es new f copy full read lt is order within copied counted =

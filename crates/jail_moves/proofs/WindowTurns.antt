@@ -1,5 +1,5 @@
 -- A whole turn: the windows after a sweep and one more failure, or without an address's.
-use Rattle.std.proofs.Common.{◌≡◌, ℕ, ◌+◌, ◌<◌, ◌≤◌, true, false, not, Option, Some, None, Result, Ok, Err, List, length, sym, ◌∙◌, ap, subst}
+use Rattle.std.proofs.Common.{◌≡◌, ℕ, ◌+◌, ◌<◌, ◌≤◌, true, false, not, Option, Some, None, Result, Ok, Err, List, sym, ◌∙◌, ap, subst}
 use Rattle.std.specs.List.{filter}
 use Rattle.std.specs.Prelude.{is_some}
 use Rattle.std.specs.Option.{IfSome}
@@ -35,13 +35,13 @@ held_without findtime maxretry addr old new held loses = record {
 }
 
 -- whether memory was there or not
-pub held_either : (findtime maxretry now : ℕ) (f : Failure) (old new : List Entry) (r : Result (Option ℕ) NoMemory) → IsHeld findtime maxretry old
+pub held_either : (findtime maxretry now : ℕ) (f : Failure) (old new : List Entry) (r : Result (Option (List Failure)) NoMemory) → IsHeld findtime maxretry old
     → IfOk r (Counts findtime maxretry now f old new) → OnErr r (new ≡ old) → IsHeld findtime maxretry new
 held_either findtime maxretry now f old new (Ok full) held ok err = ok.held
 held_either findtime maxretry now f old new (Err e) held ok err = subst (λ (r : List Entry). IsHeld findtime maxretry r) (sym err) held
 
 -- what holds of the failures before and of the new one holds of those after it was counted
-pub all_counted : (findtime maxretry now : ℕ) (f : Failure) (old new : List Entry) (full : Option ℕ) (P : Failure → Type 0) → P f → AllOf P (failures_in old)
+pub all_counted : (findtime maxretry now : ℕ) (f : Failure) (old new : List Entry) (full : Option (List Failure)) (P : Failure → Type 0) → P f → AllOf P (failures_in old)
     → Counts findtime maxretry now f old new full → AllOf P (failures_in new)
 all_counted findtime maxretry now f old new full P here a counts =
     all_by_parts P (failures_in new) (λ addr. by_test (same_addr f.addr addr) _ (same addr)
@@ -57,17 +57,17 @@ all_counted findtime maxretry now f old new full P here a counts =
     same : (addr : Addr) → same_addr f.addr addr ≡ true → AllOf P (own_in addr new)
     same addr e = subst (λ (a : Addr). AllOf P (own_in a new)) (same_addr_true f.addr addr e) own
 
--- the same count, said otherwise
-near_same : (full : Option ℕ) (m n : ℕ) → m ≡ n → IfSome full (λ k. k ≡ m) → IfSome full (λ k. k ≡ n)
-near_same None m n e h = h
-near_same (Some k) m n e h = h ∙ e
+-- the same failures, said otherwise
+near_same : (full : Option (List Failure)) (fs gs : List Failure) → fs ≡ gs → IfSome full (λ r. r ≡ fs) → IfSome full (λ r. r ≡ gs)
+near_same None fs gs e h = h
+near_same (Some r) fs gs e h = h ∙ e
 
 -- nothing is told where nothing is there
-none_is : (full : Option ℕ) → full ≡ None → is_some full ≡ false
+none_is : (full : Option (List Failure)) → full ≡ None → is_some full ≡ false
 none_is full e = ap is_some e
 
 -- the failures after a sweep and one more are as the jail's own would be
-module _ (findtime maxretry now : ℕ) (f : Failure) (old mid new : List Entry) (full : Option ℕ) (held : IsHeld findtime maxretry old) (not_later : f.time ≤ now)
+module _ (findtime maxretry now : ℕ) (f : Failure) (old mid new : List Entry) (full : Option (List Failure)) (held : IsHeld findtime maxretry old) (not_later : f.time ≤ now)
     (recent : now < f.time + findtime) (forward : AllOf (λ (g : Failure). g.time ≤ now) (failures_in old)) (sweeps : Sweeps findtime maxretry now old mid)
     (counts : Counts findtime maxretry now f mid new full) where
   -- the failures stand in order before
@@ -110,7 +110,7 @@ module _ (findtime maxretry now : ℕ) (f : Failure) (old mid new : List Entry) 
         ∙ ap (λ gs. is_full findtime maxretry f.addr gs) (matters_is last le);
     near = λ last le.
         near_same full _ _
-        (ap length (near_with findtime now f (failures_in mid) recent mid_order) ∙ ap (λ gs. length (filter (is_near findtime f) gs)) (matters_is last le)) counts.near;
+        (near_with findtime now f (failures_in mid) recent mid_order ∙ ap (λ gs. filter (is_near findtime f) gs) (matters_is last le)) counts.near;
     stays = λ last le none. stays (none_is full none) ∙ matters_is last le;
     goes = λ last le some. goes some ∙ ap (λ gs. filter (λ (g : Failure). not (is_of f.addr g)) gs) (matters_is last le);
     times = all_counted findtime maxretry now f mid new full (λ (g : Failure). g.time ≤ now) not_later (sweeps.times now forward) counts;

@@ -1,5 +1,5 @@
 -- What one more failure does to the windows of a jail.
-use Rattle.std.specs.Prelude.{◌≡◌, ℕ, ◌≤◌, true, false, not, Option, None, is_some, IfSome, List, length, filter}
+use Rattle.std.specs.Prelude.{◌≡◌, ℕ, ◌≤◌, true, false, not, Option, None, is_some, IfSome, List, filter}
 use Rattle.f2b_base.specs.declared.ban.Failure.{Failure}
 use Rattle.f2b_model.specs.Full.{is_full, is_late, is_of}
 use Rattle.f2b_model.specs.Lists.{AllOf, placed}
@@ -11,11 +11,11 @@ use Rattle.fail_window.specs.Opened.{Opened}
 abbrev pub with_failure : ℕ → ℕ → ℕ → Failure → List Failure → List Failure
 with_failure last now findtime f fs = filter (is_late now findtime) (placed comes_before f (filter (is_late last findtime) fs))
 
--- One more failure is counted at `now`. It is told whether its address is full by the failures that matter then, and how many of them
+-- One more failure is counted at `now`. It is told whether its address is full by the failures that matter then, and which of them
 -- are near it; the address's failures are forgotten where it is. All this whatever the moment was before.
-pub record IsAdded (now : ℕ) (f : Failure) (old new : Opened) (full : Option ℕ) : Type 0 where
+pub record IsAdded (now : ℕ) (f : Failure) (old new : Opened) (full : Option (List Failure)) : Type 0 where
   pub tells : (last : ℕ) → last ≤ now → is_some full ≡ is_full old.findtime old.maxretry f.addr (with_failure last now old.findtime f old.failures)
-  pub near : (last : ℕ) → last ≤ now → IfSome full (λ n. n ≡ length (filter (is_near old.findtime f) (with_failure last now old.findtime f old.failures)))
+  pub near : (last : ℕ) → last ≤ now → IfSome full (λ fs. fs ≡ filter (is_near old.findtime f) (with_failure last now old.findtime f old.failures))
   pub stays : (last : ℕ) → last ≤ now → full ≡ None
       → filter (is_late now old.findtime) new.failures ≡ with_failure last now old.findtime f old.failures
   pub goes : (last : ℕ) → last ≤ now → is_some full ≡ true

@@ -1,5 +1,5 @@
 -- The windows of a jail by address, and what a call does to the failures that they hold.
-use Rattle.std.specs.Prelude.{◌≡◌, ℕ, ◌+◌, ◌*◌, ◌≤◌, ◌↔◌, Bool, true, false, not, nat_lt, max, Option, is_some, IfSome, List, [], ◌∷◌, ◌++◌, length, filter}
+use Rattle.std.specs.Prelude.{◌≡◌, ℕ, ◌+◌, ◌*◌, ◌≤◌, ◌↔◌, Bool, true, false, not, nat_lt, max, Option, is_some, IfSome, List, [], ◌∷◌, ◌++◌, filter}
 use Rattle.std.specs.List.Sorted.{IsStrictlySortedBy}
 use Rattle.std.specs.BTreeMap.{is_at}
 use Rattle.std.specs.Map.{keys_of, lookup}
@@ -81,11 +81,11 @@ pub record Sweeps (findtime maxretry now : ℕ) (old new : List Entry) : Type 0 
   pub late : filter (is_late now findtime) (failures_in new) ≡ filter (is_late now findtime) (failures_in old)
   pub times : (moment : ℕ) → AllOf (λ (f : Failure). f.time ≤ moment) (failures_in old) → AllOf (λ (f : Failure). f.time ≤ moment) (failures_in new)
 
--- One more failure is counted. Where its address is then full its window is taken out, and it is told how many of its failures are near.
-pub record Counts (findtime maxretry now : ℕ) (f : Failure) (old new : List Entry) (full : Option ℕ) : Type 0 where
+-- One more failure is counted. Where its address is then full its window is taken out, and it is told which of its failures are near.
+pub record Counts (findtime maxretry now : ℕ) (f : Failure) (old new : List Entry) (full : Option (List Failure)) : Type 0 where
   pub held : IsHeld findtime maxretry new
   pub tells : is_some full ≡ is_full findtime maxretry f.addr (own_after now findtime f (failures_in old))
-  pub near : IfSome full (λ n. n ≡ length (filter (is_near findtime f) (own_after now findtime f (failures_in old))))
+  pub near : IfSome full (λ fs. fs ≡ filter (is_near findtime f) (own_after now findtime f (failures_in old)))
   pub stays : is_some full ≡ false → filter (is_of f.addr) (failures_in new) ≡ own_after now findtime f (failures_in old)
   pub goes : is_some full ≡ true → filter (is_of f.addr) (failures_in new) ≡ []
   pub others : KeepsOthers f.addr (failures_in old) (failures_in new)

@@ -2,3 +2,4 @@ pub mod Added
 pub mod Rooms
 pub mod Watching
 pub mod Addresses
+pub mod Shown

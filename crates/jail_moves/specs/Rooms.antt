@@ -76,8 +76,8 @@ with_ban d at word serial addr failures c = record c {
 abbrev pub with_count : ℕ → Opened → Contents → Contents
 with_count at w c = record c { total_failed = up_64 c.total_failed; moment = at; windows = w }
 
--- a failure was counted, and it was told whether its address is full
-pub record IsCounted (at : ℕ) (f : Failure) (old new : Contents) (full : Option ℕ) : Type 0 where
+-- a failure was counted, and it was told whether its address is full, and by which failures
+pub record IsCounted (at : ℕ) (f : Failure) (old new : Contents) (full : Option (List Failure)) : Type 0 where
   pub room : new ≡ with_count at new.windows old
   pub limits : KeepsLimits old.windows new.windows
   pub added : IsAdded at f old.windows new.windows full

@@ -1,5 +1,5 @@
 //! The windows of a jail by address: what goes in, what comes out, and what is too old.
-ghost use Rattle.std.specs.Prelude.{◌≡◌, ℕ, ◌+◌, ◌*◌, ◌<◌, ◌≤◌, [], ◌∷◌, ◌++◌, None, true, nat_lt, length, filter, OnOk, OnErr, IfOk};
+ghost use Rattle.std.specs.Prelude.{◌≡◌, ℕ, ◌+◌, ◌*◌, ◌<◌, ◌≤◌, [], ◌∷◌, ◌++◌, None, true, nat_lt, filter, OnOk, OnErr, IfOk};
 ghost use Rattle.f2b_base.specs.declared.ban.Failure.{Failure};
 ghost use Rattle.f2b_model.specs.Full.{is_late, is_of};
 ghost use Rattle.f2b_model.specs.Lists.{AllOf};
@@ -55,14 +55,11 @@ fn is_near(addr: Addr, time: u64, findtime: u64, other: &Failure) -> bool
     other.addr.same(addr) && is_close(there, time, findtime) && is_close(time, there, findtime)
 }
 
-/// How many failures are so near.
-fn near_count(failures: &[Failure], addr: Addr, time: u64, findtime: u64) -> usize
-    ensures { result ≡ length (filter (is_near_to addr time findtime) failures.now) }
+/// Keeps the failures that are so near, and no others. Takes no memory.
+fn keep_near(failures: &mut Seq<Failure>, addr: Addr, time: u64, findtime: u64)
+    ensures { failures.new ≡ filter (is_near_to addr time findtime) failures.old }
 {
-    failures
-        .iter()
-        .filter(|failure| is_near(addr, time, findtime, failure))
-        .count()
+    failures.retain(|failure| is_near(addr, time, findtime, failure));
 }
 
 impl AddrWindow {
@@ -138,23 +135,30 @@ pub fn remove(windows: &mut ByAddr, addr: Addr) -> Option<AddrWindow>
     windows.remove(&key_of(addr))
 }
 
-/// Takes an address's window out, and tells how many of its failures are near a time.
-fn take_out(windows: &mut ByAddr, addr: Addr, time: u64, findtime: u64) -> u64
+/// Takes an address's window out, and gives those of its failures that are near a time. Takes no memory.
+fn take_out(
+    windows: &mut ByAddr,
+    alloc: Global,
+    addr: Addr,
+    time: u64,
+    findtime: u64,
+) -> Seq<Failure>
     ensures near { (maxretry : ℕ) → AreWindows findtime maxretry windows.old.entries
-        → result ≡ length (filter (is_near_to addr time findtime) (filter (is_of addr) (failures_in windows.old.entries))) }
+        → result ≡ filter (is_near_to addr time findtime) (filter (is_of addr) (failures_in windows.old.entries)) }
     ensures loses { (maxretry : ℕ) → AreWindows findtime maxretry windows.old.entries → Loses findtime maxretry addr windows.old.entries windows.new.entries }
 {
     match remove(windows, addr) {
         Some(gone) => {
-            let failures = gone.window.into_failures();
-            near_count(failures.as_slice(), addr, time, findtime) as u64
+            let mut failures = gone.window.into_failures();
+            keep_near(&mut failures, addr, time, findtime);
+            failures
         }
-        None => 0,
+        None => Seq::new(alloc),
     }
 }
 
-/// Counts a failure at a moment. Where its address is then full, its window is taken out, and the number of its failures that are
-/// near the new one is told.
+/// Counts a failure at a moment. Where its address is then full, its window is taken out, and those of its failures that are near
+/// the new one are given, by time, with their lines.
 pub fn count(
     windows: &mut ByAddr,
     alloc: Global,
@@ -162,7 +166,7 @@ pub fn count(
     maxretry: u32,
     failure: Failure,
     now: u64,
-) -> Result<Option<u64>, NoMemory>
+) -> Result<Option<Seq<Failure>>, NoMemory>
     requires held { IsHeld findtime maxretry windows.old.entries }
     requires not_later { failure.time ≤ now }
     requires recent { now < failure.time + findtime }
@@ -174,7 +178,7 @@ pub fn count(
     let time = failure.time;
     let full = enter(windows, alloc, findtime, maxretry, failure, now)?;
     if full {
-        return Ok(Some(take_out(windows, addr, time, findtime)));
+        return Ok(Some(take_out(windows, alloc, addr, time, findtime)));
     }
     Ok(None)
 }

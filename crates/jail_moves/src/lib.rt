@@ -9,6 +9,9 @@
 mod addresses;
 mod bans;
 mod ends;
+mod matches;
+#[cfg(test)]
+mod matches_tests;
 mod room;
 mod stored;
 mod unbans;

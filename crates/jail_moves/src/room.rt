@@ -1,20 +1,22 @@
 //! `Room` and its calls.
-ghost use Rattle.std.specs.Prelude.{◌≡◌, ◌≤◌, ◌<◌, ◌+◌, ◌^◌, ◌∷◌, ◌++◌, [], false, ℕ, filter, map, OnOk, IfOk};
+ghost use Rattle.std.specs.Prelude.{◌≡◌, ◌≤◌, ◌<◌, ◌+◌, ◌^◌, ◌∷◌, ◌++◌, [], false, ℕ, length, filter, map, OnOk, IfOk};
 ghost use Rattle.std.specs.List.{list_any};
 ghost use Rattle.f2b_base.specs.declared.ban.Ban.{Ban};
 ghost use Rattle.f2b_model.specs.Lists.{AllOf};
+ghost use Rattle.f2b_model.specs.Matches.{matches_of};
 ghost use Rattle.f2b_model.specs.Moves.{counts, is_banned, new_ban};
 ghost use Rattle.f2b_model.specs.NowMoves.{banned_now, dropped_now, found_now, fresh_now, kept_now, limited_now};
 ghost use Rattle.f2b_model.specs.Sound.{IsOver};
 ghost use Rattle.f2b_model.specs.Steps.{ended_by_time, is_due, is_meant, moves_now, unbanned};
-ghost use Rattle.f2b_model.specs.Told.{told_banned, told_ends, told_found};
+ghost use Rattle.f2b_model.specs.Told.{begins, told_banned, told_ends, told_found};
 ghost use Rattle.f2b_base.specs.Limits.{last_moment};
 ghost use Rattle.f2b_model.specs.Views.{jail_of, jail_view};
 ghost use Rattle.f2b_model.specs.Watches.{is_watched, with_place};
-ghost use Rattle.f2b_model.specs.declared.happening.Happening.TheVariants.{Begins, Ends};
+ghost use Rattle.f2b_model.specs.declared.happening.Happening.TheVariants.{Ends};
 ghost use Rattle.jail_moves.specs.Rooms.{jail_in, with_ban, IsBounded, IsCounted, IsKept, IsStored, IsStoredWell};
 
 use crate::bans::{begin, drop_past, end_due, unban};
+use crate::matches::matches_of;
 use crate::stored::table_of;
 use crate::watches::{set_place, watches_of};
 use crate::windows::Windows;
@@ -172,9 +174,9 @@ impl Room {
         self.bans.active(addr).is_some()
     }
 
-    /// Counts a failure, and tells how many of its address's failures are near it, where the address is now full. Its failures are
+    /// Counts a failure, and gives those of its address's failures that are near it, where the address is now full. Its failures are
     /// forgotten then.
-    fn count(&mut self, at: u64, failure: &Failure) -> Result<Option<u64>, NoMemory>
+    fn count(&mut self, at: u64, failure: &Failure) -> Result<Option<Seq<Failure>>, NoMemory>
         requires not_later { failure.now.time ≤ at }
         requires recent { at < failure.now.time + self.old.windows.findtime }
         requires times { AllOf (λ f. f.time ≤ at) self.old.windows.failures }
@@ -186,7 +188,7 @@ impl Room {
         Ok(full)
     }
 
-    /// Begins a ban of an address to which so many failures led, and tells of it.
+    /// Begins a ban of an address to which these failures led, and tells of it and of their lines.
     fn begin(
         &mut self,
         definition: &JailDef,
@@ -195,19 +197,22 @@ impl Room {
         word: u64,
         serial: u64,
         addr: Addr,
-        failures: u64,
+        failures: &[Failure],
     ) -> Result<(), NoMemory>
         requires bounded { IsBounded definition.now }
         requires free { is_banned addr self.old.bans.active ≡ false }
         requires serial { AllOf (λ (b : Ban). b.serial < serial) self.old.bans.active }
-        ensures room { OnOk result (self.new ≡ with_ban definition.now at word serial addr failures self.old) }
-        ensures told { OnOk result (told.new ≡ told.old ++ Begins definition.now.name (new_ban definition.now self.old.bans.past at word serial addr failures) ∷ []) }
+        ensures room { OnOk result (self.new ≡ with_ban definition.now at word serial addr (length failures.now) self.old) }
+        ensures told { OnOk result (told.new ≡ told.old ++ begins (matches_of definition.now.maxmatches failures.now) definition.now.name
+            (new_ban definition.now self.old.bans.past at word serial addr (length failures.now)) ∷ []) }
     {
-        let ban = begin(&mut self.bans, definition, at, word, serial, addr, failures)?;
+        let count = failures.len() as u64;
+        let ban = begin(&mut self.bans, definition, at, word, serial, addr, count)?;
         self.total_banned = self.total_banned.saturating_add(1);
         told.push(Happening::Begins {
             jail: definition.name.copy()?,
             ban,
+            matches: matches_of(self.windows.alloc(), failures, definition.maxmatches)?,
         })?;
         Ok(())
     }
@@ -240,7 +245,15 @@ impl Room {
         match full {
             None => Ok(serial),
             Some(near) => {
-                self.begin(definition, told, at, word, serial, failure.addr, near)?;
+                self.begin(
+                    definition,
+                    told,
+                    at,
+                    word,
+                    serial,
+                    failure.addr,
+                    near.as_slice(),
+                )?;
                 Ok(serial + 1)
             }
         }
@@ -267,7 +280,7 @@ impl Room {
             return Ok(serial);
         }
         self.windows.forget(addr);
-        self.begin(definition, told, at, word, serial, addr, 0)?;
+        self.begin(definition, told, at, word, serial, addr, &[])?;
         Ok(serial + 1)
     }
 

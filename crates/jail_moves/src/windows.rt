@@ -51,6 +51,11 @@ impl Windows {
         }
     }
 
+    /// The allocator of the windows.
+    pub fn alloc(&self) -> Global {
+        self.alloc
+    }
+
     /// Windows of failures that stand in order, fill no address, and were all late at some moment. Where they do not, some are left
     /// out.
     pub fn of(
@@ -82,9 +87,9 @@ impl Windows {
         })
     }
 
-    /// Takes one more failure at a moment. Where its address is then full, its failures go, and the number of them that are near the
-    /// new one is told.
-    pub fn add(&mut self, failure: Failure, now: u64) -> Result<Option<u64>, NoMemory>
+    /// Takes one more failure at a moment. Where its address is then full, its failures go, and those of them that are near the new
+    /// one are given, by time, with their lines.
+    pub fn add(&mut self, failure: Failure, now: u64) -> Result<Option<Seq<Failure>>, NoMemory>
         requires not_later { failure.time ≤ now }
         requires recent { now < failure.time + self.old.findtime }
         requires forward { AllOf (λ (f : Failure). f.time ≤ now) self.old.failures }

@@ -25,7 +25,7 @@ fn failure(alloc: Global, addr: Addr, time: u64) -> Result<Failure, NoMemory>
 }
 
 /// The places at which an address was full, each with the number of its failures that were near.
-type Filled = Vec<(usize, u64)>;
+type Filled = Vec<(usize, usize)>;
 
 /// Windows that were given failures, each with its address, its time, and the moment at which it came, and where an address was full.
 /// They stop where a failure would not count.
@@ -47,7 +47,7 @@ fn fed(
         }
         last = now;
         if let Some(near) = windows.add(failure(alloc, addr, time)?, now)? {
-            filled.push((index, near))?;
+            filled.push((index, near.len()))?;
         }
     }
     Ok((windows, filled))
@@ -55,7 +55,7 @@ fn fed(
 
 #[test]
 fn addresses_fill_each_for_itself(rt: HostRuntime) -> Result<(), Fail> {
-    let rows: [(u32, &[(Addr, u64, u64)], &[(usize, u64)]); 6] = [
+    let rows: [(u32, &[(Addr, u64, u64)], &[(usize, usize)]); 6] = [
         (
             3,
             &[(FIRST, 100, 100), (FIRST, 300, 300), (FIRST, 699, 699)],

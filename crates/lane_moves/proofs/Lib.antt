@@ -1,3 +1,4 @@
+pub mod CheckLemmas
 pub mod LaneLemmas
 pub mod OrderedLemmas
 pub mod RisingLemmas

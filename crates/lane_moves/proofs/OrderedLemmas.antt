@@ -12,7 +12,7 @@ use Rattle.f2b_base.specs.declared.job.UpLane.{UpLane}
 use Rattle.f2b_model.specs.declared.fill.Fill.{Fill}
 use Rattle.f2b_model.specs.declared.happening.Happening.{Happening}
 use Rattle.f2b_model.specs.declared.happening.Happening.TheVariants.{Counts, Begins, Ends}
-use Rattle.f2b_model.specs.Orders.{Held, takes, fill_of, order, ban_orders, lane_orders, told_orders}
+use Rattle.f2b_model.specs.Orders.{Held, takes, fill_of, order, order_showing, ban_orders, lane_orders, told_orders}
 use Rattle.f2b_model.specs.Turns.{Order, numbered}
 use Rattle.lane_moves.specs.declared.held.JailBans.{JailBans}
 use Rattle.lane_moves.specs.Held.{held_in_jail, held_of}
@@ -64,8 +64,8 @@ filter_more f p xs x =
     ∙ ap (λ ys. map f (filter p xs) ++ ys) (elim (cases_Bool (p x)) [ inl h ↦ rw h refl | inr h ↦ rw h refl ])
 
 -- a lane more for a ban
-pub ban_orders_more : (kind : JobKind) (h : Held) (up : List UpLane) (lane : UpLane) → ban_orders kind h (up ++ lane ∷ []) ≡ ban_orders kind h up ++ order_where kind h lane
-ban_orders_more kind h up lane = filter_more (order kind (Some h)) (λ l. takes l h) up lane
+pub ban_orders_more : (lines : List ℕ) (kind : JobKind) (h : Held) (up : List UpLane) (lane : UpLane) → ban_orders lines kind h (up ++ lane ∷ []) ≡ ban_orders lines kind h up ++ order_where lines kind h lane
+ban_orders_more lines kind h up lane = filter_more (order_showing lines kind (Some h)) (λ l. takes l h) up lane
 
 -- bans more for a lane
 pub lane_orders_append : (kind : JobKind) (lane : UpLane) (xs ys : List Held) → lane_orders kind lane (xs ++ ys) ≡ lane_orders kind lane xs ++ lane_orders kind lane ys
@@ -74,7 +74,7 @@ lane_orders_append kind lane xs ys =
 
 -- a ban more in a jail, for a lane
 pub jail_orders_more : (kind : JobKind) (lane : UpLane) (jail : List ℕ) (bans : List Banned) (ban : Banned)
-    → lane_orders kind lane (map (λ (b : Banned). record { jail = jail; ban = b }) (bans ++ ban ∷ [])) ≡ lane_orders kind lane (map (λ (b : Banned). record { jail = jail; ban = b }) bans) ++ order_where kind (record { jail = jail; ban = ban }) lane
+    → lane_orders kind lane (map (λ (b : Banned). record { jail = jail; ban = b }) (bans ++ ban ∷ [])) ≡ lane_orders kind lane (map (λ (b : Banned). record { jail = jail; ban = b }) bans) ++ order_where [] kind (record { jail = jail; ban = ban }) lane
 jail_orders_more kind lane jail bans ban =
     let as_held = λ (b : Banned). let h : Held = record { jail = jail; ban = b } in h in
     ap (lane_orders kind lane) (map-append as_held bans (ban ∷ []))
@@ -100,29 +100,30 @@ no_orders kind lane jail (ban ∷ bans) other = rw other (no_orders kind lane ja
 pub told_orders_append : (up : List UpLane) (told more : List Happening) → told_orders up (told ++ more) ≡ told_orders up told ++ told_orders up more
 told_orders_append up [] more = refl
 told_orders_append up (Counts jail addr ∷ told) more = told_orders_append up told more
-told_orders_append up (Begins jail ban ∷ told) more =
-    ap (λ os. ban_orders Ban (record { jail = jail; ban = ban }) up ++ os) (told_orders_append up told more) ∙ sym (append_assoc (ban_orders Ban (record { jail = jail; ban = ban }) up) (told_orders up told) (told_orders up more))
+told_orders_append up (Begins jail ban lines ∷ told) more =
+    ap (λ os. ban_orders lines Ban (record { jail = jail; ban = ban }) up ++ os) (told_orders_append up told more) ∙ sym (append_assoc (ban_orders lines Ban (record { jail = jail; ban = ban }) up) (told_orders up told) (told_orders up more))
 told_orders_append up (Ends jail ban ∷ told) more =
-    ap (λ os. ban_orders Unban (record { jail = jail; ban = ban }) up ++ os) (told_orders_append up told more) ∙ sym (append_assoc (ban_orders Unban (record { jail = jail; ban = ban }) up) (told_orders up told) (told_orders up more))
+    ap (λ os. ban_orders [] Unban (record { jail = jail; ban = ban }) up ++ os) (told_orders_append up told more) ∙ sym (append_assoc (ban_orders [] Unban (record { jail = jail; ban = ban }) up) (told_orders up told) (told_orders up more))
 
 -- ---- one lane and one ban
 
 -- the order of a lane that takes the ban
-pub taken_order : (at : ℕ) (kind : JobKind) (h : Held) (lane : UpLane) (fill : Fill) (old new : Pending) → takes lane h ≡ true → fill ≡ fill_of lane.action.family (Some h)
-    → new ≡ ordered at (filled_order kind lane fill ∷ []) old → new ≡ ordered at (order_where kind h lane) old
-taken_order at kind h lane fill old new taken is one = rw taken (one ∙ ap (λ f. ordered at (filled_order kind lane f ∷ []) old) is)
+pub taken_order : (at : ℕ) (lines : List ℕ) (kind : JobKind) (h : Held) (lane : UpLane) (fill : Fill) (old new : Pending) → takes lane h ≡ true
+    → fill ≡ record (fill_of lane.action.family (Some h)) { matches = lines }
+    → new ≡ ordered at (filled_order kind lane fill ∷ []) old → new ≡ ordered at (order_where lines kind h lane) old
+taken_order at lines kind h lane fill old new taken is one = rw taken (one ∙ ap (λ f. ordered at (filled_order kind lane f ∷ []) old) is)
 
 -- a lane that does not take it has no order
-pub no_order : (at : ℕ) (kind : JobKind) (h : Held) (lane : UpLane) (old : Pending) → takes lane h ≡ false → old ≡ ordered at (order_where kind h lane) old
-no_order at kind h lane old passed = rw passed (ordered_none at old)
+pub no_order : (at : ℕ) (lines : List ℕ) (kind : JobKind) (h : Held) (lane : UpLane) (old : Pending) → takes lane h ≡ false → old ≡ ordered at (order_where lines kind h lane) old
+no_order at lines kind h lane old passed = rw passed (ordered_none at old)
 
 -- a ban more of a jail, read at its place
 pub held_step : (kind : JobKind) (lane : UpLane) (jail : List ℕ) (at : ℕ) (bans items : List Banned) (i : ℕ) (other : Banned) (old mid new : Pending) → items ≡ bans → i < length items
     → mid ≡ ordered at (lane_orders kind lane (map (λ (b : Banned). record { jail = jail; ban = b }) (take i bans))) old
-    → new ≡ ordered at (order_where kind (record { jail = jail; ban = get_or items i other }) lane) mid
+    → new ≡ ordered at (order_where [] kind (record { jail = jail; ban = get_or items i other }) lane) mid
     → new ≡ ordered at (lane_orders kind lane (map (λ (b : Banned). record { jail = jail; ban = b }) (take (i + 1) bans))) old
 held_step kind lane jail at bans items i other old mid new same less so_far one =
     let within : i < length bans = omega (arith, less, ap length same) in
-    ordered_step (λ bs. lane_orders kind lane (map (λ (b : Banned). record { jail = jail; ban = b }) bs)) (λ b. order_where kind (record { jail = jail; ban = b }) lane) (jail_orders_more kind lane jail)
+    ordered_step (λ bs. lane_orders kind lane (map (λ (b : Banned). record { jail = jail; ban = b }) bs)) (λ b. order_where [] kind (record { jail = jail; ban = b }) lane) (jail_orders_more kind lane jail)
     at bans i (get_or items i other) old mid new within
     (ap (λ bs. get_or bs i other) same ∙ get_or_default bans i other (get_or items i other) within) so_far one

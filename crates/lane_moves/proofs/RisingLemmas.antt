@@ -1,8 +1,7 @@
 -- Jobs by rising id.
 use Rattle.std.proofs.Common.{ℕ, zero, suc, ◌≡◌, ◌+◌, ◌<◌, ◌≤◌, List, [], ◌∷◌, length, take, get_or, ap, arith}
 use Rattle.f2b_base.specs.declared.job.Job.{Job}
-use Rattle.f2b_model.specs.Jobs.{AllIdsBelow}
-use Rattle.lane_moves.specs.Held.{AreById}
+use Rattle.f2b_model.specs.Jobs.{AllIdsBelow, AreById}
 
 -- no id is below the number that they rise from
 from_first : (from : ℕ) (jobs : List Job) (next i : ℕ) (job : Job) → AreById from jobs next → i < length jobs → job ≡ get_or jobs i job → from ≤ job.id
@@ -18,14 +17,3 @@ below_before from (x ∷ jobs) next zero job rise less is = tt
 below_before from (x ∷ jobs) next (suc i) job rise less is =
     let later : x.id + 1 ≤ job.id = from_first (x.id + 1) jobs next i job rise.1 (omega arith) is in
     (omega (arith, later), below_before (x.id + 1) jobs next i job rise.1 (omega arith) is)
-
-from_next : (from : ℕ) (jobs : List Job) (next : ℕ) → AreById from jobs next → from ≤ next
-from_next from [] next rise = rise
-from_next from (x ∷ jobs) next rise = let later : x.id + 1 ≤ next = from_next (x.id + 1) jobs next rise.1 in omega (arith, later, rise.0)
-
--- the ids are below the number that they stop at
-pub below_next : (from : ℕ) (jobs : List Job) (next : ℕ) → AreById from jobs next → AllIdsBelow next jobs
-below_next from [] next rise = tt
-below_next from (x ∷ jobs) next rise =
-    let later : x.id + 1 ≤ next = from_next (x.id + 1) jobs next rise.1 in
-    (omega (arith, later), below_next (x.id + 1) jobs next rise.1)

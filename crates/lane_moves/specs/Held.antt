@@ -1,8 +1,7 @@
--- What the lanes of a server take: the active bans of its jails, jobs by id, and whether a configuration leaves lanes alone.
-use Rattle.std.specs.Prelude.{ℕ, ◌+◌, ◌≤◌, Bool, not, ◌&&◌, List, [], ◌∷◌, ◌++◌, map}
+-- What the lanes of a server take: the active bans of its jails, and whether a configuration leaves lanes alone.
+use Rattle.std.specs.Prelude.{Bool, not, ◌&&◌, List, [], ◌∷◌, ◌++◌, map}
 use Rattle.std.specs.List.{list_any}
 use Rattle.f2b_base.specs.declared.ban.Ban.{Ban}
-use Rattle.f2b_base.specs.declared.job.Job.{Job}
 use Rattle.f2b_base.specs.declared.job.UpLane.{UpLane}
 use Rattle.f2b_model.specs.Lanes.{is_among}
 use Rattle.f2b_model.specs.Orders.{Held, is_up, lane_id}
@@ -16,11 +15,6 @@ held_in_jail j = map (λ (b : Ban). record { jail = j.jail; ban = b }) j.bans
 abbrev pub held_of : List JailBans → List Held
 held_of [] = []
 held_of (j ∷ js) = held_in_jail j ++ held_of js
-
--- the ids of jobs rise, from a number on and below another
-abbrev pub AreById : ℕ → List Job → ℕ → Type 0
-AreById from [] next = from ≤ next
-AreById from (job ∷ jobs) next = (from ≤ job.id) × AreById (job.id + 1) jobs next
 
 -- whether the lanes that are up are just these: none has to go down, and none to come up
 abbrev pub are_just : List UpLane → List UpLane → Bool

@@ -4,7 +4,7 @@ use Rattle.f2b_base.specs.declared.job.Job.{Job}
 use Rattle.f2b_base.specs.declared.job.JobKind.{JobKind}
 use Rattle.f2b_base.specs.declared.job.UpLane.{UpLane}
 use Rattle.f2b_model.specs.declared.fill.Fill.{Fill}
-use Rattle.f2b_model.specs.Orders.{Held, lane_id, takes, template, order}
+use Rattle.f2b_model.specs.Orders.{Held, lane_id, takes, template, order_showing}
 use Rattle.f2b_model.specs.Render.{rendered}
 use Rattle.f2b_model.specs.Turns.{Order, numbered}
 
@@ -27,6 +27,6 @@ filled_order kind lane f = record {
   timeout = lane.action.timeout;
 }
 
--- a job of that kind for the lane where it takes the ban
-abbrev pub order_where : JobKind → Held → UpLane → List Order
-order_where kind h lane = if takes lane h then order kind (Some h) lane ∷ [] else []
+-- a job of that kind, whose command shows these lines, for the lane where it takes the ban
+abbrev pub order_where : List ℕ → JobKind → Held → UpLane → List Order
+order_where lines kind h lane = if takes lane h then order_showing lines kind (Some h) lane ∷ [] else []

@@ -1,17 +1,23 @@
 //! `Actions` and its calls.
-ghost use Rattle.std.specs.Prelude.{◌≡◌, ◌≤◌, false, [], OnOk, IfOk};
-ghost use Rattle.f2b_model.specs.Lanes.{all_down, all_up, books_now, issue, lane_down, lane_up, lanes_of, missing_up, others_down, stopped, try_ended};
-ghost use Rattle.f2b_model.specs.Orders.{told_orders};
+ghost use Rattle.std.specs.Prelude.{◌≡◌, ◌≤◌, ◌++◌, false, [], Some, option_copied, OnOk, IfOk};
+ghost use Rattle.f2b_base.specs.declared.input.What.TheVariants.{CheckFailed, Ended};
+ghost use Rattle.f2b_model.specs.Checks.{check_of, checked_lane, lane_of};
+ghost use Rattle.f2b_model.specs.Jobs.{AreById};
+ghost use Rattle.f2b_model.specs.Lanes.{all_down, all_up, books_now, check_failed, lane_down, lane_failed, lane_up, lanes_issued, lanes_of, missing_up, others_down, restarted, stopped, try_ended};
+ghost use Rattle.f2b_model.specs.LanesTold.{lanes_told, told_check};
 ghost use Rattle.f2b_base.specs.Limits.{last_moment};
-ghost use Rattle.lane_moves.specs.Held.{are_just, held_of, AreById};
+ghost use Rattle.lane_moves.specs.Held.{are_just, held_of};
 
 use crate::book::JobBook;
 use crate::held::JailBans;
-use crate::orders::{order_down, order_told, order_up};
-use crate::up::{has_others, lacks_some, missing, others, take_out};
+use crate::orders::{order_down, order_restart, order_told, order_up};
+use crate::tells::{tell_check, tell_try};
+use crate::up::{
+    has_others, is_up_by_name, lacks_some, lane_of, missing, others, take_out, with_check,
+};
 use action_queue::Lanes;
-use f2b_base::{Defs, Job, NoMemory, Outcome, Plain, Seq, UpLane};
-use f2b_model::Happening;
+use f2b_base::{Defs, Job, LaneId, NoMemory, Outcome, Plain, Seq, UpLane};
+use f2b_model::{Happening, LaneHappening};
 use std::alloc::Global;
 use std::marker::Model;
 
@@ -98,18 +104,68 @@ impl Actions {
 
     /// Makes the jobs of what a step told: one for each lane that takes a ban which began or ended, in order of coming up.
     pub fn issue(&mut self, told: &[Happening], at: u64) -> Result<(), NoMemory>
-        ensures { OnOk result (self.new ≡ issue books_now at (told_orders self.old.up told.now) self.old) }
+        ensures { OnOk result (self.new ≡ lanes_issued books_now at told.now self.old) }
     {
         order_told(&mut self.book, self.up.as_slice(), told, at)
     }
 
-    /// Takes the ending of a try at a moment, in seconds since 1970. It counts where the job is the first of its lane. Takes no memory.
-    pub fn ended(&mut self, job: u64, outcome: Outcome, at: u64)
+    /// Takes the ending of a try at a moment, in seconds since 1970, and tells of it where it failed. It counts where the job is the
+    /// first of its lane.
+    pub fn ended(
+        &mut self,
+        told: &mut Seq<LaneHappening>,
+        job: u64,
+        outcome: Outcome,
+        at: u64,
+    ) -> Result<(), NoMemory>
         requires { at ≤ last_moment }
-        ensures { self.new ≡ try_ended books_now at job outcome self.old }
+        ensures lanes { OnOk result (self.new ≡ try_ended books_now at job outcome self.old) }
+        ensures told { OnOk result (told.new ≡ told.old ++ lanes_told books_now at (Ended job outcome) self.old) }
     {
-        if self.book.is_head(job) {
-            self.book.settle(job, outcome, at);
+        if !self.book.is_head(job) {
+            return Ok(());
+        }
+        match self.book.find(job) {
+            Some(first) => {
+                let first = first.copy()?;
+                let settled = self.book.settle(job, outcome, at);
+                tell_try(told, first, outcome, settled)
+            }
+            None => Ok(()),
+        }
+    }
+
+    /// The lane whose check is run before a try of the job: the job is a Ban or an Unban and the first of its lane, and the lane is
+    /// up, has a check and is not about to stop. Takes no memory.
+    pub fn check_of(&self, job: u64) -> Option<&UpLane>
+        ensures { option_copied result ≡ check_of self.now.up job self.now.jobs }
+    {
+        let lane = self.book.checked(job)?;
+        if self.book.is_closing(lane) {
+            return None;
+        }
+        with_check(self.up.as_slice(), lane)
+    }
+
+    /// Takes it that the check of a job failed, with these bans, and tells of it. It counts where the job is a Ban or an Unban and the
+    /// first of its lane: the lane's jobs are voided up to its first Stop, and where it has none it starts anew.
+    pub fn check_failed(
+        &mut self,
+        told: &mut Seq<LaneHappening>,
+        held: &[JailBans],
+        job: u64,
+        outcome: Outcome,
+        at: u64,
+    ) -> Result<(), NoMemory>
+        ensures lanes { OnOk result (self.new ≡ check_failed books_now at (held_of held.now) job self.old) }
+        ensures told { OnOk result (told.new ≡ told.old ++ lanes_told books_now at (CheckFailed job outcome) self.old) }
+    {
+        match self.book.checked(job) {
+            Some(lane) => {
+                let lane = lane.copy()?;
+                self.lane_failed(told, held, job, &lane, outcome, at)
+            }
+            None => Ok(()),
         }
     }
 
@@ -146,6 +202,41 @@ impl Actions {
         ensures { result ≡ are_just (lanes_of defs.now) self.now.up }
     {
         !has_others(self.up.as_slice(), defs) && !lacks_some(self.up.as_slice(), defs)
+    }
+
+    /// Takes it that the check of a lane failed before a try of its first job.
+    fn lane_failed(
+        &mut self,
+        told: &mut Seq<LaneHappening>,
+        held: &[JailBans],
+        job: u64,
+        lane: &LaneId,
+        outcome: Outcome,
+        at: u64,
+    ) -> Result<(), NoMemory>
+        requires { checked_lane job self.old.jobs ≡ Some lane.now }
+        ensures lanes { OnOk result (self.new ≡ lane_failed books_now at (held_of held.now) lane.now self.old) }
+        ensures told { OnOk result (told.new ≡ told.old ++ told_check outcome self.old.up self.old.jobs (Some lane.now)) }
+    {
+        let closing = self.book.is_closing(lane);
+        let restarts = !closing && is_up_by_name(self.up.as_slice(), lane);
+        tell_check(told, lane, outcome, restarts)?;
+        self.book.void(job);
+        if closing {
+            return Ok(());
+        }
+        self.restart(held, lane, at)?;
+        Ok(())
+    }
+
+    /// Starts a lane anew where it is up, with these bans: it stops, starts, and takes them again.
+    fn restart(&mut self, held: &[JailBans], lane: &LaneId, at: u64) -> Result<(), NoMemory>
+        ensures { OnOk result (self.new ≡ restarted books_now at (held_of held.now) (lane_of lane.now self.old.up) self.old) }
+    {
+        match lane_of(self.up.as_slice(), lane) {
+            Some(lane) => order_restart(&mut self.book, lane, held, at),
+            None => Ok(()),
+        }
     }
 
     /// Takes a lane down, with these bans: they are taken back, it stops, and is not up any more.

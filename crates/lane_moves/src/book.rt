@@ -1,15 +1,16 @@
 //! The jobs that are not settled, with the id of the job to come. A job is written when it is ordered, and stands behind the others.
-ghost use Rattle.std.specs.Prelude.{◌≡◌, ◌≤◌, true, [], ◌∷◌, OnOk, IfOk};
+ghost use Rattle.std.specs.Prelude.{ℕ, ◌≡◌, ◌≤◌, true, [], ◌∷◌, option_copied, OnOk, IfOk, IfSome};
+ghost use Rattle.action_queue.specs.Checks.{void_each, voided_in};
 ghost use Rattle.action_queue.specs.Tries.{ending_of};
-ghost use Rattle.f2b_model.specs.Jobs.{is_head_id, settle_in};
+ghost use Rattle.f2b_model.specs.Checks.{checked_lane, is_closing};
+ghost use Rattle.f2b_model.specs.Jobs.{is_head_id, job_by_id, settle_in, settled_as, AreById};
 ghost use Rattle.f2b_model.specs.Orders.{lane_id};
 ghost use Rattle.f2b_base.specs.Limits.{last_moment};
-ghost use Rattle.lane_moves.specs.Held.{AreById};
 ghost use Rattle.lane_moves.specs.Pending.{filled_order, ordered};
 
 use crate::texts::template;
 use action_queue::Lanes;
-use f2b_base::{Job, JobKind, LaneId, NoMemory, Outcome, Plain, UpLane};
+use f2b_base::{Job, JobKind, LaneId, NoMemory, Outcome, Plain, Settled, UpLane};
 use f2b_model::Fill;
 use std::alloc::Global;
 use std::marker::Model;
@@ -100,13 +101,43 @@ impl JobBook {
         self.jobs.is_head(job)
     }
 
-    /// Takes the ending of a try of a lane's first job, in seconds since 1970. Takes no memory.
-    pub(crate) fn settle(&mut self, job: u64, outcome: Outcome, at: u64)
-        requires head { is_head_id job self.old.jobs ≡ true }
-        requires at { at ≤ last_moment }
-        ensures { self.new ≡ record self.old { jobs = settle_in (ending_of job outcome at) self.old.jobs } }
+    /// The job of that id.
+    pub(crate) fn find(&self, id: u64) -> Option<&Job>
+        ensures { option_copied result ≡ job_by_id id self.now.jobs }
     {
-        let _settled = self.jobs.settle(job, outcome, at);
+        self.jobs.find(id)
+    }
+
+    /// Takes the ending of a try of a lane's first job, in seconds since 1970, and says what it did to the job. Takes no memory.
+    pub(crate) fn settle(&mut self, id: u64, outcome: Outcome, at: u64) -> Settled
+        requires head { is_head_id id self.old.jobs ≡ true }
+        requires at { at ≤ last_moment }
+        ensures jobs { self.new ≡ record self.old { jobs = settle_in (ending_of id outcome at) self.old.jobs } }
+        ensures answer { IfSome (job_by_id id self.old.jobs) (λ job. result ≡ settled_as (ending_of id outcome at) job) }
+    {
+        self.jobs.settle(id, outcome, at)
+    }
+
+    /// Whether a Stop of the lane is pending.
+    pub(crate) fn is_closing(&self, lane: &LaneId) -> bool
+        ensures { result ≡ is_closing lane.now self.now.jobs }
+    {
+        self.jobs.closing(lane)
+    }
+
+    /// The lane of the job of that id, where the job is checked and the first of the lane.
+    pub(crate) fn checked(&self, id: u64) -> Option<&LaneId>
+        ensures { option_copied result ≡ checked_lane id self.now.jobs }
+    {
+        self.jobs.checked(id)
+    }
+
+    /// Voids the job of that id and those of its lane behind it, up to the lane's first Stop, where the job is checked and the first of
+    /// its lane. Takes no memory.
+    pub(crate) fn void(&mut self, id: u64)
+        ensures { (at : ℕ) → self.new ≡ record self.old { jobs = void_each at (voided_in (checked_lane id self.old.jobs) self.old.jobs) self.old.jobs } }
+    {
+        let _end = self.jobs.check_failed(id);
     }
 
     /// Adds a job of that kind for the lane, with these values in its command, due at a moment in seconds since 1970.

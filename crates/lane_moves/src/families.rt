@@ -3,7 +3,7 @@ ghost use Rattle.std.specs.Prelude.{◌≡◌};
 ghost use Rattle.f2b_model.specs.Families.{in_family, same_action, same_up};
 ghost use Rattle.f2b_model.specs.Orders.{is_lane, lane_id};
 
-use f2b_base::{ActionDef, Addr, Family, Text, UpLane};
+use f2b_base::{ActionDef, Addr, Family, LaneId, Text, UpLane};
 
 /// Whether an address is of a family: each is of Both.
 pub(crate) fn in_family(family: Family, addr: Addr) -> bool
@@ -42,4 +42,11 @@ pub(crate) fn is_lane(lane: &UpLane, jail: &Text, action: &ActionDef) -> bool
 {
     lane.jail == *jail
         && (lane.action.name == action.name && lane.action.family.same(action.family))
+}
+
+/// Whether a lane that is up has that name.
+pub(crate) fn has_name(lane: &UpLane, id: &LaneId) -> bool
+    ensures { result ≡ is_lane id.now lane.now }
+{
+    lane.jail == id.jail && (lane.action.name == id.action && lane.action.family.same(id.family))
 }

@@ -38,9 +38,10 @@ fn lasting(begin: u64, until: Until) -> Result<i64, NoMemory>
     }
 }
 
-/// The values of a ban's job, whatever the lane and the name of the jail.
-pub(crate) fn ban_fill(alloc: Global, ban: Ban) -> Result<Fill, NoMemory>
-    ensures { IfOk result (λ fill. (family : Family) (jail : List ℕ) → fill ≡ fill_of family (Some (record { jail = jail; ban = ban }))) }
+/// The values of a ban's job that shows these lines, whatever the lane and the name of the jail.
+pub(crate) fn ban_fill(alloc: Global, ban: Ban, lines: &str) -> Result<Fill, NoMemory>
+    ensures { IfOk result (λ fill. (family : Family) (jail : List ℕ)
+        → fill ≡ record (fill_of family (Some (record { jail = jail; ban = ban }))) { matches = lines.now }) }
 {
     Ok(Fill {
         ip: Some(ban.addr),
@@ -49,7 +50,7 @@ pub(crate) fn ban_fill(alloc: Global, ban: Ban) -> Result<Fill, NoMemory>
         time: ban.begin,
         bantime: lasting(ban.begin, ban.until)?,
         bancount: ban.count,
-        matches: Text::new(alloc),
+        matches: Text::from_str(alloc, lines)?,
     })
 }
 

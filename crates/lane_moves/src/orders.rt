@@ -1,6 +1,6 @@
 //! The jobs that bans and lanes order.
 ghost use Rattle.std.specs.Prelude.{◌≡◌, None, [], ◌∷◌, OnOk};
-ghost use Rattle.f2b_model.specs.Orders.{ban_orders, down_orders, lane_orders, order, takes, told_orders, up_orders};
+ghost use Rattle.f2b_model.specs.Orders.{ban_orders, down_orders, lane_orders, order, restart_orders, takes, told_orders, up_orders};
 ghost use Rattle.lane_moves.specs.Held.{held_in_jail, held_of};
 ghost use Rattle.lane_moves.specs.Pending.{order_where, ordered};
 
@@ -18,42 +18,45 @@ fn takes(lane: &UpLane, jail: &Text, ban: Ban) -> bool
     *jail == lane.jail && in_family(lane.action.family, ban.addr)
 }
 
-/// Orders a job of that kind for the lane where it takes the ban.
+/// Orders a job of that kind, whose command shows these lines, for the lane where it takes the ban.
 fn order_where(
     book: &mut JobBook,
+    lines: &str,
     kind: JobKind,
     jail: &Text,
     ban: Ban,
     lane: &UpLane,
     at: u64,
 ) -> Result<(), NoMemory>
-    ensures { OnOk result (book.new ≡ ordered at (order_where kind (record { jail = jail.now; ban = ban }) lane.now) book.old) }
+    ensures { OnOk result (book.new ≡ ordered at (order_where lines.now kind (record { jail = jail.now; ban = ban }) lane.now) book.old) }
 {
     if takes(lane, jail, ban) {
-        let fill = ban_fill(book.alloc(), ban)?;
+        let fill = ban_fill(book.alloc(), ban, lines)?;
         book.order(kind, lane, &fill, at)?;
     }
     Ok(())
 }
 
-/// Orders a job of that kind for each lane that takes the ban, in order of coming up.
+/// Orders a job of that kind, whose command shows these lines, for each lane that takes the ban, in order of coming up.
 fn order_ban(
     book: &mut JobBook,
+    lines: &str,
     kind: JobKind,
     jail: &Text,
     ban: Ban,
     up: &[UpLane],
     at: u64,
 ) -> Result<(), NoMemory>
-    ensures { OnOk result (book.new ≡ ordered at (ban_orders kind (record { jail = jail.now; ban = ban }) up.now) book.old) }
+    ensures { OnOk result (book.new ≡ ordered at (ban_orders lines.now kind (record { jail = jail.now; ban = ban }) up.now) book.old) }
 {
     for lane in up {
-        order_where(book, kind, jail, ban, lane, at)?;
+        order_where(book, lines, kind, jail, ban, lane, at)?;
     }
     Ok(())
 }
 
-/// Orders the jobs of one thing that a step told: Ban jobs as a ban begins, Unban jobs as one ends.
+/// Orders the jobs of one thing that a step told: Ban jobs as a ban begins, which show the lines that were told with it, Unban jobs
+/// as one ends.
 fn order_one(
     book: &mut JobBook,
     up: &[UpLane],
@@ -64,8 +67,10 @@ fn order_one(
 {
     match happening {
         Happening::Counts { .. } => Ok(()),
-        Happening::Begins { jail, ban } => order_ban(book, JobKind::Ban, jail, *ban, up, at),
-        Happening::Ends { jail, ban } => order_ban(book, JobKind::Unban, jail, *ban, up, at),
+        Happening::Begins { jail, ban, matches } => {
+            order_ban(book, matches.as_str(), JobKind::Ban, jail, *ban, up, at)
+        }
+        Happening::Ends { jail, ban } => order_ban(book, "", JobKind::Unban, jail, *ban, up, at),
     }
 }
 
@@ -106,7 +111,7 @@ fn order_held_in(
         return Ok(());
     }
     for ban in jail.bans.as_slice() {
-        order_where(book, kind, &jail.jail, *ban, lane, at)?;
+        order_where(book, "", kind, &jail.jail, *ban, lane, at)?;
     }
     Ok(())
 }
@@ -152,5 +157,20 @@ pub(crate) fn order_up(
 {
     order_lane(book, JobKind::Start, lane, at)?;
     order_held(book, JobKind::Ban, lane, held, at)?;
+    Ok(())
+}
+
+/// Orders what starts a lane anew: it stops and starts, then takes its bans again.
+pub(crate) fn order_restart(
+    book: &mut JobBook,
+    lane: &UpLane,
+    held: &[JailBans],
+    at: u64,
+) -> Result<(), NoMemory>
+    ensures { OnOk result (book.new ≡ ordered at (restart_orders lane.now (held_of held.now)) book.old) }
+{
+    order_lane(book, JobKind::Stop, lane, at)?;
+    order_lane(book, JobKind::Start, lane, at)?;
+    order_held(book, JobKind::Reban, lane, held, at)?;
     Ok(())
 }

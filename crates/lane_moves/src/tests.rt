@@ -5,13 +5,13 @@ use f2b_base::{
     ActionDef, Addr, Ban, BanRule, DateSpec, Defs, Family, JailDef, NoMemory, Outcome, Seq, Text,
     Until,
 };
-use f2b_model::Happening;
+use f2b_model::{Happening, LaneHappening};
 use std::alloc::Global;
 use std::process::Abort;
 use std::test::Fail;
 
 /// A ban of 192.0.2.1 for ten minutes.
-const SHORT: Ban = Ban {
+pub(crate) const SHORT: Ban = Ban {
     serial: 1,
     addr: Addr::V4(0xc000_0201),
     begin: 1000,
@@ -21,7 +21,7 @@ const SHORT: Ban = Ban {
 };
 
 /// A ban of 2001:db8::1 that never ends.
-const ENDLESS: Ban = Ban {
+pub(crate) const ENDLESS: Ban = Ban {
     serial: 2,
     addr: Addr::V6(0x2001_0db8_0000_0000_0000_0000_0000_0001),
     begin: 1200,
@@ -45,10 +45,10 @@ fn action(alloc: Global, family: Family, word: &str) -> Result<ActionDef, NoMemo
         ban: command(
             alloc,
             word,
-            "ban <ip> <family> <failures> <time> <bantime> <bancount>",
+            "ban <ip> <family> <failures> <time> <bantime> <bancount>:<matches>",
         )?,
         unban: command(alloc, word, "unban <ip>")?,
-        check: Text::new(alloc),
+        check: Text::from_str(alloc, "test -e /x")?,
         timeout: 60,
     })
 }
@@ -86,7 +86,7 @@ fn defs_of(alloc: Global, families: &[Family], word: &str) -> Result<Defs, NoMem
 }
 
 /// The active bans of a jail: one.
-fn held_of(alloc: Global, jail: &str, ban: Ban) -> Result<JailBans, NoMemory> {
+pub(crate) fn held_of(alloc: Global, jail: &str, ban: Ban) -> Result<JailBans, NoMemory> {
     let mut bans = Seq::new(alloc);
     bans.push(ban)?;
     Ok(JailBans {
@@ -96,9 +96,20 @@ fn held_of(alloc: Global, jail: &str, ban: Ban) -> Result<JailBans, NoMemory> {
 }
 
 fn begins(alloc: Global, jail: &str, ban: Ban) -> Result<Happening, NoMemory> {
+    begins_with(alloc, jail, ban, "")
+}
+
+/// A ban that begins, with the lines that led to it.
+pub(crate) fn begins_with(
+    alloc: Global,
+    jail: &str,
+    ban: Ban,
+    lines: &str,
+) -> Result<Happening, NoMemory> {
     Ok(Happening::Begins {
         jail: Text::from_str(alloc, jail)?,
         ban,
+        matches: Text::from_str(alloc, lines)?,
     })
 }
 
@@ -125,14 +136,55 @@ fn shown(alloc: Global, actions: &Actions) -> Result<String, NoMemory> {
 }
 
 /// The jobs are these, one a line.
-fn expect_jobs(rt: &impl Abort, alloc: Global, actions: &Actions, want: &str) -> Result<(), Fail> {
+pub(crate) fn expect_jobs(
+    rt: &impl Abort,
+    alloc: Global,
+    actions: &Actions,
+    want: &str,
+) -> Result<(), Fail> {
     let jobs = shown(alloc, actions)?;
     assert_eq!(rt; jobs.as_str(), want);
     Ok(())
 }
 
+/// What was told, one thing a line: the kind of a job whose try failed, how, and whether that was the last; `check` and how it
+/// failed; `anew`.
+fn lines_of(alloc: Global, told: &Seq<LaneHappening>) -> Result<String, NoMemory> {
+    let mut out = String::new(alloc);
+    for happening in told.as_slice() {
+        let line = match happening {
+            LaneHappening::TryFails {
+                kind,
+                outcome,
+                last,
+                ..
+            } => format!(in alloc; "{kind:?} {outcome:?} {last}\n")?,
+            LaneHappening::CheckFails { outcome, .. } => format!(in alloc; "check {outcome:?}\n")?,
+            LaneHappening::Restarts { .. } => String::from_str(alloc, "anew\n")?,
+        };
+        out.push_str(line.as_str())?;
+    }
+    Ok(out)
+}
+
+/// That is what was told, one thing a line.
+pub(crate) fn expect_said(
+    rt: &impl Abort,
+    alloc: Global,
+    told: &Seq<LaneHappening>,
+    want: &str,
+) -> Result<(), Fail> {
+    let lines = lines_of(alloc, told)?;
+    assert_eq!(rt; lines.as_str(), want);
+    Ok(())
+}
+
 /// The lanes of the jail, which come up with these bans.
-fn lanes_up(alloc: Global, families: &[Family], held: &[JailBans]) -> Result<Actions, NoMemory> {
+pub(crate) fn lanes_up(
+    alloc: Global,
+    families: &[Family],
+    held: &[JailBans],
+) -> Result<Actions, NoMemory> {
     let defs = defs_of(alloc, families, "old")?;
     let mut actions = Actions::new(alloc);
     actions.missing_up(held, &defs, 900)?;
@@ -160,8 +212,8 @@ fn a_ban_goes_to_the_lanes_that_take_it(rt: HostRuntime) -> Result<(), Fail> {
         alloc,
         &one,
         "0 Start 0 old start inet4\n\
-         1 Ban 0 old ban 192.0.2.1 inet4 5 1000 600 2\n\
-         2 Ban 0 old ban 2001:db8::1 inet6 3 1200 -1 0\n\
+         1 Ban 0 old ban 192.0.2.1 inet4 5 1000 600 2:\n\
+         2 Ban 0 old ban 2001:db8::1 inet6 3 1200 -1 0:\n\
          3 Unban 0 old unban 192.0.2.1\n",
     )?;
 
@@ -173,8 +225,8 @@ fn a_ban_goes_to_the_lanes_that_take_it(rt: HostRuntime) -> Result<(), Fail> {
         &two,
         "0 Start 0 old start inet4\n\
          1 Start 0 old start inet6\n\
-         2 Ban 0 old ban 192.0.2.1 inet4 5 1000 600 2\n\
-         3 Ban 0 old ban 2001:db8::1 inet6 3 1200 -1 0\n\
+         2 Ban 0 old ban 192.0.2.1 inet4 5 1000 600 2:\n\
+         3 Ban 0 old ban 2001:db8::1 inet6 3 1200 -1 0:\n\
          4 Unban 0 old unban 192.0.2.1\n",
     )
 }
@@ -203,11 +255,11 @@ fn a_changed_action_goes_down_and_comes_up(rt: HostRuntime) -> Result<(), Fail> 
         alloc,
         &actions,
         "0 Start 0 old start inet4\n\
-         1 Ban 0 old ban 192.0.2.1 inet4 5 1000 600 2\n\
+         1 Ban 0 old ban 192.0.2.1 inet4 5 1000 600 2:\n\
          2 Unban 0 old unban 192.0.2.1\n\
          3 Stop 0 old stop inet4\n\
          4 Start 0 new start inet4\n\
-         5 Ban 0 new ban 192.0.2.1 inet4 5 1000 600 2\n",
+         5 Ban 0 new ban 192.0.2.1 inet4 5 1000 600 2:\n",
     )
 }
 
@@ -221,8 +273,9 @@ fn a_stop_and_failed_tries(rt: HostRuntime) -> Result<(), Fail> {
     actions.stop(&held, 1000)?;
     assert!(rt; actions.is_stopping() && actions.up().is_empty());
 
-    actions.ended(70, Outcome::Status(1), 1000);
-    actions.ended(71, Outcome::Status(0), 1000);
+    let mut said = Seq::new(alloc);
+    actions.ended(&mut said, 70, Outcome::Status(1), 1000)?;
+    actions.ended(&mut said, 71, Outcome::Status(0), 1000)?;
     expect_jobs(
         &rt,
         alloc,
@@ -230,7 +283,16 @@ fn a_stop_and_failed_tries(rt: HostRuntime) -> Result<(), Fail> {
         "70 Unban 1 old unban 2001:db8::1\n\
          71 Stop 0 old stop inet6\n",
     )?;
-    actions.ended(70, Outcome::NotStarted, 1002);
-    actions.ended(70, Outcome::TimedOut, 1006);
-    expect_jobs(&rt, alloc, &actions, "71 Stop 0 old stop inet6\n")
+    actions.ended(&mut said, 70, Outcome::NotStarted, 1002)?;
+    actions.ended(&mut said, 70, Outcome::TimedOut, 1006)?;
+    expect_jobs(&rt, alloc, &actions, "71 Stop 0 old stop inet6\n")?;
+    actions.ended(&mut said, 71, Outcome::Status(0), 1006)?;
+    expect_said(
+        &rt,
+        alloc,
+        &said,
+        "Unban Status(1) false\n\
+         Unban NotStarted false\n\
+         Unban TimedOut true\n",
+    )
 }

@@ -1,11 +1,12 @@
 //! Which lanes are up, and which of a configuration are.
-ghost use Rattle.std.specs.Prelude.{◌≡◌, [], ◌∷◌, ◌++◌, not, filter, IfOk, OnOk};
+ghost use Rattle.std.specs.Prelude.{◌≡◌, [], ◌∷◌, ◌++◌, not, filter, option_copied, IfOk, OnOk};
 ghost use Rattle.std.specs.List.{list_any};
+ghost use Rattle.f2b_model.specs.Checks.{lane_of, with_check};
 ghost use Rattle.f2b_model.specs.Lanes.{is_among, lanes_of, lanes_of_jail};
 ghost use Rattle.f2b_model.specs.Orders.{is_lane, is_up, lane_id};
 
-use crate::families::{is_lane, same_up};
-use f2b_base::{ActionDef, Defs, JailDef, NoMemory, Plain, Seq, Text, UpLane};
+use crate::families::{has_name, is_lane, same_up};
+use f2b_base::{ActionDef, Defs, JailDef, LaneId, NoMemory, Plain, Seq, Text, UpLane};
 use std::alloc::Global;
 
 /// Whether the lane of a jail and an action is up, whatever its texts.
@@ -13,6 +14,34 @@ fn is_up(up: &[UpLane], jail: &Text, action: &ActionDef) -> bool
     ensures { result ≡ is_up up.now (lane_id (record { jail = jail.now; action = action.now })) }
 {
     up.iter().any(|lane| is_lane(lane, jail, action))
+}
+
+/// The lane of that name, if it is up.
+pub(crate) fn lane_of<'a>(up: &'a [UpLane], id: &LaneId) -> Option<&'a UpLane>
+    ensures { option_copied result ≡ lane_of id.now up.now }
+{
+    up.iter().find(|lane| has_name(lane, id))
+}
+
+/// Whether the lane of that name is up.
+pub(crate) fn is_up_by_name(up: &[UpLane], id: &LaneId) -> bool
+    ensures { result ≡ is_up up.now id.now }
+{
+    up.iter().any(|lane| has_name(lane, id))
+}
+
+/// The lane of that name, if it is up and has a check.
+pub(crate) fn with_check<'a>(up: &'a [UpLane], id: &LaneId) -> Option<&'a UpLane>
+    ensures { option_copied result ≡ with_check (lane_of id.now up.now) }
+{
+    match lane_of(up, id) {
+        Some(lane) => if lane.action.check.as_str() == "" {
+            None
+        } else {
+            Some(lane)
+        },
+        None => None,
+    }
 }
 
 /// Whether a lane is among those of a jail, with the same action.

@@ -7,7 +7,7 @@ use Rattle.std.proofs.lemmas.Bool.{cases_Bool, and_parts}
 use Rattle.std.proofs.lemmas.Bool.Decides.{nat_tests}
 use Rattle.std.proofs.lemmas.Str.{chars-IsAscii, encodes-IsAscii}
 use Rattle.std.proofs.lemmas.Str.Ascii.{IsAscii-nil, IsAscii-cons}
-use Rattle.tag_subst.specs.Escapes.{is_safe, safe_character, escaped}
+use Rattle.f2b_model.specs.Escapes.{is_safe, safe_character, escaped}
 
 -- a safe character is ASCII
 small : (c : ℕ) → is_safe c ≡ true → c < 128

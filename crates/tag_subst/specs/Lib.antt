@@ -1,5 +1,4 @@
 pub mod Errors
-pub mod Escapes
 pub mod Marked
 pub mod Names
 pub mod Parts

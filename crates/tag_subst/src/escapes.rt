@@ -2,7 +2,7 @@
 ghost use Rattle.std.specs.Prelude.{◌≡◌, length, IfOk, IsTrue, encode_utf8_all, string_bytes};
 ghost use Rattle.std.specs.List.{list_all};
 ghost use Rattle.std.specs.Str.{chars};
-ghost use Rattle.tag_subst.specs.Escapes.{is_safe, safe_character, escaped};
+ghost use Rattle.f2b_model.specs.Escapes.{is_safe, safe_character, escaped};
 
 use f2b_base::{NoMemory, Text};
 use std::alloc::{AllocError, Global};

@@ -1,5 +1,9 @@
 use Rattle.std.proofs.Common.{refl}
 use Rattle.f2b_model.specs.LaneSound.{never}
+use Rattle.f2b_model.proofs.ApartLemmas.{stored_fits}
+use Rattle.f2b_model.proofs.LaterLemmas.{first_stays}
+use Rattle.f2b_model.proofs.StartLemmas.{starts_end}
+use Rattle.f2b_model.proofs.StorableWholeLemmas.{first_stored, whole_stored}
 use Rattle.f2b_model.proofs.WholeLemmas.{whole_shows, whole_keeps, whole_tells, view_again, back_sound, view_sound, view_later, view_taken, view_kept, kept_sound, told_alike, empty_sound, all_alternate, all_settled}
 use Rattle.f2b_model.proofs.laws.whole_law.Goals as goal
 
@@ -20,4 +24,9 @@ returns c = record {
   told_alike = told_alike;
   alternate = all_alternate;
   settled = all_settled;
+  starts = starts_end;
+  stays_first = first_stays;
+  stored_fits = stored_fits;
+  stored_first = first_stored;
+  stored = whole_stored;
 }

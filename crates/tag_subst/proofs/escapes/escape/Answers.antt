@@ -1,7 +1,7 @@
 use Rattle.std.proofs.Common.{ap, ◌∙◌, length}
 use Rattle.std.proofs.lemmas.List.{length-map}
 use Rattle.std.specs.Str.{chars}
-use Rattle.tag_subst.specs.Escapes.{safe_character}
+use Rattle.f2b_model.specs.Escapes.{safe_character}
 use Rattle.tag_subst.proofs.EscapeLemmas.{all_safe, encodes-safe, escaped-safe}
 use Rattle.tag_subst.proofs.escapes.escape.Goals as goal
 

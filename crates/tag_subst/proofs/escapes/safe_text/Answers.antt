@@ -1,6 +1,6 @@
 use Rattle.std.proofs.Common.{rules, tests}
 use Rattle.std.proofs.lemmas.Iterator.{YieldsList-from_chars, YieldsList-from_map, text_from_collect}
-use Rattle.tag_subst.specs.Escapes.{safe_character}
+use Rattle.f2b_model.specs.Escapes.{safe_character}
 use Rattle.tag_subst.proofs.escapes.safe_text.Goals as goal
 
 pub returns : goal.returns

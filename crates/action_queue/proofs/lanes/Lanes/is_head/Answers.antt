@@ -2,7 +2,7 @@
 use Rattle.std.proofs.Common.{sym, ap, ◌∙◌}
 use Rattle.std.specs.Prelude.{slice_get}
 use Rattle.action_queue.specs.Queues.{ids_of}
-use Rattle.action_queue.specs.Due.{is_number}
+use Rattle.action_queue.specs.Queues.{is_number}
 use Rattle.action_queue.proofs.IndexLemmas.{head_test, head_test_none}
 use Rattle.action_queue.proofs.lanes.Lanes.is_head.Goals as goal
 

@@ -1,7 +1,12 @@
-use Rattle.std.proofs.Common.{◌≡◌, ◌+◌, false, sym, ◌∙◌, ap, subst, rules}
+use Rattle.std.proofs.Common.{◌≡◌, ℕ, ◌+◌, false, List, [], ◌∷◌, ◌++◌, sym, ◌∙◌, ap, subst, rules}
+use Rattle.f2b_base.specs.declared.ban.Ban.{Ban}
+use Rattle.f2b_model.specs.declared.happening.Happening.{Happening}
 use Rattle.f2b_model.specs.declared.jail_now.JailNow.{JailNow}
-use Rattle.f2b_model.specs.Moves.{Out, is_banned}
+use Rattle.f2b_model.specs.Matches.{matches_of}
+use Rattle.f2b_model.specs.Moves.{Out, is_banned, new_ban}
+use Rattle.f2b_model.specs.Told.{begins}
 use Rattle.jail_moves.specs.Rooms.{Contents, jail_in, with_ban, IsKept}
+use Rattle.jail_moves.proofs.LineLemmas.{no_lines}
 use Rattle.jail_moves.proofs.RoomLemmas.{banned_anew, forgotten_kept, with_ban_kept}
 use Rattle.jail_moves.proofs.room.Room.ban.Goals as goal
 
@@ -22,3 +27,15 @@ returns-clause-kept c =
     subst (IsKept c.args.at (c.args.serial + 1) c.args.definition.now) (sym same)
     (with_ban_kept c.args.at c.args.word c.args.serial c.args.addr 0 c.args.definition.now (record c.args.self.now { windows = c.forget.new.self })
     (forgotten_kept c.args.at c.args.serial c.args.addr c.args.definition.now c.args.self.now c.forget.new.self c.requires.kept (search rules)))
+
+pub returns-clause-told : goal.returns-clause-told
+returns-clause-told c =
+    let ban : Ban = new_ban c.args.definition.now c.args.self.now.bans.past c.args.at c.args.word c.args.serial c.args.addr 0 in
+    let told : c.begin.new.told ≡ c.args.told.now ++ begins (matches_of c.args.definition.now.maxmatches []) c.args.definition.now.name ban ∷ [] =
+    c.in_ok-begin.ensures.told
+    ∙ ap (λ (r : Contents). c.args.told.now ++ begins (matches_of c.args.definition.now.maxmatches []) c.args.definition.now.name
+    (new_ban c.args.definition.now r.bans.past c.args.at c.args.word c.args.serial c.args.addr 0) ∷ []) c.self.view_is in
+    told
+    ∙ ap (λ (lines : List ℕ). c.args.told.now ++ begins lines c.args.definition.now.name ban ∷ []) (no_lines c.args.definition.now.maxmatches)
+    ∙ ap (λ (r : List Happening). c.args.told.now ++ r)
+    (sym (banned_anew c.args.at c.args.word c.args.serial c.args.addr c.args.definition.now c.args.self.now c.forget.new.self (free c) (search rules)).1)

@@ -1,7 +1,8 @@
 -- Each job's id is above those before it.
 use Rattle.std.proofs.Common.{◌≡◌, ◌∙◌}
 use Rattle.std.proofs.lemmas.List.{take_all}
-use Rattle.lane_moves.proofs.RisingLemmas.{below_before, below_next}
+use Rattle.f2b_model.proofs.ByIdLemmas.{by_id_below}
+use Rattle.lane_moves.proofs.RisingLemmas.{below_before}
 use Rattle.lane_moves.proofs.book.JobBook.of.Goals as goal
 
 pub push-requires : goal.push-requires
@@ -11,4 +12,4 @@ push-requires c =
 pub invariant_of-result : goal.invariant_of-result
 invariant_of-result c =
     let all : c.loop-job.lanes ≡ c.args.jobs.now = c.loop-job.invariant ∙ take_all c.loop-job.job-index c.args.jobs.now c.loop-job-test.false in
-    rw all (below_next 0 c.args.jobs.now c.args.next c.requires)
+    rw all (by_id_below 0 c.args.jobs.now c.args.next c.requires)

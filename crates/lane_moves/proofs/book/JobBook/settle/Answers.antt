@@ -5,4 +5,4 @@ use Rattle.lane_moves.proofs.book.JobBook.settle.Goals as goal
 
 pub invariant_of-self : goal.invariant_of-self
 invariant_of-self c =
-    rw c.settle-settled.ensures.jobs (below_settle c.self.inside.next (ending_of c.args.job c.args.outcome c.args.at) c.self.inside.jobs c.self.invariant)
+    rw c.settle.ensures.jobs (below_settle c.self.inside.next (ending_of c.args.id c.args.outcome c.args.at) c.self.inside.jobs c.self.invariant)

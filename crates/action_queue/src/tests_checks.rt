@@ -1,0 +1,177 @@
+//! Worked rows of checks: whose job is checked, and what is left where a check fails. A row names its lanes by letters.
+
+use crate::tests::{job_of, lane_of, push, settle};
+use crate::{CheckEnd, Lanes};
+use f2b_base::{JobKind, Outcome};
+use std::alloc::Global;
+use std::process::Abort;
+use std::test::Fail;
+
+/// What a row does, and what it wants to see.
+#[derive(Clone, Copy)]
+enum Step {
+    /// Pushes the job of that id and kind into a lane.
+    Push(u64, &'static str, JobKind),
+    /// A try of the job ends at second 1000 with that status.
+    Ends(u64, i64),
+    /// The check before a try of the job fails.
+    Fails(u64, CheckEnd),
+    /// Whether the job has a check.
+    Checked(u64, bool),
+    /// Whether the lane is about to stop.
+    Closing(&'static str, bool),
+    /// The ids of the jobs that are left.
+    Left(&'static [u64]),
+}
+
+fn see_left(
+    rt: &impl Abort,
+    alloc: Global,
+    lanes: &Lanes,
+    want: &[u64],
+    name: &str,
+) -> Result<(), Fail> {
+    let jobs = lanes.jobs(alloc)?;
+    assert_eq!(rt; jobs.len(), want.len(), "{name}: jobs");
+    for (job, &id) in jobs.as_slice().iter().zip(want) {
+        assert_eq!(rt; job.id, id, "{name}");
+    }
+    Ok(())
+}
+
+fn take_step(
+    rt: &impl Abort,
+    alloc: Global,
+    lanes: &mut Lanes,
+    step: Step,
+    name: &str,
+) -> Result<(), Fail> {
+    match step {
+        Step::Push(id, action, kind) => {
+            let mut job = job_of(alloc, id, lane_of(alloc, action)?, 1000);
+            job.kind = kind;
+            push(rt, alloc, lanes, job)?;
+        }
+        Step::Ends(id, status) => {
+            settle(rt, lanes, id, Outcome::Status(status), 1000);
+        }
+        Step::Fails(id, want) => assert_eq!(rt; lanes.check_failed(id), want, "{name}: {id}"),
+        Step::Checked(id, want) => {
+            assert_eq!(rt; lanes.checked(id).is_some(), want, "{name}: {id}");
+        }
+        Step::Closing(action, want) => {
+            let lane = lane_of(alloc, action)?;
+            assert_eq!(rt; lanes.closing(&lane), want, "{name}: {action}");
+        }
+        Step::Left(want) => see_left(rt, alloc, lanes, want, name)?,
+    }
+    Ok(())
+}
+
+fn take_row(rt: &impl Abort, alloc: Global, name: &str, steps: &[Step]) -> Result<(), Fail> {
+    let mut lanes = Lanes::new(alloc);
+    for &step in steps {
+        take_step(rt, alloc, &mut lanes, step, name)?;
+    }
+    Ok(())
+}
+
+#[test]
+fn a_failed_check_voids_its_lane_up_to_a_stop(rt: HostRuntime) -> Result<(), Fail> {
+    use JobKind::{Ban, Reban, Start, Stop, Unban};
+    use Step::{Checked, Closing, Ends, Fails, Left, Push};
+    let rows: [(&str, &[Step]); 4] = [
+        (
+            "the lane is restarted, and a Reban has no check",
+            &[
+                Push(0, "a", Start),
+                Push(1, "a", Ban),
+                Checked(0, false),
+                Checked(1, false),
+                Ends(0, 0),
+                Checked(1, true),
+                Ends(1, 0),
+                Push(2, "a", Ban),
+                Push(3, "a", Unban),
+                Closing("a", false),
+                Fails(2, CheckEnd::Open),
+                Left(&[]),
+                Push(4, "a", Stop),
+                Push(5, "a", Start),
+                Push(6, "a", Reban),
+                Checked(4, false),
+                Ends(4, 0),
+                Ends(5, 0),
+                Checked(6, false),
+                Fails(6, CheckEnd::Unchecked),
+                Left(&[6]),
+            ],
+        ),
+        (
+            "a stop was asked for while the check ran",
+            &[
+                Push(2, "a", Ban),
+                Push(3, "a", Unban),
+                Push(4, "b", Unban),
+                Push(5, "a", Unban),
+                Push(6, "a", Stop),
+                Push(7, "b", Stop),
+                Closing("a", true),
+                Fails(2, CheckEnd::Closing),
+                Left(&[4, 6, 7]),
+                Closing("a", true),
+                Ends(6, 0),
+                Closing("a", false),
+                Closing("b", true),
+                Fails(4, CheckEnd::Closing),
+                Left(&[7]),
+            ],
+        ),
+        (
+            "what stands behind the first Stop stays, and a second Stop keeps the lane closing",
+            &[
+                Push(1, "a", Unban),
+                Push(2, "a", Stop),
+                Push(3, "a", Start),
+                Push(4, "a", Ban),
+                Push(5, "a", Stop),
+                Fails(1, CheckEnd::Closing),
+                Left(&[2, 3, 4, 5]),
+                Ends(2, 0),
+                Closing("a", true),
+                Ends(3, 0),
+                Fails(4, CheckEnd::Closing),
+                Left(&[5]),
+                Ends(5, 1),
+                Ends(5, 1),
+                Closing("a", true),
+                Ends(5, 1),
+                Closing("a", false),
+            ],
+        ),
+        (
+            "a failed check of a job that is not the first, or is gone, does nothing",
+            &[
+                Push(1, "a", Ban),
+                Push(2, "a", Ban),
+                Push(3, "b", Start),
+                Push(4, "b", Ban),
+                Fails(2, CheckEnd::Unchecked),
+                Fails(3, CheckEnd::Unchecked),
+                Fails(4, CheckEnd::Unchecked),
+                Fails(9, CheckEnd::Unchecked),
+                Left(&[1, 2, 3, 4]),
+                Ends(1, 1),
+                Checked(1, true),
+                Fails(1, CheckEnd::Open),
+                Left(&[3, 4]),
+                Fails(1, CheckEnd::Unchecked),
+                Left(&[3, 4]),
+            ],
+        ),
+    ];
+    for (name, steps) in rows {
+        take_row(&rt, rt.alloc(), name, steps)?;
+    }
+    Ok(())
+}
