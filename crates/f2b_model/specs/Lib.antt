@@ -28,5 +28,6 @@ pub mod Whole
 pub mod Starts
 pub mod Storable
 pub mod Views
+pub mod StorableViews
 pub mod JobLaws
 pub mod RenderLaws
