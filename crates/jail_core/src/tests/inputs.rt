@@ -108,6 +108,12 @@ fn jails(alloc: Global, ban: &str, both: bool) -> Result<What, NoMemory>
     })
 }
 
+/// The job that may start.
+fn due(core: &Core, secs: u64) -> Option<u64> {
+    let job = core.lanes().next_due(secs, &[])?;
+    Some(job.id)
+}
+
 impl Source {
     /// A source that begins at a reading of the clock.
     pub(crate) fn new(alloc: Global, seed: u64, clock: u64) -> Source {
@@ -197,9 +203,9 @@ impl Source {
     fn ended(&mut self, core: &Core, secs: u64) -> What
         ensures { IsStorableWhat result }
     {
-        match core.lanes().next_due(secs, &[]) {
+        match due(core, secs) {
             Some(job) => What::Ended {
-                job: job.id,
+                job,
                 outcome: outcome(self.below(32)),
             },
             None => What::Tick,
@@ -210,9 +216,9 @@ impl Source {
     fn check_failed(&mut self, core: &Core, secs: u64) -> What
         ensures { IsStorableWhat result }
     {
-        match core.lanes().next_due(secs, &[]) {
+        match due(core, secs) {
             Some(job) => What::CheckFailed {
-                job: job.id,
+                job,
                 outcome: outcome(self.below(3)),
             },
             None => What::Tick,
