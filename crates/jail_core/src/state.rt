@@ -14,7 +14,7 @@ ghost use Rattle.f2b_model.specs.declared.jail_now.JailNow.{JailNow};
 ghost use Rattle.jail_rooms.specs.Configured.{configured_now};
 ghost use Rattle.jail_rooms.specs.Kept.{IsTaken};
 
-use crate::after::{After, after};
+use crate::after::{Aftermath, after};
 use action_queue::Lanes;
 use f2b_base::{Defs, Input, NoMemory, Plain, Seq, UpLane, View};
 use f2b_model::Told;
@@ -199,7 +199,7 @@ impl Core {
             actions,
         } = self;
         let jails = jails.raised(&mut told, input.secs)?;
-        let After {
+        let Aftermath {
             jails,
             actions,
             told: lanes,
