@@ -8,10 +8,8 @@
 #![tactic(auto)]
 
 mod after;
-mod again;
 mod state;
 #[cfg(test)]
 mod tests;
 
-pub use again::view_after;
 pub use state::Core;

@@ -7,12 +7,12 @@ ghost use Rattle.f2b_model.specs.Laws.{AreWatched};
 ghost use Rattle.f2b_model.specs.Sound.{AreFitDefs, IsSoundView};
 ghost use Rattle.f2b_model.specs.Steps.{is_ban_due, moves_now};
 ghost use Rattle.f2b_model.specs.Storable.{most_numbers, IsStorable, IsStorableInput};
-ghost use Rattle.f2b_model.specs.StorableViews.{taken_up, IsStorableView};
 ghost use Rattle.f2b_model.specs.Views.{empty_view, gathered, spread};
 ghost use Rattle.f2b_model.specs.Whole.{is_whole_spent, step_now, told_now};
 ghost use Rattle.f2b_model.specs.declared.jail_now.JailNow.{JailNow};
 ghost use Rattle.jail_rooms.specs.Configured.{configured_now};
 ghost use Rattle.jail_rooms.specs.Kept.{IsTaken};
+ghost use Rattle.jail_rooms.specs.Stored.{IsBoundedView};
 
 use crate::after::{Aftermath, after};
 use action_queue::Lanes;
@@ -88,14 +88,11 @@ impl Core {
         }
     }
 
-    /// The state of a view, as it was stored. Where the view is not that of a sound state, just that is left out which no step could have
-    /// left: failures of an address that they fill, failures that are too old or later than their jail's last one, and past bans that
-    /// are not over.
+    /// The state of a view. Where the view is not that of a sound state, some of its failures and past bans may be left out.
     pub fn of(alloc: Global, view: &View) -> Result<Core, NoMemory>
-        requires { IsStorableView view.now }
-        ensures state { IfOk result (λ core. core ≡ taken_up view.now) }
-        ensures sound { IsSoundView view.now → IfOk result (λ core. core ≡ gathered view.now) }
-        ensures storable { IfOk result IsStorable }
+        requires bounded { IsBoundedView view.now }
+        requires few { view.now.next_job ≤ most_numbers }
+        ensures { IsSoundView view.now → IfOk result (λ core. core ≡ gathered view.now) }
     {
         Ok(Core {
             alloc,
@@ -106,8 +103,7 @@ impl Core {
 
     /// The view: what is kept over a stop.
     pub fn view(&self) -> Result<View, NoMemory>
-        ensures view { IfOk result (λ view. view ≡ spread self.now) }
-        ensures storable { IsStorable self.now → IfOk result IsStorableView }
+        ensures { IfOk result (λ view. view ≡ spread self.now) }
     {
         Ok(View {
             at: self.jails.now(),
