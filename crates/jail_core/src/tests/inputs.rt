@@ -317,6 +317,7 @@ impl Source {
     }
 
     /// The next input for the core.
+    #[tactic(auto, using(crate::proofs::TakenLemmas::storable_taken))]
     pub(crate) fn next_input(&mut self, core: &Core) -> Result<Input, NoMemory>
         ensures taken { IfOk result IsTaken }
         ensures storable { IfOk result IsStorableInput }
