@@ -113,9 +113,9 @@ fn of_stop(
     ensures news { IfOk result (λ r. r.told ≡ lanes_told books_now jails.at What.Stop (lanes_issued books_now jails.at told.now actions)) }
 {
     let at = jails.now();
-    let bans = jails.held()?;
+    let held = jails.held()?;
     actions.issue(told.as_slice(), at)?;
-    actions.stop(bans.as_slice(), at)?;
+    actions.stop(held.as_slice(), at)?;
     Ok(Aftermath {
         jails,
         actions,
