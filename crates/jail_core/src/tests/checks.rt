@@ -4,7 +4,7 @@ ghost use Rattle.f2b_model.specs.Storable.{IsStorable};
 
 use crate::Core;
 use crate::tests::{NEXT, banned, banning, check_failed, ended, jobs, lane_lines, step};
-use f2b_base::{NoMemory, What};
+use f2b_base::{NoMemory, Text, What};
 use std::alloc::Global;
 use std::test::Fail;
 
@@ -22,6 +22,10 @@ fn a_check_that_fails_starts_its_lane_anew(rt: HostRuntime) -> Result<(), Fail> 
     let alloc = rt.alloc();
     let core = waiting(alloc)?;
     assert_eq!(rt; core.check_of(2), Some("test -e /x"));
+    assert_eq!(rt;
+        core.check_text(2)?,
+        Some(Text::from_str(alloc, "test -e /x")?)
+    );
     let (core, told) = step(core, 1003, check_failed(2))?;
     let lines = lane_lines(alloc, &told)?;
     assert_eq!(rt; lines.as_str(), "check Status(1)\nanew\n");
