@@ -4,14 +4,17 @@ use Rattle.f2b_base.specs.declared.input.Input.{Input}
 use Rattle.f2b_base.specs.declared.job.Job.{Job}
 use Rattle.f2b_model.specs.declared.happening.Happening.{Happening}
 use Rattle.f2b_model.specs.declared.jail_now.JailNow.{JailNow}
+use Rattle.f2b_model.specs.declared.lane_happening.LaneHappening.{LaneHappening}
+use Rattle.f2b_model.specs.declared.told.Told.{Told}
 use Rattle.f2b_model.specs.Active.{held, held_by, held_in}
-use Rattle.f2b_model.specs.Lanes.{Lanes, books_now, lanes_step}
+use Rattle.f2b_model.specs.Lanes.{Lanes, books_now, lanes_issued, lanes_step}
+use Rattle.f2b_model.specs.LanesTold.{lanes_told}
 use Rattle.f2b_model.specs.Nows.{JailsNow}
 use Rattle.f2b_model.specs.NowMoves.{dropped_now}
 use Rattle.f2b_model.specs.Orders.{Held}
 use Rattle.f2b_model.specs.Steps.{moves_now, is_spent, at_reading, done, each_jail, jails_step_now}
 use Rattle.f2b_model.specs.Told.{jails_told}
-use Rattle.f2b_model.specs.Whole.{Now, is_whole_spent, step_now}
+use Rattle.f2b_model.specs.Whole.{Now, is_whole_spent, step_now, told_now}
 
 -- what is over for long is no active ban
 held_dropped : (at purge : ℕ) (js : List JailNow) → held_by moves_now (map (dropped_now at purge) js) ≡ held_by moves_now js
@@ -60,3 +63,21 @@ step_is n input mid after last told lanes unspent mid_is after_is last_is told_i
     ∙ ap (λ (w : JailsNow). books step.at (held moves_now w) (held moves_now after) told) mid_is
     ∙ ap₂ (books step.at (held moves_now reading)) bans told_is in
     rw unspent (ap₂ (λ (w : JailsNow) (l : Lanes (List Job)). let r : Now = record { world = w; lanes = l } in r) world all)
+
+-- What the step of a state that is not spent tells, from its parts.
+pub told_is : (n : Now) (input : Input) (mid after last : JailsNow) (told : List Happening) (news : List LaneHappening)
+    → is_whole_spent moves_now books_now n ≡ false
+    → mid ≡ at_reading moves_now input.secs n.world
+    → after ≡ done moves_now input.word input.what mid
+    → last ≡ each_jail moves_now (dropped_now after.at after.purge) after
+    → told ≡ jails_told moves_now n.world input
+    → mid.at ≡ after.at
+    → news ≡ lanes_told books_now mid.at input.what (lanes_issued books_now mid.at told n.lanes)
+    → record { jails = told; lanes = news } ≡ told_now n input
+told_is n input mid after last told news unspent mid_is after_is last_is told_same at_is news_is =
+    let step : JailsNow = jails_step_now n.world input in
+    let world : last ≡ step = jails_step_is n input mid after last unspent mid_is after_is last_is in
+    let moment : mid.at ≡ step.at = at_is ∙ sym (ap (λ (w : JailsNow). w.at) last_is) ∙ ap (λ (w : JailsNow). w.at) world in
+    let all : news ≡ lanes_told books_now step.at input.what (lanes_issued books_now step.at (jails_told moves_now n.world input) n.lanes) =
+    news_is ∙ ap₂ (λ (at : ℕ) (t : List Happening). lanes_told books_now at input.what (lanes_issued books_now at t n.lanes)) moment told_same in
+    rw unspent (ap₂ (λ (t : List Happening) (l : List LaneHappening). let r : Told = record { jails = t; lanes = l } in r) told_same all)

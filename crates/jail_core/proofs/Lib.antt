@@ -1,2 +1,4 @@
+pub mod AgainLemmas
 pub mod ConfigLemmas
 pub mod CoreLemmas
+pub mod StoredLemmas

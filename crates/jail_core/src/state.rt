@@ -1,8 +1,12 @@
 //! `Core` and its calls.
-ghost use Rattle.std.specs.Prelude.{◌≡◌, ◌≢◌, ◌↔◌, ◌&&◌, not, map, IsTrue, IfOk};
+ghost use Rattle.std.specs.Prelude.{◌≡◌, ◌≢◌, ◌↔◌, ◌≤◌, ◌&&◌, not, map, option_copied, option_map, IsTrue, IfOk};
+ghost use Rattle.f2b_base.specs.declared.job.UpLane.{UpLane};
+ghost use Rattle.f2b_model.specs.Checks.{check_of};
 ghost use Rattle.f2b_model.specs.Lanes.{books_now};
+ghost use Rattle.f2b_model.specs.Laws.{AreWatched};
 ghost use Rattle.f2b_model.specs.Sound.{AreFitDefs, IsSoundView};
 ghost use Rattle.f2b_model.specs.Steps.{is_ban_due, moves_now};
+ghost use Rattle.f2b_model.specs.Storable.{most_numbers, IsStorable, IsStorableInput};
 ghost use Rattle.f2b_model.specs.Views.{empty_view, gathered, spread};
 ghost use Rattle.f2b_model.specs.Whole.{is_whole_spent, step_now, told_now};
 ghost use Rattle.f2b_model.specs.declared.jail_now.JailNow.{JailNow};
@@ -10,10 +14,10 @@ ghost use Rattle.jail_rooms.specs.Configured.{configured_now};
 ghost use Rattle.jail_rooms.specs.Kept.{IsTaken};
 ghost use Rattle.jail_rooms.specs.Stored.{IsBoundedView};
 
-use crate::after::after;
+use crate::after::{Aftermath, after};
 use action_queue::Lanes;
 use f2b_base::{Defs, Input, NoMemory, Plain, Seq, UpLane, View};
-use f2b_model::Happening;
+use f2b_model::Told;
 use jail_rooms::{Jails, same_defs};
 use lane_moves::Actions;
 use std::alloc::Global;
@@ -57,9 +61,25 @@ fn stays(same: bool, stopping: bool, idle: bool, just: bool) -> bool
 }
 
 impl Core {
+    /// The state of these jails and lanes.
+    fn of_parts(alloc: Global, jails: Jails, actions: Actions) -> Core
+        requires { AreWatched jails }
+        ensures parts { result ≡ record { world = jails; lanes = actions } }
+        ensures few { result.lanes.next_job ≤ most_numbers }
+    {
+        // Asked for what it ensures alone: no lanes give an id that could not be stored.
+        let _next = actions.next_job();
+        Core {
+            alloc,
+            jails,
+            actions,
+        }
+    }
+
     /// The state before the first configuration. Takes no memory.
     pub fn empty(alloc: Global) -> Core
-        ensures { result ≡ gathered empty_view }
+        ensures state { result ≡ gathered empty_view }
+        ensures storable { IsStorable result }
     {
         Core {
             alloc,
@@ -70,7 +90,8 @@ impl Core {
 
     /// The state of a view. Where the view is not that of a sound state, some of its failures and past bans may be left out.
     pub fn of(alloc: Global, view: &View) -> Result<Core, NoMemory>
-        requires { IsBoundedView view.now }
+        requires bounded { IsBoundedView view.now }
+        requires few { view.now.next_job ≤ most_numbers }
         ensures { IsSoundView view.now → IfOk result (λ core. core ≡ gathered view.now) }
     {
         Ok(Core {
@@ -117,6 +138,17 @@ impl Core {
         self.actions.jobs()
     }
 
+    /// The check that is run before a try of the job, as a template, if there is one: the job is a Ban or an Unban and the first of its
+    /// lane, and the lane is up, has a check and is not about to stop. Takes no memory.
+    pub fn check_of(&self, job: u64) -> Option<&str>
+        ensures { option_copied result ≡ option_map (λ (lane : UpLane). lane.action.check) (check_of self.now.lanes.up job self.now.lanes.jobs) }
+    {
+        match self.actions.check_of(job) {
+            Some(lane) => Some(lane.action.check.as_str()),
+            None => None,
+        }
+    }
+
     /// The definitions. Takes no memory.
     pub fn defs(&self) -> &Defs
         ensures { result.now ≡ record { purge = self.now.world.purge; jails = map (λ (j : JailNow). j.definition) self.now.world.jails } }
@@ -144,16 +176,18 @@ impl Core {
         !stays(same, stopping, idle, just)
     }
 
-    /// Takes an input, and tells what it did, in order: bans that ended by time, and then, one by one, failures that counted, bans that
-    /// began, and bans that ended by command.
-    pub fn take(self, input: &Input) -> Result<(Core, Seq<Happening>), NoMemory>
+    /// Takes an input, and tells what it did. Of the jails, in order: bans that ended by time, and then, one by one, failures that
+    /// counted, bans that began, and bans that ended by command. Of the lanes: a try or a check that failed, and a lane that starts anew.
+    pub fn take(self, input: &Input) -> Result<(Core, Told), NoMemory>
         requires { IsTaken input.now }
         ensures core { IfOk result (λ r. r.0 ≡ step_now self input.now) }
         ensures told { IfOk result (λ r. r.1 ≡ told_now self input.now) }
+        ensures storable { IsStorable self → IsStorableInput input.now → IfOk result (λ r. IsStorable r.0) }
     {
         let mut told = Seq::new(self.alloc);
         if self.spent() {
-            return Ok((self, told));
+            let lanes = Seq::new(self.alloc);
+            return Ok((self, Told { jails: told, lanes }));
         }
         let Core {
             alloc,
@@ -161,13 +195,13 @@ impl Core {
             actions,
         } = self;
         let jails = jails.raised(&mut told, input.secs)?;
-        let (jails, actions) = after(jails, actions, &mut told, &input.what, input.word)?;
-        let jails = jails.dropped();
-        let core = Core {
-            alloc,
+        let Aftermath {
             jails,
             actions,
-        };
-        Ok((core, told))
+            told: lanes,
+        } = after(alloc, jails, actions, &mut told, &input.what, input.word)?;
+        let jails = jails.dropped();
+        let core = Core::of_parts(alloc, jails, actions);
+        Ok((core, Told { jails: told, lanes }))
     }
 }

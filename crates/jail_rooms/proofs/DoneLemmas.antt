@@ -35,7 +35,7 @@ done_is word (Findtime jail secs) w alone = refl
 done_is word (Bantime jail secs) w alone = refl
 done_is word (Maxretry jail number) w alone = refl
 done_is word (Idle jail idle) w alone = refl
-done_is word (CheckFailed job outcome) w alone = refl
+done_is word (CheckFailed job outcome) w alone = absurd (let k : false ≡ true = alone in cc)
 
 -- and what it tells
 pub told_is : (word : ℕ) (what : What) (w : JailsNow) → is_of_jails what ≡ true → told_done moves_now word what w ≡ told_happened w.at word what w.next_ban w.jails
@@ -52,7 +52,7 @@ told_is word (Findtime jail secs) w alone = refl
 told_is word (Bantime jail secs) w alone = refl
 told_is word (Maxretry jail number) w alone = refl
 told_is word (Idle jail idle) w alone = refl
-told_is word (CheckFailed job outcome) w alone = refl
+told_is word (CheckFailed job outcome) w alone = absurd (let k : false ≡ true = alone in cc)
 
 -- what happened leaves the moment
 pub done_at : (word : ℕ) (what : What) (w : JailsNow) → (done moves_now word what w).at ≡ w.at

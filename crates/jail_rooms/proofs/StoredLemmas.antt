@@ -11,7 +11,7 @@ use Rattle.f2b_base.specs.declared.view.View.{View}
 use Rattle.f2b_model.specs.declared.jail_now.JailNow.{JailNow}
 use Rattle.f2b_model.specs.Active.{held}
 use Rattle.f2b_model.specs.Full.{IsFull, is_full, is_late}
-use Rattle.f2b_model.specs.Jobs.{ArePending}
+use Rattle.f2b_model.specs.Jobs.{ArePending, AreById}
 use Rattle.f2b_model.specs.Lanes.{lanes_now}
 use Rattle.f2b_model.specs.Laws.{AreNumbered, AreWatched, IsWatched}
 use Rattle.f2b_model.specs.Lists.{AllOf, IsInOrder}
@@ -28,7 +28,6 @@ use Rattle.f2b_model.proofs.StandLemmas.{shown_bounds}
 use Rattle.jail_moves.specs.Rooms.{Contents, jail_in, IsBounded, IsKept, IsStored, IsStoredWell}
 use Rattle.jail_rooms.specs.Kept.{jails_in, AreKept}
 use Rattle.jail_rooms.specs.Stored.{AreStored, AreStoredWell, IsBoundedView}
-use Rattle.lane_moves.specs.Held.{AreById}
 
 -- ---- what is stored
 

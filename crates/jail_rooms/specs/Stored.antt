@@ -5,9 +5,9 @@ use Rattle.f2b_base.specs.declared.view.JailView.{JailView}
 use Rattle.f2b_base.specs.declared.view.View.{View}
 use Rattle.f2b_model.specs.Laws.{AreWatched}
 use Rattle.f2b_base.specs.Limits.{last_moment}
+use Rattle.f2b_model.specs.Jobs.{AreById}
 use Rattle.f2b_model.specs.Views.{gathered}
 use Rattle.jail_moves.specs.Rooms.{IsBounded, IsStored, IsStoredWell}
-use Rattle.lane_moves.specs.Held.{AreById}
 
 -- what is stored of each jail is within its bounds, and so is its definition: as many are stored as there are definitions
 abbrev pub AreStored : ℕ → ℕ → List JailDef → List JailView → Type 0

@@ -5,6 +5,7 @@ ghost use Rattle.f2b_model.specs.Checks.{check_of, checked_lane, lane_of};
 ghost use Rattle.f2b_model.specs.Jobs.{AreById};
 ghost use Rattle.f2b_model.specs.Lanes.{all_down, all_up, books_now, check_failed, lane_down, lane_failed, lane_up, lanes_issued, lanes_of, missing_up, others_down, restarted, stopped, try_ended};
 ghost use Rattle.f2b_model.specs.LanesTold.{lanes_told, told_check};
+ghost use Rattle.f2b_model.specs.Storable.{most_numbers};
 ghost use Rattle.f2b_base.specs.Limits.{last_moment};
 ghost use Rattle.lane_moves.specs.Held.{are_just, held_of};
 
@@ -63,7 +64,8 @@ impl Actions {
         jobs: &Seq<Job>,
         next_job: u64,
     ) -> Result<Actions, NoMemory>
-        requires { AreById 0 jobs.now next_job }
+        requires ids { AreById 0 jobs.now next_job }
+        requires few { next_job ≤ most_numbers }
         ensures { IfOk result (λ actions. actions ≡ record { up = up.now; stopping = stopping; jobs = jobs.now; next_job = next_job }) }
     {
         Ok(Actions {
@@ -97,7 +99,8 @@ impl Actions {
 
     /// The id of the job to come.
     pub fn next_job(&self) -> u64
-        ensures { result ≡ self.now.next_job }
+        ensures id { result ≡ self.now.next_job }
+        ensures few { result ≤ most_numbers }
     {
         self.book.next()
     }
