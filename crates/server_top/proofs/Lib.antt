@@ -1,6 +1,7 @@
 pub mod CauseLemmas
 pub mod WalkLemmas
 pub mod ToldLemmas
+pub mod SayLemmas
 pub mod FindLemmas
 pub mod TakeLemmas
 pub mod TurnLemmas

@@ -1,17 +1,17 @@
 -- An input is taken.
-use Rattle.std.proofs.Common.{ℕ, ◌≡◌, ◌≤◌, List, [], map, sym, ap, ◌∙◌, subst, arith}
+use Rattle.std.proofs.Common.{ℕ, ◌≡◌, ◌≤◌, List, [], sym, ap, ◌∙◌, subst, arith}
 use Rattle.f2b_base.specs.Limits.{latest_reading}
 use Rattle.f2b_base.specs.declared.input.Input.{Input}
 use Rattle.f2b_base.specs.declared.input.What.{What}
 use Rattle.f2b_model.specs.Sound.{IsFit, IsFitWhat, IsSound}
 use Rattle.f2b_model.specs.Whole.{Now, now_of, step, step_now, told, told_now}
-use Rattle.f2b_model.specs.declared.happening.Happening.{Happening}
+use Rattle.f2b_model.specs.declared.told.Told.{Told}
 use Rattle.f2b_model.proofs.WholeLemmas.{whole_shows, whole_keeps, whole_tells}
 use Rattle.f2b_world.specs.Told.{Standing}
 use Rattle.log_follow.specs.Followed.{StandsFor}
 use Rattle.log_follow.specs.declared.follower.Follower.{Follower}
 use Rattle.server_top.specs.Law.{Following, taken, told_lines}
-use Rattle.server_top.specs.Said.{line_of}
+use Rattle.server_top.specs.Said.{lines_of}
 use Rattle.server_top.specs.Stages.{Keeps, Says, SayFails, StepsTo, Takes, TakeFails}
 use Rattle.server_top.specs.declared.follow.Follow.{Follow}
 use Rattle.server_top.specs.declared.status.Status.{Status}
@@ -22,19 +22,19 @@ use Rattle.server_top.proofs.WalkLemmas.{halts_here}
 abbrev input_of : Follow → What → Input
 input_of before what = record { secs = before.now; word = before.word; what = what }
 
-module _ (before after : Follow) (what : What) (news : List Happening) (steps : StepsTo before what after news) (is : IsFitWhat what) (early : before.now ≤ latest_reading) where
+module _ (before after : Follow) (what : What) (news : Told) (steps : StepsTo before what after news) (is : IsFitWhat what) (early : before.now ≤ latest_reading) where
   same_input : (f : Following) → Keeps f before → input_of before what ≡ record { secs = f.now; word = f.word; what = what }
   same_input f keeps = λ i. record { secs = keeps.now i; word = keeps.word i; what = what }
 
   fits : IsFit (input_of before what)
   fits = record { secs = omega arith; what = is }
 
-  same_lines : (f : Following) → Keeps f before → map (line_of after.now) news ≡ told_lines what f
+  same_lines : (f : Following) → Keeps f before → lines_of after.now news ≡ told_lines what f
   same_lines f keeps =
       let input = input_of before what in
       let now_told : news ≡ told f.state input = steps.tells ∙ ap (λ (n : Now). told_now n input) keeps.core ∙ sym (whole_tells f.state input fits keeps.sound) in
       let now_is : after.now ≡ f.now = steps.now ∙ keeps.now in
-      rw now_is (ap (map (line_of f.now)) (now_told ∙ ap (told f.state) (same_input f keeps)))
+      rw now_is (ap (lines_of f.now) (now_told ∙ ap (told f.state) (same_input f keeps)))
 
   same_core : (f : Following) → Keeps f before → after.core ≡ now_of (taken what f).state
   same_core f keeps =
@@ -44,7 +44,7 @@ module _ (before after : Follow) (what : What) (news : List Happening) (steps : 
   still_sound : (f : Following) → Keeps f before → IsSound (taken what f).state
   still_sound f keeps = let P : Input → Type 0 = λ i. IsSound (step f.state i) in subst P (same_input f keeps) (whole_keeps f.state (input_of before what) fits keeps.sound)
 
-  pub takes : (old new : Standing) → Says old new (map (line_of after.now) news) → Takes old new what before after
+  pub takes : (old new : Standing) → Says old new (lines_of after.now news) → Takes old new what before after
   takes old new says = record {
     runs = λ r f front keeps owes.
         let says2 : Says old new (told_lines what f) = let P : List (List ℕ) → Type 0 = λ x. Says old new x in subst P (same_lines f keeps) says in
@@ -59,7 +59,7 @@ module _ (before after : Follow) (what : What) (news : List Happening) (steps : 
     };
   }
 
-  pub take_fails : (old new : Standing) (status : Status) → SayFails old new (map (line_of after.now) news) status → TakeFails old new what before status
+  pub take_fails : (old new : Standing) (status : Status) → SayFails old new (lines_of after.now news) status → TakeFails old new what before status
   take_fails old new status fails = record {
     runs = λ r f front keeps owes.
         let fails2 : SayFails old new (told_lines what f) status = let P : List (List ℕ) → Type 0 = λ x. SayFails old new x status in subst P (same_lines f keeps) fails in

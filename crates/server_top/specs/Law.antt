@@ -1,5 +1,5 @@
 -- What a run does: the one call that comes next, and where each event leaves the run.
-use Rattle.std.specs.Prelude.{ℕ, zero, suc, ◌≡◌, ◌+◌, ◌-◌, ◌++◌, max, min, map, slice_get, Bool, true, false, List, [], ◌∷◌, Option, Some, None}
+use Rattle.std.specs.Prelude.{ℕ, zero, suc, ◌≡◌, ◌+◌, ◌-◌, ◌++◌, max, min, slice_get, Bool, true, false, List, [], ◌∷◌, Option, Some, None}
 use Rattle.f2b_base.specs.Limits.{default_purge, head_bytes, latest_reading, look_bytes}
 use Rattle.f2b_base.specs.declared.ban.Failure.{Failure}
 use Rattle.f2b_base.specs.declared.input.Input.{Input}
@@ -37,7 +37,7 @@ use Rattle.log_follow.specs.declared.step.Step.{Step}
 use Rattle.log_follow.specs.declared.step.Step.TheVariants.{Lines}
 use Rattle.flat_form.specs.Flat.{flat_jail}
 use Rattle.server_top.specs.Refusals.{refusal_line}
-use Rattle.server_top.specs.Said.{line_of, ready_line}
+use Rattle.server_top.specs.Said.{lines_of, ready_line}
 use Rattle.server_top.specs.Words.{plan_of}
 use Rattle.server_top.specs.declared.status.Status.{Status}
 use Rattle.server_top.specs.declared.status.Status.TheVariants.{TurnsSpent, Usage, ConfFault, SinkFault, NotBuilt, PatternRefused, NoMemory}
@@ -155,7 +155,7 @@ abbrev pub taken : What → Following → Following
 taken what f = record f { state = step f.state (input_at f what) }
 
 abbrev pub told_lines : What → Following → List (List ℕ)
-told_lines what f = map (line_of f.now) (told f.state (input_at f what))
+told_lines what f = lines_of f.now (told f.state (input_at f what))
 
 abbrev pub takes : What → (Following → Point) → Following → Run → Run
 takes what point f r = record r { point = point (taken what f); lines = r.lines ++ told_lines what f }
@@ -222,7 +222,7 @@ ticked false f r = record r { point = AtLook f }
 abbrev pub clocked : Following → Run → Run
 clocked f r = ticked (is_ban_due moves f.now f.state.world) f r
 
--- the failures among the findings of the lines
+-- The failures among the findings of the lines. They keep no line: the flat form has no actions, and so no command that shows lines.
 abbrev pub failure_in : Finding → List Failure
 failure_in (Failed addr time index) = record { addr = addr; time = time; line = [] } ∷ []
 failure_in _ = []

@@ -1,6 +1,7 @@
 pub mod Words
 pub mod Said
 pub mod Refusals
+pub mod Exits
 pub mod Law
 pub mod Stages
 pub mod Starts

@@ -8,7 +8,7 @@ use Rattle.f2b_base.specs.declared.outside.FileLook.{FileLook}
 use Rattle.f2b_base.specs.declared.outside.Reading.{Reading}
 use Rattle.f2b_model.specs.Sound.{IsSound}
 use Rattle.f2b_model.specs.Whole.{now_of, step_now, told_now}
-use Rattle.f2b_model.specs.declared.happening.Happening.{Happening}
+use Rattle.f2b_model.specs.declared.told.Told.{Told}
 use Rattle.f2b_world.specs.Faults.{Fault, OfSink, OfConfiguration, OfPatterns, Rose}
 use Rattle.f2b_world.specs.Told.{Standing, Called}
 use Rattle.f2b_world.specs.declared.answer.Look.{Look}
@@ -120,7 +120,7 @@ pub record IsRefusedAs (old new : Standing) (refusal status : Status) : Type 0 w
   pub same : (status ≡ refusal) ⊎ ((status ≡ NoMemory) ⊎ ((status ≡ SinkFault) × Rose (old.faults OfSink) (new.faults OfSink)))
 
 -- the step of an input, and what it tells
-pub record StepsTo (before : Follow) (what : What) (after : Follow) (news : List Happening) : Type 0 where
+pub record StepsTo (before : Follow) (what : What) (after : Follow) (news : Told) : Type 0 where
   pub definition : after.definition ≡ before.definition
   pub follower : after.follower ≡ before.follower
   pub now : after.now ≡ before.now

@@ -25,7 +25,7 @@ fn find_line(
     }
 }
 
-// Adds the failure that a finding is.
+// Adds the failure that a finding is. It keeps no line: the flat form has no actions, and so no command that shows lines.
 fn add(alloc: Global, found: &mut Seq<Failure>, finding: Finding) -> Result<(), NoMemory>
     ensures { OnOk result (found.new ≡ found.old ++ failure_in finding) }
 {

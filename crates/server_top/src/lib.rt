@@ -9,6 +9,7 @@
 
 mod find;
 mod follow;
+mod lane_line;
 mod line;
 mod run;
 mod say;

@@ -13,7 +13,7 @@ use std::alloc::Global;
 
 /// The text as a line of this second, in seconds since 1970.
 #[tactic(auto, unfolding(crate::specs::Said::stamped))]
-fn stamped(alloc: Global, now: u64, text: &[u8]) -> Result<Bytes, NoMemory>
+pub fn stamped(alloc: Global, now: u64, text: &[u8]) -> Result<Bytes, NoMemory>
     ensures { IfOk result (λ line. line ≡ stamped now text.now) }
 {
     let seconds = format!(in alloc; "{now}")?;
@@ -61,7 +61,7 @@ fn happening_text(alloc: Global, happening: &Happening) -> Result<Bytes, NoMemor
 {
     match happening {
         Happening::Counts { jail, addr } => jail_text(alloc, b"INFO [", jail, b"] Found ", addr),
-        Happening::Begins { jail, ban } => jail_text(
+        Happening::Begins { jail, ban, .. } => jail_text(
             alloc,
             b"NOTICE [",
             jail,
@@ -78,7 +78,7 @@ fn happening_text(alloc: Global, happening: &Happening) -> Result<Bytes, NoMemor
     }
 }
 
-/// What a step did, as the line of its second.
+/// What a step did in a jail, as the line of its second.
 #[tactic(auto, unfolding(crate::specs::Said::line_of))]
 pub fn happening_line(alloc: Global, now: u64, happening: &Happening) -> Result<Bytes, NoMemory>
     ensures { IfOk result (λ line. line ≡ line_of now happening.now) }

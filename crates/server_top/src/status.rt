@@ -1,5 +1,6 @@
 //! How a run ends.
 ghost use Rattle.std.specs.Prelude.{◌≡◌};
+ghost use Rattle.server_top.specs.Exits.{status_number};
 
 use f2b_base::{NoMemory, Text};
 use filter_regex::{BuildKind, PatternPlace};
@@ -38,7 +39,9 @@ impl From<NoMemory> for Status {
 
 impl Status {
     /// The exit status of the program.
-    pub fn number(&self) -> u8 {
+    pub fn number(&self) -> u8
+        ensures { result ≡ status_number self.now }
+    {
         match self {
             Status::TurnsSpent => 0,
             Status::Usage => 2,

@@ -7,13 +7,13 @@ ghost use Rattle.server_top.specs.Stages.{HasCause, IsSteady, StepsTo, Takes, Ta
 use crate::follow::Follow;
 use crate::say::say_told;
 use crate::status::Status;
-use f2b_base::{Input, NoMemory, Seq, What};
-use f2b_model::Happening;
+use f2b_base::{Input, NoMemory, What};
+use f2b_model::Told;
 use f2b_world::World;
 use std::alloc::Global;
 
 // The step alone, with what it tells.
-fn step(follow: Follow, what: What) -> Result<(Follow, Seq<Happening>), NoMemory>
+fn step(follow: Follow, what: What) -> Result<(Follow, Told), NoMemory>
     requires fit { IsFitWhat what }
     requires bounded { IsBoundedWhat what }
     ensures { IfOk result (λ r. StepsTo follow what r.0 r.1) }
