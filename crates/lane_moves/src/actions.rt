@@ -164,7 +164,7 @@ impl Actions {
     }
 
     /// Takes it that the check of a job failed, with these bans, and tells of it. It counts where the job is a Ban or an Unban and the
-    /// first of its lane: the lane's jobs are voided up to its first Stop, and where it has none it starts anew.
+    /// first of its lane: the lane's jobs are voided up to its first Stop, and where it has none and is up it starts anew.
     pub fn check_failed(
         &mut self,
         told: &mut Seq<LaneHappening>,

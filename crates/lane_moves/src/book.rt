@@ -1,5 +1,5 @@
 //! The jobs that are not settled, with the id of the job to come. A job is written when it is ordered, and stands behind the others.
-ghost use Rattle.std.specs.Prelude.{ℕ, ◌≡◌, ◌≤◌, true, [], ◌∷◌, option_copied, OnOk, IfOk, IfSome};
+ghost use Rattle.std.specs.Prelude.{ℕ, ◌≡◌, ◌≤◌, ◌<◌, ◌↔◌, IsTrue, true, [], ◌∷◌, option_copied, OnOk, IfOk, IfSome};
 ghost use Rattle.action_queue.specs.Checks.{void_each, voided_in};
 ghost use Rattle.action_queue.specs.Tries.{ending_of};
 ghost use Rattle.f2b_model.specs.Checks.{checked_lane, is_closing};
@@ -37,6 +37,13 @@ impl Model for JobBook {
     ghost view = { λ b. record { jobs = b.jobs; next = b.next } };
 
     ghost invariant = { λ b. AreNumbered (record { jobs = b.jobs; next = b.next }) };
+}
+
+/// Whether an id is left for one job more.
+fn has_id(next: u64) -> bool
+    ensures { IsTrue result ↔ (next < most_numbers) }
+{
+    next < MOST_NUMBERS
 }
 
 /// The name of a lane that is up.
@@ -158,7 +165,7 @@ impl JobBook {
     ) -> Result<(), NoMemory>
         ensures { OnOk result (self.new ≡ ordered at (filled_order kind lane.now fill.now ∷ []) self.old) }
     {
-        if self.next >= MOST_NUMBERS {
+        if !has_id(self.next) {
             return Err(NoMemory);
         }
         let job = Job {

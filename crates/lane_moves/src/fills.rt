@@ -1,5 +1,5 @@
 //! What the tags of a command stand for.
-ghost use Rattle.std.specs.Prelude.{◌≡◌, None, Some, ℕ, List, IfOk};
+ghost use Rattle.std.specs.Prelude.{◌≡◌, ◌≤ℤ◌, pos, None, Some, ℕ, List, IfOk, IsOk};
 ghost use Rattle.f2b_base.specs.declared.addr.Family.{Family};
 ghost use Rattle.f2b_model.specs.Orders.{family_of, fill_of, lasting, shown_family};
 
@@ -30,7 +30,8 @@ fn shown_family(family: Family) -> Family
 /// How many seconds a ban lasts, -1 where it never ends. Moments are below 2^40, so each such span fits; one that does not is
 /// refused as if there were no memory.
 fn lasting(begin: u64, until: Until) -> Result<i64, NoMemory>
-    ensures { IfOk result (λ seconds. seconds ≡ lasting begin until) }
+    ensures value { IfOk result (λ seconds. seconds ≡ lasting begin until) }
+    ensures fits { lasting begin until ≤ℤ pos 9223372036854775807 → IsOk result }
 {
     match until {
         Until::Never => Ok(-1),
