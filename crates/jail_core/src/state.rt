@@ -89,9 +89,9 @@ impl Core {
         }
     }
 
-    /// The state of a view, as it was stored. Where the view is not that of a sound state, just that is left out which no step could have
-    /// left: failures of an address that they fill, failures that are too old or later than their jail's last one, and past bans that
-    /// are not over.
+    /// The state of a view, as it was stored. Where the view is not that of a sound state, this is left out and nothing else: failures of
+    /// an address that they fill, failures that are too old or later than their jail's last one, and past bans that are not over. No
+    /// jail's last failure is then later than the view.
     pub fn of(alloc: Global, view: &View) -> Result<Core, NoMemory>
         requires { IsStorableView view.now }
         ensures state { IfOk result (λ core. core ≡ taken_up view.now) }

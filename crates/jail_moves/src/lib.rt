@@ -2,8 +2,8 @@
 //!
 //! A caller sees a `Room` as what it holds, and with the jail's definition that stands for the model's middle state of the jail. Each
 //! call is a move of the model: a failure that may count, a ban or an unban by command, the ends by time, other limits, another
-//! definition. A move takes time by what it changes, not by what the jail holds. Nothing here opens a log, runs a command or knows the
-//! clock: the caller says what was found, and what time it is.
+//! definition. A move takes time by what it changes, and over many moves not by what the jail holds. Nothing here opens a log, runs a
+//! command or knows the clock: the caller says what was found, and what time it is.
 #![tactic(auto)]
 
 mod addresses;

@@ -84,8 +84,8 @@ impl Room {
     }
 
     /// A jail that is taken up as it was stored, at a moment in seconds since 1970: all of a sound one. Of another, what no step could
-    /// have left is left out: failures that are to come or too old or that fill their address, and a past ban that is to end, or that
-    /// ended after an active one will.
+    /// have left is left out: failures that are too old, later than the jail's last one or that fill their address, and a past ban that
+    /// is to end, or that ended after an active one will.
     pub fn of(
         alloc: Global,
         definition: &JailDef,

@@ -100,7 +100,7 @@ impl Jails {
         }
     }
 
-    /// The jails of a view. Of one that is not that of a sound state, what no step could have left is left out.
+    /// The jails of a view. Of one that is not that of a sound state, failures and past bans are left out that no step could have left.
     pub fn of(alloc: Global, view: &View) -> Result<Jails, NoMemory>
         requires { IsStorableView view.now }
         ensures jails { IfOk result (λ jails. jails ≡ (taken_up view.now).world) }
