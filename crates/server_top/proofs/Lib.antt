@@ -2,6 +2,7 @@ pub mod CauseLemmas
 pub mod WalkLemmas
 pub mod ToldLemmas
 pub mod SayLemmas
+mod LineRows
 pub mod FindLemmas
 pub mod TakeLemmas
 pub mod TurnLemmas

@@ -1,6 +1,5 @@
 //! The lines of what a step told of lanes, each as a text and its stamp.
-ghost use Rattle.std.specs.Prelude.{◌≡◌, ◌++◌, IfOk, OnOk};
-ghost use Rattle.std.specs.Fmt.{signed_decimal};
+ghost use Rattle.std.specs.Prelude.{◌≡◌, IfOk};
 ghost use Rattle.server_top.specs.Said.{command_text, cause_text, lane_text, job_text, failed_line, given_up_line, check_line, restart_line, lane_lines};
 
 use crate::line::stamped;

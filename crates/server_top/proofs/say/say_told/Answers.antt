@@ -1,6 +1,6 @@
 use Rattle.std.proofs.Common.{refl}
 use Rattle.std.proofs.lemmas.Result.{err_from_is_err_and}
-use Rattle.server_top.proofs.CauseLemmas.{cause_later, if_err_more, on_ok_more, steady_on}
+use Rattle.server_top.proofs.CauseLemmas.{cause_later, if_err_more, on_ok_more}
 use Rattle.server_top.proofs.SayLemmas.{told_said, jails_unsaid, lanes_unsaid}
 use Rattle.server_top.proofs.say.say_told.Goals as goal
 
