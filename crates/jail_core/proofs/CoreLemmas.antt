@@ -74,10 +74,10 @@ pub told_is : (n : Now) (input : Input) (mid after last : JailsNow) (told : List
     → mid.at ≡ after.at
     → news ≡ lanes_told books_now mid.at input.what (lanes_issued books_now mid.at told n.lanes)
     → record { jails = told; lanes = news } ≡ told_now n input
-told_is n input mid after last told news unspent mid_is after_is last_is told_is at_is news_is =
+told_is n input mid after last told news unspent mid_is after_is last_is told_same at_is news_is =
     let step : JailsNow = jails_step_now n.world input in
     let world : last ≡ step = jails_step_is n input mid after last unspent mid_is after_is last_is in
     let moment : mid.at ≡ step.at = at_is ∙ sym (ap (λ (w : JailsNow). w.at) last_is) ∙ ap (λ (w : JailsNow). w.at) world in
     let all : news ≡ lanes_told books_now step.at input.what (lanes_issued books_now step.at (jails_told moves_now n.world input) n.lanes) =
-    news_is ∙ ap₂ (λ (at : ℕ) (t : List Happening). lanes_told books_now at input.what (lanes_issued books_now at t n.lanes)) moment told_is in
-    rw unspent (ap₂ (λ (t : List Happening) (l : List LaneHappening). let r : Told = record { jails = t; lanes = l } in r) told_is all)
+    news_is ∙ ap₂ (λ (at : ℕ) (t : List Happening). lanes_told books_now at input.what (lanes_issued books_now at t n.lanes)) moment told_same in
+    rw unspent (ap₂ (λ (t : List Happening) (l : List LaneHappening). let r : Told = record { jails = t; lanes = l } in r) told_same all)

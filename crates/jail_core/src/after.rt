@@ -19,7 +19,7 @@ use std::alloc::Global;
 
 /// The jails and the lanes after what happened, and what was told of the lanes.
 #[derive(Drop)]
-pub struct After {
+pub struct Aftermath {
     pub jails: Jails,
     pub actions: Actions,
     pub told: Seq<LaneHappening>,
@@ -33,7 +33,7 @@ fn of_jails(
     told: &mut Seq<Happening>,
     what: &What,
     word: u64,
-) -> Result<After, NoMemory>
+) -> Result<Aftermath, NoMemory>
     requires serial { jails.next_ban ≤ 2 ^ 62 }
     requires bounded { IsBoundedWhat what.now }
     requires alone { is_of_jails what.now ≡ true }
@@ -45,7 +45,7 @@ fn of_jails(
     let at = jails.now();
     let jails = jails.after(told, what, word)?;
     actions.issue(told.as_slice(), at)?;
-    Ok(After {
+    Ok(Aftermath {
         jails,
         actions,
         told: Seq::new(alloc),
@@ -60,7 +60,7 @@ fn of_job(
     told: &Seq<Happening>,
     job: u64,
     outcome: Outcome,
-) -> Result<After, NoMemory>
+) -> Result<Aftermath, NoMemory>
     ensures jails { IfOk result (λ r. r.jails ≡ jails) }
     ensures lanes { IfOk result (λ r. r.actions ≡ lanes_step books_now jails.at (What.Ended job outcome) (held moves_now jails) (held moves_now r.jails) told.now actions) }
     ensures news { IfOk result (λ r. r.told ≡ lanes_told books_now jails.at (What.Ended job outcome) (lanes_issued books_now jails.at told.now actions)) }
@@ -69,7 +69,7 @@ fn of_job(
     let mut news = Seq::new(alloc);
     actions.issue(told.as_slice(), at)?;
     actions.ended(&mut news, job, outcome, at)?;
-    Ok(After {
+    Ok(Aftermath {
         jails,
         actions,
         told: news,
@@ -84,7 +84,7 @@ fn of_check(
     told: &Seq<Happening>,
     job: u64,
     outcome: Outcome,
-) -> Result<After, NoMemory>
+) -> Result<Aftermath, NoMemory>
     ensures jails { IfOk result (λ r. r.jails ≡ jails) }
     ensures lanes { IfOk result (λ r. r.actions ≡ lanes_step books_now jails.at (What.CheckFailed job outcome) (held moves_now jails) (held moves_now r.jails) told.now actions) }
     ensures news { IfOk result (λ r. r.told ≡ lanes_told books_now jails.at (What.CheckFailed job outcome) (lanes_issued books_now jails.at told.now actions)) }
@@ -94,7 +94,7 @@ fn of_check(
     let mut news = Seq::new(alloc);
     actions.issue(told.as_slice(), at)?;
     actions.check_failed(&mut news, bans.as_slice(), job, outcome, at)?;
-    Ok(After {
+    Ok(Aftermath {
         jails,
         actions,
         told: news,
@@ -107,16 +107,16 @@ fn of_stop(
     jails: Jails,
     mut actions: Actions,
     told: &Seq<Happening>,
-) -> Result<After, NoMemory>
+) -> Result<Aftermath, NoMemory>
     ensures jails { IfOk result (λ r. r.jails ≡ jails) }
     ensures lanes { IfOk result (λ r. r.actions ≡ lanes_step books_now jails.at What.Stop (held moves_now jails) (held moves_now r.jails) told.now actions) }
     ensures news { IfOk result (λ r. r.told ≡ lanes_told books_now jails.at What.Stop (lanes_issued books_now jails.at told.now actions)) }
 {
     let at = jails.now();
-    let bans = jails.held()?;
+    let held = jails.held()?;
     actions.issue(told.as_slice(), at)?;
-    actions.stop(bans.as_slice(), at)?;
-    Ok(After {
+    actions.stop(held.as_slice(), at)?;
+    Ok(Aftermath {
         jails,
         actions,
         told: Seq::new(alloc),
@@ -130,7 +130,7 @@ fn of_configuration(
     mut actions: Actions,
     told: &Seq<Happening>,
     defs: &Defs,
-) -> Result<After, NoMemory>
+) -> Result<Aftermath, NoMemory>
     requires bounded { AllOf IsBounded defs.now.jails }
     requires fit { AreFitDefs defs.now }
     ensures jails { IfOk result (λ r. r.jails ≡ done moves_now 0 (What.Config defs.now) jails) }
@@ -144,7 +144,7 @@ fn of_configuration(
     let jails = jails.configured(defs)?;
     let after = jails.held()?;
     actions.missing_up(after.as_slice(), defs, at)?;
-    Ok(After {
+    Ok(Aftermath {
         jails,
         actions,
         told: Seq::new(alloc),
@@ -159,7 +159,7 @@ pub fn after(
     told: &mut Seq<Happening>,
     what: &What,
     word: u64,
-) -> Result<After, NoMemory>
+) -> Result<Aftermath, NoMemory>
     requires serial { jails.next_ban ≤ 2 ^ 62 }
     requires bounded { IsBoundedWhat what.now }
     requires fit { IsFitWhat what.now }

@@ -35,5 +35,7 @@ pub fn view_after(alloc: Global, view: &View, inputs: &[Input]) -> Result<View, 
     ensures storable { AllOf IsStorableInput inputs.now → IfOk result IsStorableView }
 {
     let core = Core::of(alloc, view)?;
-    core_after(core, inputs)?.view()
+    let after = core_after(core, inputs)?;
+    let kept = after.view()?;
+    Ok(kept)
 }

@@ -13,10 +13,11 @@ ghost use Rattle.f2b_model.specs.Whole.{is_whole_spent, step_now, told_now};
 ghost use Rattle.f2b_model.specs.declared.jail_now.JailNow.{JailNow};
 ghost use Rattle.jail_rooms.specs.Configured.{configured_now};
 ghost use Rattle.jail_rooms.specs.Kept.{IsTaken};
+ghost use Rattle.lane_moves.specs.CheckText.{check_text_of};
 
-use crate::after::{After, after};
+use crate::after::{Aftermath, after};
 use action_queue::Lanes;
-use f2b_base::{Defs, Input, NoMemory, Plain, Seq, UpLane, View};
+use f2b_base::{Defs, Input, NoMemory, Plain, Seq, Text, UpLane, View};
 use f2b_model::Told;
 use jail_rooms::{Jails, same_defs};
 use lane_moves::Actions;
@@ -153,6 +154,13 @@ impl Core {
         }
     }
 
+    /// The command of that check, with the values of a Start of its lane, if there is a check before a try of the job.
+    pub fn check_text(&self, job: u64) -> Result<Option<Text>, NoMemory>
+        ensures { IfOk result (λ text. text ≡ check_text_of (check_of self.now.lanes.up job self.now.lanes.jobs)) }
+    {
+        self.actions.check_text(job)
+    }
+
     /// The definitions. Takes no memory.
     pub fn defs(&self) -> &Defs
         ensures { result.now ≡ record { purge = self.now.world.purge; jails = map (λ (j : JailNow). j.definition) self.now.world.jails } }
@@ -199,7 +207,7 @@ impl Core {
             actions,
         } = self;
         let jails = jails.raised(&mut told, input.secs)?;
-        let After {
+        let Aftermath {
             jails,
             actions,
             told: lanes,

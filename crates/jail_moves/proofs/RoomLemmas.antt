@@ -1,5 +1,5 @@
 -- What is kept of a jail, and the middle state that it stands for, through each move.
-use Rattle.std.proofs.Common.{◌≡◌, ℕ, suc, ◌+◌, ◌*◌, ◌<◌, ◌≤◌, min, Bool, true, false, not, List, [], ◌∷◌, ◌++◌, length, drop, map, Option, Some, None, is_some, refl, sym, ◌∙◌, ap, ap₂, subst, arith}
+use Rattle.std.proofs.Common.{◌≡◌, ℕ, suc, ◌+◌, ◌<◌, ◌≤◌, min, nat_le, Bool, true, false, not, List, [], ◌∷◌, ◌++◌, length, drop, map, Option, Some, None, is_some, refl, sym, ◌∙◌, ap, ap₂, subst, arith}
 use Rattle.std.specs.List.{filter, find, list_any}
 use Rattle.std.specs.Option.{option_copied}
 use denote.Ref.{Bor}
@@ -21,13 +21,14 @@ use Rattle.f2b_model.specs.Moves.{Out, counts, is_banned, is_near, new_ban, up_6
 use Rattle.f2b_model.specs.NowMoves.{banned_now, begun_now, counted_now, ended_now, found_now, shown_now}
 use Rattle.f2b_model.specs.Steps.{moves_now, end_all}
 use Rattle.f2b_model.specs.Told.{begins, told_banned, told_found, told_new}
+use Rattle.f2b_model.specs.StorableViews.{can_matter, is_over, jail_taken_up, unfilled}
 use Rattle.f2b_model.specs.Views.{jail_of}
-use Rattle.f2b_model.proofs.FullLemmas.{lt_true}
+use Rattle.f2b_model.proofs.FullLemmas.{both_true}
 use Rattle.f2b_model.proofs.ListLemmas.{by_test, filter_swap}
-use Rattle.f2b_model.proofs.OrderlyLemmas.{all_of-filter, all_of-push}
-use Rattle.fail_window.specs.Opened.{IsLate, Opened}
+use Rattle.f2b_model.proofs.OrderlyLemmas.{all_of-filter, all_of-kept, all_of-push}
+use Rattle.fail_window.specs.Opened.{Opened}
 use Rattle.jail_moves.specs.Added.{with_failure}
-use Rattle.jail_moves.specs.Rooms.{Contents, all_ended, jail_in, with_ban, with_count, IsBounded, IsCounted, IsKept, IsStored, IsStoredWell}
+use Rattle.jail_moves.specs.Rooms.{Contents, all_ended, jail_in, with_ban, with_count, IsBounded, IsCounted, IsKept, IsStored}
 
 -- ---- lists
 
@@ -258,30 +259,42 @@ after_ends_kept moment bs before at next d c t e kept le =
 
 -- ---- what was stored
 
--- failures that are not later than a moment, and late at it
-pub late_stored : (moment findtime : ℕ) (fs : List Failure) → AllOf (λ (f : Failure). f.time ≤ moment) fs → AllOf (λ (f : Failure). is_late moment findtime f ≡ true) fs
-    → AllOf (IsLate moment findtime) fs
-late_stored moment findtime [] a b = a
-late_stored moment findtime (f ∷ fs) a b = ((a.0, lt_true moment (f.time + 2 * findtime) (b.0)), late_stored moment findtime fs a.1 b.1)
+-- what is taken up of the failures of a jail
+abbrev pub failures_taken_up : ℕ → JailDef → JailView → List Failure
+failures_taken_up moment d v = unfilled d.findtime d.maxretry (filter (can_matter moment d.findtime) v.failures)
 
--- a jail that was stored well is what was stored
-pub stored_in : (at moment : ℕ) (d : JailDef) (v : JailView) (w : Opened) → IsStoredWell at d v → moment ≡ min v.moment at → w.failures ≡ v.failures
-    → jail_in d (record { idle = v.idle; total_failed = v.total_failed; total_banned = v.total_banned; moment = moment; watches = v.watches; windows = w; bans = record { active = v.bans; past = v.past } })
-    ≡ jail_of d v
-stored_in at moment d v w well moment_is w_is =
-    let m : moment ≡ v.moment = let le = well.moment in omega arith in
-    let fs : filter (is_late moment d.findtime) w.failures ≡ v.failures =
-    ap₂ (λ k (r : List Failure). filter (is_late k d.findtime) r) m w_is ∙ filter_all (is_late v.moment d.findtime) v.failures well.late in
-    ap₂ (λ k (r : List Failure). record (jail_of d v) { moment = k; failures = r }) m fs
+-- a jail that was stored, as it is taken up
+pub stored_in : (at moment : ℕ) (d : JailDef) (v : JailView) (w : Opened) → moment ≡ min v.moment at → w.failures ≡ failures_taken_up moment d v
+    → jail_in d (record {
+      idle = v.idle;
+      total_failed = v.total_failed;
+      total_banned = v.total_banned;
+      moment = moment;
+      watches = v.watches;
+      windows = w;
+      bans = record { active = v.bans; past = filter (is_over at v.bans) v.past };
+    })
+    ≡ jail_taken_up at d v
+stored_in at moment d v w moment_is w_is =
+    let late : AllOf (λ (f : Failure). is_late moment d.findtime f ≡ true) (failures_taken_up moment d v) =
+    all_of-filter (λ (f : Failure). is_late moment d.findtime f ≡ true) (λ (f : Failure). not (is_full d.findtime d.maxretry f.addr (filter (can_matter moment d.findtime) v.failures)))
+    (filter (can_matter moment d.findtime) v.failures)
+    (all_of-kept (λ (f : Failure). is_late moment d.findtime f ≡ true) (can_matter moment d.findtime) v.failures (λ f h. (both_true (nat_le f.time moment) _ h).1)) in
+    let fs : filter (is_late moment d.findtime) w.failures ≡ failures_taken_up moment d v =
+    ap (λ (r : List Failure). filter (is_late moment d.findtime) r) w_is ∙ filter_all (is_late moment d.findtime) (failures_taken_up moment d v) late in
+    let taken : ℕ → List Failure → JailNow = λ k r. record (jail_of d v) { moment = k; failures = r; past = filter (is_over at v.bans) v.past } in
+    ap (taken moment) fs ∙ ap (λ k. taken k (failures_taken_up k d v)) moment_is
 
 -- and what always holds of a jail holds of one that was stored
 pub stored_kept : (at next moment : ℕ) (d : JailDef) (c : Contents) (v : JailView) → IsBounded d → IsStored at next v → moment ≡ min v.moment at → c.moment ≡ moment
-    → c.bans.active ≡ v.bans → c.windows.findtime ≡ d.findtime → c.windows.maxretry ≡ d.maxretry → AllOf (λ (f : Failure). f.time ≤ at) c.windows.failures → IsKept at next d c
-stored_kept at next moment d c v bounded stored moment_is c_moment bans findtime maxretry times = record {
+    → c.bans.active ≡ v.bans → c.windows.findtime ≡ d.findtime → c.windows.maxretry ≡ d.maxretry → c.windows.failures ≡ failures_taken_up moment d v → IsKept at next d c
+stored_kept at next moment d c v bounded stored moment_is c_moment bans findtime maxretry failures = record {
   bounded = bounded;
   findtime = findtime;
   maxretry = maxretry;
   moment = omega arith;
-  times = times;
+  times = subst (λ (fs : List Failure). AllOf (λ (f : Failure). f.time ≤ at) fs) (sym failures)
+      (all_of-filter (λ (f : Failure). f.time ≤ at) (λ (f : Failure). not (is_full d.findtime d.maxretry f.addr (filter (can_matter moment d.findtime) v.failures)))
+      (filter (can_matter moment d.findtime) v.failures) (all_of-filter (λ (f : Failure). f.time ≤ at) (can_matter moment d.findtime) v.failures stored.times));
   serials = subst (λ (bs : List Ban). AllOf (λ (b : Ban). b.serial < next) bs) (sym bans) stored.serials;
 }

@@ -1,5 +1,5 @@
 -- What one more failure does to the windows of a jail.
-use Rattle.std.specs.Prelude.{◌≡◌, ℕ, ◌≤◌, true, false, not, Option, None, is_some, IfSome, List, filter}
+use Rattle.std.specs.Prelude.{◌≡◌, ℕ, ◌≤◌, true, not, Option, None, is_some, IfSome, List, filter}
 use Rattle.f2b_base.specs.declared.ban.Failure.{Failure}
 use Rattle.f2b_model.specs.Full.{is_full, is_late, is_of}
 use Rattle.f2b_model.specs.Lists.{AllOf, placed}
@@ -21,7 +21,3 @@ pub record IsAdded (now : ℕ) (f : Failure) (old new : Opened) (full : Option (
   pub goes : (last : ℕ) → last ≤ now → is_some full ≡ true
       → filter (is_late now old.findtime) new.failures ≡ filter (λ (g : Failure). not (is_of f.addr g)) (with_failure last now old.findtime f old.failures)
   pub times : AllOf (λ (g : Failure). g.time ≤ now) new.failures
-
--- no address is full by these failures
-abbrev pub NoneFull : ℕ → ℕ → List Failure → Type 0
-NoneFull findtime maxretry fs = AllOf (λ (f : Failure). is_full findtime maxretry f.addr fs ≡ false) fs

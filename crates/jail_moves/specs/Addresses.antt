@@ -1,5 +1,6 @@
 -- The windows of a jail by address, and what a call does to the failures that they hold.
 use Rattle.std.specs.Prelude.{◌≡◌, ℕ, ◌+◌, ◌*◌, ◌≤◌, ◌↔◌, Bool, true, false, not, nat_lt, max, Option, is_some, IfSome, List, [], ◌∷◌, ◌++◌, filter}
+use Rattle.std.specs.List.{list_any}
 use Rattle.std.specs.List.Sorted.{IsStrictlySortedBy}
 use Rattle.std.specs.BTreeMap.{is_at}
 use Rattle.std.specs.Map.{keys_of, lookup}
@@ -74,6 +75,15 @@ pub record Enters (findtime maxretry now : ℕ) (f : Failure) (old new : List En
 pub record Loses (findtime maxretry : ℕ) (addr : Addr) (old new : List Entry) : Type 0 where
   pub windows : AreWindows findtime maxretry new
   pub failures : failures_in new ≡ filter (λ (f : Failure). not (is_of addr f)) (failures_in old)
+
+-- whether a failure is of one of these addresses
+abbrev pub is_of_some : List Addr → Failure → Bool
+is_of_some addrs f = list_any (same_addr f.addr) addrs
+
+-- the windows of these addresses are taken out
+pub record LosesEach (findtime maxretry : ℕ) (addrs : List Addr) (old new : List Entry) : Type 0 where
+  pub windows : AreWindows findtime maxretry new
+  pub failures : failures_in new ≡ filter (λ (f : Failure). not (is_of_some addrs f)) (failures_in old)
 
 -- windows that hold nothing late are taken out
 pub record Sweeps (findtime maxretry now : ℕ) (old new : List Entry) : Type 0 where

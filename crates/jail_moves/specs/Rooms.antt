@@ -1,5 +1,5 @@
 -- What code keeps of a jail beside its definition, and the middle state that it stands for.
-use Rattle.std.specs.Prelude.{◌≡◌, ℕ, ◌^◌, ◌<◌, ◌≤◌, true, Bool, List, [], ◌∷◌, ◌++◌, Option, filter}
+use Rattle.std.specs.Prelude.{◌≡◌, ℕ, ◌^◌, ◌<◌, ◌≤◌, Bool, List, [], ◌∷◌, ◌++◌, Option, filter}
 use Rattle.ban_table.specs.declared.lists.BanLists.{BanLists}
 use Rattle.ban_table.specs.Tables.{ended}
 use Rattle.f2b_base.specs.declared.addr.Addr.{Addr}
@@ -14,9 +14,9 @@ use Rattle.f2b_model.specs.Full.{is_late}
 use Rattle.f2b_model.specs.Lists.{AllOf, IsInOrder}
 use Rattle.f2b_model.specs.Moves.{new_ban, up_64}
 use Rattle.f2b_model.specs.Nows.{comes_before}
-use Rattle.f2b_model.specs.Sound.{IsOnceEach, IsOver, IsRisingSerials}
+use Rattle.f2b_model.specs.Sound.{IsOnceEach, IsRisingSerials}
 use Rattle.fail_window.specs.Opened.{KeepsLimits, Opened}
-use Rattle.jail_moves.specs.Added.{IsAdded, NoneFull}
+use Rattle.jail_moves.specs.Added.{IsAdded}
 
 -- what is kept of a jail beside its definition
 pub record Contents : Type 0 where
@@ -90,12 +90,3 @@ pub record IsStored (at next : ℕ) (v : JailView) : Type 0 where
   pub rising : IsRisingSerials v.bans
   pub once : IsOnceEach v.bans
   pub serials : AllOf (λ (b : Ban). b.serial < next) v.bans
-
--- what is stored is that of a sound jail, as far as code asks: the moment of the last counted failure is not to come, no failure is
--- later, all are late at it, no address is full, and past bans ended, none after an active one will
-pub record IsStoredWell (at : ℕ) (d : JailDef) (v : JailView) : Type 0 where
-  pub moment : v.moment ≤ at
-  pub by_moment : AllOf (λ (f : Failure). f.time ≤ v.moment) v.failures
-  pub late : AllOf (λ (f : Failure). is_late v.moment d.findtime f ≡ true) v.failures
-  pub none_full : NoneFull d.findtime d.maxretry v.failures
-  pub over : AllOf (IsOver at v.bans) v.past

@@ -4,8 +4,9 @@ ghost use Rattle.f2b_base.specs.declared.ban.Failure.{Failure};
 ghost use Rattle.f2b_model.specs.Full.{is_late, is_of};
 ghost use Rattle.f2b_model.specs.Lists.{AllOf};
 ghost use Rattle.f2b_model.specs.Moves.{is_near_to};
+ghost use Rattle.f2b_model.specs.StorableViews.{can_matter};
 ghost use Rattle.ban_table.specs.Places.{key_of};
-ghost use Rattle.jail_moves.specs.Addresses.{failures_in, window_at, AreWindows, Counts, Enters, Grows, IsHeld, Loses, Sweeps};
+ghost use Rattle.jail_moves.specs.Addresses.{failures_in, window_at, AreWindows, Counts, Enters, Grows, IsHeld, Loses, LosesEach, Sweeps};
 
 use f2b_base::{Addr, Failure, NoMemory, Plain, Seq};
 use fail_window::Window;
@@ -38,6 +39,13 @@ fn is_late(at: u64, findtime: u64, time: u64) -> bool
     ensures { result ≡ nat_lt at (time + 2 * findtime) }
 {
     at < time || (at - time) / 2 < findtime
+}
+
+/// Whether a failure can still matter to a jail whose last one was counted at a moment: it is no later, and not too old.
+pub fn can_matter(moment: u64, findtime: u64, failure: &Failure) -> bool
+    ensures { result ≡ can_matter moment findtime failure.now }
+{
+    failure.time <= moment && is_late(moment, findtime, failure.time)
 }
 
 /// Whether a moment is less than `findtime` seconds after another.
@@ -133,6 +141,15 @@ pub fn remove(windows: &mut ByAddr, addr: Addr) -> Option<AddrWindow>
     ensures loses { (findtime maxretry : ℕ) → AreWindows findtime maxretry windows.old.entries → Loses findtime maxretry addr windows.old.entries windows.new.entries }
 {
     windows.remove(&key_of(addr))
+}
+
+/// Takes the windows of these addresses out. Takes no memory.
+pub fn remove_each(windows: &mut ByAddr, addrs: &[Addr])
+    ensures { (findtime maxretry : ℕ) → AreWindows findtime maxretry windows.old.entries → LosesEach findtime maxretry addrs.now windows.old.entries windows.new.entries }
+{
+    for addr in addrs {
+        let _ = remove(windows, *addr);
+    }
 }
 
 /// Takes an address's window out, and gives those of its failures that are near a time. Takes no memory.

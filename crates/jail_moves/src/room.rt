@@ -6,14 +6,14 @@ ghost use Rattle.f2b_model.specs.Lists.{AllOf};
 ghost use Rattle.f2b_model.specs.Matches.{matches_of};
 ghost use Rattle.f2b_model.specs.Moves.{counts, is_banned, new_ban};
 ghost use Rattle.f2b_model.specs.NowMoves.{banned_now, dropped_now, found_now, fresh_now, kept_now, limited_now};
-ghost use Rattle.f2b_model.specs.Sound.{IsOver};
 ghost use Rattle.f2b_model.specs.Steps.{ended_by_time, is_due, is_meant, moves_now, unbanned};
+ghost use Rattle.f2b_model.specs.StorableViews.{jail_taken_up};
 ghost use Rattle.f2b_model.specs.Told.{begins, told_banned, told_ends, told_found};
 ghost use Rattle.f2b_base.specs.Limits.{last_moment};
-ghost use Rattle.f2b_model.specs.Views.{jail_of, jail_view};
+ghost use Rattle.f2b_model.specs.Views.{jail_view};
 ghost use Rattle.f2b_model.specs.Watches.{is_watched, with_place};
 ghost use Rattle.f2b_model.specs.declared.happening.Happening.TheVariants.{Ends};
-ghost use Rattle.jail_moves.specs.Rooms.{jail_in, with_ban, IsBounded, IsCounted, IsKept, IsStored, IsStoredWell};
+ghost use Rattle.jail_moves.specs.Rooms.{jail_in, with_ban, IsBounded, IsCounted, IsKept, IsStored};
 
 use crate::bans::{begin, drop_past, end_due, unban};
 use crate::matches::matches_of;
@@ -83,8 +83,9 @@ impl Room {
         })
     }
 
-    /// A jail as it was stored, at a moment in seconds since 1970. Where what was stored is not that of a sound jail, some of its
-    /// failures are left out, and so is a past ban that is to end, or that ended after an active one will.
+    /// A jail that is taken up as it was stored, at a moment in seconds since 1970: all of a sound one. Of another, what no step could
+    /// have left is left out: failures that are to come or too old or that fill their address, and a past ban that is to end, or that
+    /// ended after an active one will.
     pub fn of(
         alloc: Global,
         definition: &JailDef,
@@ -93,25 +94,22 @@ impl Room {
     ) -> Result<Room, NoMemory>
         requires bounded { IsBounded definition.now }
         requires stored { (next : ℕ) × IsStored at next view.now }
-        ensures jail { IfOk result (λ room. IsStoredWell at definition.now view.now → jail_in definition.now room ≡ jail_of definition.now view.now) }
+        ensures jail { IfOk result (λ room. jail_in definition.now room ≡ jail_taken_up at definition.now view.now) }
         ensures kept { IfOk result (λ room. (next : ℕ) → IsStored at next view.now → IsKept at next definition.now room) }
-
-        // Sound or not.
-        ensures over { IfOk result (λ room. AllOf (IsOver at room.bans.active) room.bans.past) }
-        ensures watches { IfOk result (λ room. room.watches ≡ view.now.watches) }
     {
+        let moment = view.moment.min(at);
         let windows = Windows::of(
             alloc,
             definition.findtime,
             definition.maxretry as u32,
-            at,
+            moment,
             view.failures.as_slice(),
         )?;
         Ok(Room {
             idle: view.idle,
             total_failed: view.total_failed,
             total_banned: view.total_banned,
-            moment: view.moment.min(at),
+            moment,
             watches: view.watches.copy()?,
             windows,
             bans: table_of(alloc, &view.bans, &view.past, at)?,

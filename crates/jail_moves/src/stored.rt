@@ -1,8 +1,8 @@
 //! The table of the bans that are stored.
-ghost use Rattle.std.specs.Prelude.{◌≡◌, ◌≤◌, ◌↔◌, nat_le, filter, IfOk};
+ghost use Rattle.std.specs.Prelude.{◌≡◌, nat_le, filter, IfOk};
 ghost use Rattle.f2b_base.specs.declared.ban.Past.{Past};
-ghost use Rattle.f2b_model.specs.Lists.{AllOf};
-ghost use Rattle.f2b_model.specs.Sound.{IsOnceEach, IsOver, IsRisingSerials};
+ghost use Rattle.f2b_model.specs.Sound.{IsOnceEach, IsRisingSerials};
+ghost use Rattle.f2b_model.specs.StorableViews.{is_over};
 
 use ban_table::{BanLists, BanTable};
 use f2b_base::{Ban, NoMemory, Past, Plain, Seq, Until};
@@ -10,7 +10,7 @@ use std::alloc::Global;
 
 /// The last moment at which a past ban may have ended: it is not to come, and no active ban ends before it.
 fn last_end(active: &[Ban], at: u64) -> u64
-    ensures { (past : Past) → IsOver at active.now past ↔ (past.end ≤ result) }
+    ensures { (past : Past) → is_over at active.now past ≡ nat_le past.end result }
 {
     let mut last = at;
     for ban in active {
@@ -38,9 +38,7 @@ pub fn table_of(
 ) -> Result<BanTable, NoMemory>
     requires rising { IsRisingSerials active.now }
     requires once { IsOnceEach active.now }
-    ensures active { IfOk result (λ table. table.active ≡ active.now) }
-    ensures over { IfOk result (λ table. AllOf (IsOver at active.now) table.past) }
-    ensures all { AllOf (IsOver at active.now) past.now → IfOk result (λ table. table ≡ record { active = active.now; past = past.now }) }
+    ensures table { IfOk result (λ table. table ≡ record { active = active.now; past = filter (is_over at active.now) past.now }) }
 {
     let active = active.copy()?;
     let mut past = past.copy()?;

@@ -4,10 +4,13 @@ ghost use Rattle.f2b_base.specs.declared.ban.Failure.{Failure};
 ghost use Rattle.f2b_model.specs.Full.{is_late, is_of};
 ghost use Rattle.f2b_model.specs.Lists.{AllOf, IsInOrder};
 ghost use Rattle.f2b_model.specs.Nows.{comes_before};
-ghost use Rattle.fail_window.specs.Opened.{IsLate, KeepsLimits};
-ghost use Rattle.jail_moves.specs.Added.{IsAdded, NoneFull};
+ghost use Rattle.f2b_model.specs.StorableViews.{can_matter, unfilled};
+ghost use Rattle.fail_window.specs.Opened.{KeepsLimits};
+ghost use Rattle.jail_moves.specs.Added.{IsAdded};
 
-use crate::addresses::{ByAddr, count, late_failures, remove, sweep_in_turn};
+use crate::addresses::{
+    ByAddr, can_matter, count, late_failures, remove, remove_each, sweep_in_turn,
+};
 use f2b_base::{Addr, Failure, NoMemory, Plain, Seq};
 use std::alloc::Global;
 use std::collections::BTreeMap;
@@ -56,28 +59,34 @@ impl Windows {
         self.alloc
     }
 
-    /// Windows of failures that stand in order, fill no address, and were all late at some moment. Where they do not, some are left
-    /// out.
+    /// Windows of those failures, which stand in order, that can still matter to a jail whose last one was counted at a moment. The
+    /// failures of an address that they fill are left out: it would have been banned.
     pub fn of(
         alloc: Global,
         findtime: u64,
         maxretry: u32,
-        at: u64,
+        moment: u64,
         failures: &[Failure],
     ) -> Result<Windows, NoMemory>
         requires findtime { 1 ≤ findtime }
         requires maxretry { 1 ≤ maxretry }
         requires in_order { IsInOrder comes_before failures.now }
-        requires times { AllOf (λ (f : Failure). f.time ≤ at) failures.now }
         ensures limits { IfOk result (λ w. KeepsLimits (record { findtime = findtime; maxretry = maxretry; failures = [] }) w) }
-        ensures times { IfOk result (λ w. AllOf (λ (f : Failure). f.time ≤ at) w.failures) }
-        ensures failures { NoneFull findtime maxretry failures.now → (moment : ℕ) → AllOf (IsLate moment findtime) failures.now → IfOk result (λ w. w.failures ≡ failures.now) }
+        ensures failures { IfOk result (λ w. w.failures ≡ unfilled findtime maxretry (filter (can_matter moment findtime) failures.now)) }
     {
         let mut by_addr = BTreeMap::new(alloc);
+        let mut full = Seq::new(alloc);
         for failure in failures {
-            let copy = failure.copy()?;
-            let _ = count(&mut by_addr, alloc, findtime, maxretry, copy, failure.time)?;
+            if can_matter(moment, findtime, failure) {
+                let copy = failure.copy()?;
+                let time = failure.time;
+                if let Some(_near) = count(&mut by_addr, alloc, findtime, maxretry, copy, time)? {
+                    full.push(failure.addr)?;
+                }
+            }
         }
+        // An address that is full stays so, whatever came behind.
+        remove_each(&mut by_addr, full.as_slice());
         Ok(Windows {
             findtime,
             maxretry,

@@ -1,20 +1,10 @@
 -- What happened to the jails alone, done jail by jail.
-use Rattle.std.proofs.Common.{◌≡◌, ℕ, max, Bool, true, false, cond, List, [], ◌∷◌, ◌++◌, map, refl, sym, ◌∙◌, ap, ap₂, subst}
-use Rattle.f2b_base.specs.declared.ban.Ban.{Ban}
-use Rattle.f2b_base.specs.declared.input.Input.{Input}
+use Rattle.std.proofs.Common.{◌≡◌, ℕ, true, false, [], ◌∷◌, refl, ap}
 use Rattle.f2b_base.specs.declared.input.What.{What}
 use Rattle.f2b_base.specs.declared.input.What.TheVariants.{Tick, Read, Ended, Config, Stop, Ban as BanThese, Unban, Attempt, Ignore, Findtime, Bantime, Maxretry, Idle, CheckFailed}
-use Rattle.f2b_base.specs.declared.job.Job.{Job}
-use Rattle.f2b_model.specs.declared.happening.Happening.{Happening}
-use Rattle.f2b_model.specs.declared.jail_now.JailNow.{JailNow}
-use Rattle.f2b_model.specs.Active.{held, held_by, held_in}
-use Rattle.f2b_model.specs.Lanes.{Lanes, books_now, issue, lanes_done, lanes_step}
 use Rattle.f2b_model.specs.Nows.{JailsNow}
-use Rattle.f2b_model.specs.NowMoves.{dropped_now}
-use Rattle.f2b_model.specs.Orders.{Held, told_orders}
-use Rattle.f2b_model.specs.Steps.{Outs, moves_now, with_outs, is_spent, at_reading, done, each_jail, raised, jails_step_now}
-use Rattle.f2b_model.specs.Told.{told_each, told_ends, told_done, jails_told}
-use Rattle.f2b_model.specs.Whole.{Now, is_whole_spent, step_now, told_now}
+use Rattle.f2b_model.specs.Steps.{moves_now, with_outs, done}
+use Rattle.f2b_model.specs.Told.{told_done}
 use Rattle.jail_rooms.specs.Happened.{happened, told_happened}
 use Rattle.jail_rooms.specs.Jails.{is_of_jails}
 use Rattle.jail_rooms.proofs.LogLemmas.{read_at_once, told_read_at_once}
@@ -35,7 +25,7 @@ done_is word (Findtime jail secs) w alone = refl
 done_is word (Bantime jail secs) w alone = refl
 done_is word (Maxretry jail number) w alone = refl
 done_is word (Idle jail idle) w alone = refl
-done_is word (CheckFailed job outcome) w alone = refl
+done_is word (CheckFailed job outcome) w alone = absurd (let k : false ≡ true = alone in cc)
 
 -- and what it tells
 pub told_is : (word : ℕ) (what : What) (w : JailsNow) → is_of_jails what ≡ true → told_done moves_now word what w ≡ told_happened w.at word what w.next_ban w.jails
@@ -52,7 +42,7 @@ told_is word (Findtime jail secs) w alone = refl
 told_is word (Bantime jail secs) w alone = refl
 told_is word (Maxretry jail number) w alone = refl
 told_is word (Idle jail idle) w alone = refl
-told_is word (CheckFailed job outcome) w alone = refl
+told_is word (CheckFailed job outcome) w alone = absurd (let k : false ≡ true = alone in cc)
 
 -- what happened leaves the moment
 pub done_at : (word : ℕ) (what : What) (w : JailsNow) → (done moves_now word what w).at ≡ w.at

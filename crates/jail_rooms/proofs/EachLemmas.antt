@@ -1,5 +1,5 @@
 -- Moves on each of a list of jails, one after the other.
-use Rattle.std.proofs.Common.{◌≡◌, ◌||◌, ℕ, zero, suc, ◌+◌, ◌<◌, ◌≤◌, List, [], ◌∷◌, ◌++◌, length, get_or, take, drop, map, refl, sym, ◌∙◌, ap, ap₂, subst, arith, append_assoc}
+use Rattle.std.proofs.Common.{◌≡◌, ◌||◌, ℕ, zero, suc, ◌<◌, ◌≤◌, List, [], ◌∷◌, ◌++◌, length, get_or, take, drop, map, refl, sym, ◌∙◌, ap, ap₂, subst, arith, append_assoc}
 use Rattle.std.proofs.Math.ListN.{set}
 use Rattle.std.proofs.Math.Seq.{take-append_seam}
 use Rattle.std.proofs.lemmas.List.{append-nil}
@@ -12,7 +12,7 @@ use Rattle.lane_moves.specs.Held.{held_in_jail, held_of}
 use Rattle.f2b_model.specs.declared.happening.Happening.{Happening}
 use Rattle.f2b_model.specs.declared.jail_now.JailNow.{JailNow}
 use Rattle.f2b_model.specs.Told.{told_each}
-use Rattle.jail_moves.specs.Rooms.{Contents, jail_in, IsKept}
+use Rattle.jail_moves.specs.Rooms.{Contents, jail_in}
 use Rattle.jail_rooms.specs.Each.{AreMoved, IsMoved}
 use Rattle.jail_rooms.specs.Kept.{jails_in, AreKept}
 

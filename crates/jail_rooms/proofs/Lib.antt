@@ -6,3 +6,5 @@ pub mod LogLemmas
 pub mod PlaceLemmas
 pub mod ReadLemmas
 pub mod StoredLemmas
+pub mod StorableLemmas
+pub mod TakenLemmas

@@ -1,6 +1,5 @@
 -- Failures found and bans begun in a jail, one by one and all at once.
-use Rattle.std.proofs.Common.{◌≡◌, ℕ, zero, suc, ◌+◌, ◌≤◌, ◌<◌, List, [], ◌∷◌, ◌++◌, length, get_or, drop, refl, sym, ◌∙◌, ap, arith, append_assoc}
-use Rattle.std.proofs.Math.ListN.{set}
+use Rattle.std.proofs.Common.{◌≡◌, ℕ, zero, suc, ◌+◌, ◌<◌, List, [], ◌∷◌, ◌++◌, length, get_or, drop, refl, sym, ◌∙◌, ap, arith, append_assoc}
 use Rattle.std.specs.Prelude.{bytes_eq}
 use Rattle.f2b_base.specs.declared.addr.Addr.{Addr}
 use Rattle.f2b_base.specs.declared.ban.Failure.{Failure}

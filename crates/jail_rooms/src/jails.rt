@@ -1,20 +1,21 @@
 //! `Jails`: the jails of the server, their definitions and what is kept of each.
 ghost use Rattle.std.specs.Prelude.{◌≡◌, ◌≤◌, ◌^◌, ◌∷◌, ◌++◌, [], length, map, max, true, OnOk, IfOk};
 ghost use Rattle.std.specs.List.{list_any};
+ghost use Rattle.f2b_base.specs.declared.ban.Failure.{Failure};
 ghost use Rattle.f2b_base.specs.declared.input.What.TheVariants.{Config};
+ghost use Rattle.f2b_base.specs.declared.view.JailView.{JailView};
 ghost use Rattle.f2b_model.specs.Active.{held, held_by};
 ghost use Rattle.f2b_model.specs.NowMoves.{dropped_now};
-ghost use Rattle.f2b_model.specs.Sound.{AreFitDefs, IsSoundView};
+ghost use Rattle.f2b_model.specs.Sound.{AreFitDefs};
 ghost use Rattle.f2b_model.specs.Steps.{at_reading, done, each_jail, is_ban_due, moves_now};
 ghost use Rattle.f2b_model.specs.Told.{told_done, told_each, told_ends};
 ghost use Rattle.f2b_base.specs.Limits.{default_purge, last_moment};
-ghost use Rattle.f2b_model.specs.Views.{gathered, jail_view};
-ghost use Rattle.f2b_model.specs.Laws.{AreWatched};
+ghost use Rattle.f2b_model.specs.StorableViews.{IsStorableView, taken_up};
+ghost use Rattle.f2b_model.specs.Views.{jail_view};
 ghost use Rattle.f2b_model.specs.Lists.{AllOf};
 ghost use Rattle.f2b_model.specs.declared.jail_now.JailNow.{JailNow};
 ghost use Rattle.jail_rooms.specs.Jails.{is_of_jails};
 ghost use Rattle.jail_rooms.specs.Kept.{jails_in, IsBoundedWhat};
-ghost use Rattle.jail_rooms.specs.Stored.{IsBoundedView};
 ghost use Rattle.jail_moves.specs.Rooms.{Contents, IsBounded};
 ghost use Rattle.lane_moves.specs.Held.{held_of};
 
@@ -99,11 +100,10 @@ impl Jails {
         }
     }
 
-    /// The jails of a view.
+    /// The jails of a view. Of one that is not that of a sound state, what no step could have left is left out.
     pub fn of(alloc: Global, view: &View) -> Result<Jails, NoMemory>
-        requires { IsBoundedView view.now }
-        ensures jails { IsSoundView view.now → IfOk result (λ jails. jails ≡ (gathered view.now).world) }
-        ensures watched { IfOk result AreWatched }
+        requires { IsStorableView view.now }
+        ensures jails { IfOk result (λ jails. jails ≡ (taken_up view.now).world) }
     {
         let defs = view.defs.copy()?;
         let rooms = rooms_of(
@@ -157,9 +157,10 @@ impl Jails {
         is_any_idle(self.rooms.as_slice())
     }
 
-    /// What is stored of each jail.
+    /// What is stored of each jail, where no failure is to come.
     pub fn views(&self) -> Result<Seq<JailView>, NoMemory>
-        ensures { IfOk result (λ views. views ≡ map jail_view self.now.jails) }
+        ensures views { IfOk result (λ views. views ≡ map jail_view self.now.jails) }
+        ensures times { IfOk result (λ views. AllOf (λ (j : JailView). AllOf (λ (f : Failure). f.time ≤ self.now.at) j.failures) views) }
     {
         views(
             self.alloc,

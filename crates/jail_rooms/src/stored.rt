@@ -1,11 +1,9 @@
-//! What is stored of the jails, and the jails as they were stored.
+//! What is stored of the jails, and the jails that were stored.
 ghost use Rattle.std.specs.Prelude.{◌≡◌, ℕ, map, IfOk};
-ghost use Rattle.f2b_model.specs.Laws.{IsWatched};
-ghost use Rattle.f2b_model.specs.Lists.{AllOf};
-ghost use Rattle.f2b_model.specs.Views.{jail_view, jails_of};
-ghost use Rattle.f2b_model.specs.declared.jail_now.JailNow.{JailNow};
+ghost use Rattle.f2b_model.specs.StorableViews.{jails_taken_up};
+ghost use Rattle.f2b_model.specs.Views.{jail_view};
 ghost use Rattle.jail_rooms.specs.Kept.{jails_in, AreKept};
-ghost use Rattle.jail_rooms.specs.Stored.{AreStored, AreStoredWell};
+ghost use Rattle.jail_rooms.specs.Stored.{AreStored};
 
 use f2b_base::{JailDef, JailView, NoMemory, Seq};
 use jail_moves::Room;
@@ -27,8 +25,8 @@ pub fn views(
     Ok(views)
 }
 
-/// The jails as they were stored at a moment, in seconds since 1970. Where what was stored is not that of sound jails, some failures
-/// are left out.
+/// The jails that were stored at a moment, in seconds since 1970. Of one that is not that of a sound state, what no step could have
+/// left is left out.
 pub fn rooms_of(
     alloc: Global,
     definitions: &[JailDef],
@@ -36,10 +34,8 @@ pub fn rooms_of(
     at: u64,
 ) -> Result<Vec<Room>, NoMemory>
     requires { (next : ℕ) × AreStored at next definitions.now views.now }
-    ensures jails { AreStoredWell at definitions.now views.now → IfOk result (λ rooms. jails_in definitions.now rooms.items ≡ jails_of definitions.now views.now) }
+    ensures jails { IfOk result (λ rooms. jails_in definitions.now rooms.items ≡ jails_taken_up at definitions.now views.now) }
     ensures kept { (next : ℕ) → AreStored at next definitions.now views.now → IfOk result (λ rooms. AreKept at next definitions.now rooms.items) }
-    ensures watched { AllOf (λ (j : JailNow). IsWatched j.definition.watches j.watches) (jails_of definitions.now views.now)
-        → IfOk result (λ rooms. AllOf (λ (j : JailNow). IsWatched j.definition.watches j.watches) (jails_in definitions.now rooms.items)) }
 {
     let mut rooms = Vec::new(alloc);
     for index in 0..views.len() {

@@ -5,18 +5,21 @@ ghost use Rattle.f2b_model.specs.Checks.{check_of, checked_lane, lane_of};
 ghost use Rattle.f2b_model.specs.Jobs.{AreById};
 ghost use Rattle.f2b_model.specs.Lanes.{all_down, all_up, books_now, check_failed, lane_down, lane_failed, lane_up, lanes_issued, lanes_of, missing_up, others_down, restarted, stopped, try_ended};
 ghost use Rattle.f2b_model.specs.LanesTold.{lanes_told, told_check};
+ghost use Rattle.f2b_model.specs.Storable.{most_numbers};
 ghost use Rattle.f2b_base.specs.Limits.{last_moment};
+ghost use Rattle.lane_moves.specs.CheckText.{check_text_of};
 ghost use Rattle.lane_moves.specs.Held.{are_just, held_of};
 
 use crate::book::JobBook;
 use crate::held::JailBans;
 use crate::orders::{order_down, order_restart, order_told, order_up};
 use crate::tells::{tell_check, tell_try};
+use crate::texts::check_text;
 use crate::up::{
     has_others, is_up_by_name, lacks_some, lane_of, missing, others, take_out, with_check,
 };
 use action_queue::Lanes;
-use f2b_base::{Defs, Job, LaneId, NoMemory, Outcome, Plain, Seq, UpLane};
+use f2b_base::{Defs, Job, LaneId, NoMemory, Outcome, Plain, Seq, Text, UpLane};
 use f2b_model::{Happening, LaneHappening};
 use std::alloc::Global;
 use std::marker::Model;
@@ -63,7 +66,8 @@ impl Actions {
         jobs: &Seq<Job>,
         next_job: u64,
     ) -> Result<Actions, NoMemory>
-        requires { AreById 0 jobs.now next_job }
+        requires ids { AreById 0 jobs.now next_job }
+        requires few { next_job ≤ most_numbers }
         ensures { IfOk result (λ actions. actions ≡ record { up = up.now; stopping = stopping; jobs = jobs.now; next_job = next_job }) }
     {
         Ok(Actions {
@@ -97,7 +101,8 @@ impl Actions {
 
     /// The id of the job to come.
     pub fn next_job(&self) -> u64
-        ensures { result ≡ self.now.next_job }
+        ensures id { result ≡ self.now.next_job }
+        ensures few { result ≤ most_numbers }
     {
         self.book.next()
     }
@@ -145,6 +150,17 @@ impl Actions {
             return None;
         }
         with_check(self.up.as_slice(), lane)
+    }
+
+    /// The command of the check that is run before a try of the job, with the values of a Start of its lane. There is one exactly where
+    /// `check_of` has a lane.
+    pub fn check_text(&self, job: u64) -> Result<Option<Text>, NoMemory>
+        ensures { IfOk result (λ text. text ≡ check_text_of (check_of self.now.up job self.now.jobs)) }
+    {
+        match self.check_of(job) {
+            Some(lane) => Ok(Some(check_text(self.alloc, lane)?)),
+            None => Ok(None),
+        }
     }
 
     /// Takes it that the check of a job failed, with these bans, and tells of it. It counts where the job is a Ban or an Unban and the

@@ -5,6 +5,7 @@ ghost use Rattle.action_queue.specs.Tries.{ending_of};
 ghost use Rattle.f2b_model.specs.Checks.{checked_lane, is_closing};
 ghost use Rattle.f2b_model.specs.Jobs.{is_head_id, job_by_id, settle_in, settled_as, AreById};
 ghost use Rattle.f2b_model.specs.Orders.{lane_id};
+ghost use Rattle.f2b_model.specs.Storable.{most_numbers};
 ghost use Rattle.f2b_base.specs.Limits.{last_moment};
 ghost use Rattle.lane_moves.specs.Pending.{filled_order, ordered};
 
@@ -16,6 +17,10 @@ use std::alloc::Global;
 use std::marker::Model;
 use tag_subst::render;
 
+/// The most jobs that can be made. The id of each is below it, and that of the job to come at most it, since no greater one can be
+/// stored.
+pub const MOST_NUMBERS: u64 = 1 << 63;
+
 /// The jobs that are not settled, and the id of the job to come.
 #[derive(Drop)]
 pub(crate) struct JobBook {
@@ -25,14 +30,13 @@ pub(crate) struct JobBook {
 }
 
 impl Model for JobBook {
-    ghost use Rattle.f2b_model.specs.Jobs.{AllIdsBelow};
-    ghost use Rattle.lane_moves.specs.Pending.{Pending};
+    ghost use Rattle.lane_moves.specs.Pending.{Pending, AreNumbered};
 
     ghost Value = { Pending };
 
     ghost view = { λ b. record { jobs = b.jobs; next = b.next } };
 
-    ghost invariant = { λ b. AllIdsBelow b.next b.jobs };
+    ghost invariant = { λ b. AreNumbered (record { jobs = b.jobs; next = b.next }) };
 }
 
 /// The name of a lane that is up.
@@ -60,7 +64,8 @@ impl JobBook {
 
     /// Copies of jobs, which stand by id.
     pub(crate) fn of(alloc: Global, jobs: &[Job], next: u64) -> Result<JobBook, NoMemory>
-        requires { AreById 0 jobs.now next }
+        requires ids { AreById 0 jobs.now next }
+        requires few { next ≤ most_numbers }
         ensures { IfOk result (λ book. book ≡ record { jobs = jobs.now; next = next }) }
     {
         let mut lanes = Lanes::new(alloc);
@@ -89,7 +94,8 @@ impl JobBook {
 
     /// The id of the job to come.
     pub(crate) fn next(&self) -> u64
-        ensures { result ≡ self.now.next }
+        ensures id { result ≡ self.now.next }
+        ensures few { result ≤ most_numbers }
     {
         self.next
     }
@@ -142,7 +148,7 @@ impl JobBook {
 
     /// Adds a job of that kind for the lane, with these values in its command, due at a moment in seconds since 1970.
     ///
-    /// The last id is given to no job, since there would be none for the job to come: that many jobs have no memory.
+    /// Where `MOST_NUMBERS` jobs were made, no id is left for one more: it has no memory.
     pub(crate) fn order(
         &mut self,
         kind: JobKind,
@@ -152,7 +158,9 @@ impl JobBook {
     ) -> Result<(), NoMemory>
         ensures { OnOk result (self.new ≡ ordered at (filled_order kind lane.now fill.now ∷ []) self.old) }
     {
-        let next = self.next.checked_add(1).ok_or(NoMemory)?;
+        if self.next >= MOST_NUMBERS {
+            return Err(NoMemory);
+        }
         let job = Job {
             id: self.next,
             lane: lane_id(lane)?,
@@ -164,7 +172,7 @@ impl JobBook {
             due: at,
         };
         self.jobs.push(self.alloc, job)?;
-        self.next = next;
+        self.next += 1;
         Ok(())
     }
 }

@@ -21,4 +21,5 @@ mod texts;
 mod up;
 
 pub use actions::Actions;
+pub use book::MOST_NUMBERS;
 pub use held::JailBans;

@@ -48,7 +48,7 @@ fn action(alloc: Global, family: Family, word: &str) -> Result<ActionDef, NoMemo
             "ban <ip> <family> <failures> <time> <bantime> <bancount>:<matches>",
         )?,
         unban: command(alloc, word, "unban <ip>")?,
-        check: Text::from_str(alloc, "test -e /x")?,
+        check: Text::from_str(alloc, "test -e /x <family>")?,
         timeout: 60,
     })
 }

@@ -1,7 +1,7 @@
 //! Checks: which jobs have one, and what is left and ordered where one fails.
 
 use crate::tests::{ENDLESS, SHORT, begins_with, expect_jobs, expect_said, held_of, lanes_up};
-use f2b_base::{Family, Outcome, Seq};
+use f2b_base::{Family, Outcome, Seq, Text};
 use std::test::Fail;
 
 #[test]
@@ -21,7 +21,7 @@ fn a_failed_check_starts_its_lane_anew(rt: HostRuntime) -> Result<(), Fail> {
     )?;
 
     let check = actions.check_of(2).map(|lane| lane.action.check.as_str());
-    assert_eq!(rt; check, Some("test -e /x"));
+    assert_eq!(rt; check, Some("test -e /x <family>"));
     held[0].bans.push(ENDLESS)?;
     actions.check_failed(&mut said, &held, 2, Outcome::Status(1), 1003)?;
     expect_jobs(
@@ -53,4 +53,22 @@ fn a_lane_that_is_about_to_stop_stays_so(rt: HostRuntime) -> Result<(), Fail> {
     actions.check_failed(&mut said, &held, 3, Outcome::Status(1), 1001)?;
     expect_jobs(&rt, alloc, &actions, "3 Stop 0 old stop inet4\n")?;
     expect_said(&rt, alloc, &said, "check TimedOut\n")
+}
+
+#[test]
+fn a_check_is_written_for_its_lane(rt: HostRuntime) -> Result<(), Fail> {
+    let alloc = rt.alloc();
+    let held = [held_of(alloc, "sshd", ENDLESS)?];
+    let mut both = lanes_up(alloc, &[Family::Both], &held)?;
+    let mut six = lanes_up(alloc, &[Family::Inet6], &held)?;
+    let mut said = Seq::new(alloc);
+    assert_eq!(rt; both.check_text(1)?, None);
+    both.ended(&mut said, 0, Outcome::Status(0), 1000)?;
+    six.ended(&mut said, 0, Outcome::Status(0), 1000)?;
+
+    let four = Text::from_str(alloc, "test -e /x inet4")?;
+    assert_eq!(rt; both.check_text(1)?, Some(four));
+    let of_six = Text::from_str(alloc, "test -e /x inet6")?;
+    assert_eq!(rt; six.check_text(1)?, Some(of_six));
+    Ok(())
 }

@@ -1,10 +1,10 @@
-use Rattle.std.proofs.Common.{◌+◌, drop, sym, ◌∙◌, subst}
+use Rattle.std.proofs.Common.{◌+◌, drop, refl, sym, ◌∙◌, subst}
 use Rattle.jail_moves.proofs.PastLemmas.{IsLast, last_next, last_never, last_all}
 use Rattle.jail_moves.proofs.stored.last_end.Goals as goal
 use Rattle.jail_moves.proofs.stored.last_end.Goals.{in-At, in_default}
 
 pub loop-ban-init : goal.loop-ban-init
-loop-ban-init c = λ p. (λ over. over, λ over. over)
+loop-ban-init c = λ p. refl
 
 pub loop-ban-preserved : goal.loop-ban-preserved
 loop-ban-preserved c =

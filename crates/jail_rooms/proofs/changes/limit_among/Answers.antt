@@ -1,12 +1,11 @@
-use Rattle.std.proofs.Common.{◌≡◌, ◌++◌, ℕ, List, length, take, drop, sym, ◌∙◌, ap, ap₂, subst, rules}
+use Rattle.std.proofs.Common.{◌≡◌, List, length, sym, ◌∙◌, ap, subst, rules}
 use Rattle.std.specs.Option.{unwrap_or}
-use Rattle.f2b_base.specs.declared.jail.JailDef.{JailDef}
 use Rattle.f2b_model.specs.declared.jail_now.JailNow.{JailNow}
 use Rattle.f2b_model.specs.NowMoves.{limited_now}
 use Rattle.f2b_model.specs.Steps.{Outs, alone, in_jail, moves_now}
 use Rattle.jail_moves.specs.Rooms.{Contents}
 use Rattle.jail_rooms.specs.Kept.{jails_in, AreKept}
-use Rattle.jail_rooms.proofs.EachLemmas.{as_a_whole, kept_length}
+use Rattle.jail_rooms.proofs.EachLemmas.{as_a_whole}
 use Rattle.jail_rooms.proofs.changes.limit_among.Goals as goal
 
 pub returns-clause-jails : goal.returns-clause-jails

@@ -1,4 +1,4 @@
-use Rattle.std.proofs.Common.{◌≡◌, ◌<◌, ◌≤◌, ◌^◌, ℕ, List, length, get_or, Option, None, Some, IfSome, refl, sym, ◌∙◌, ap, ap₂, subst, arith, rules}
+use Rattle.std.proofs.Common.{◌≡◌, ℕ, List, get_or, sym, ◌∙◌, ap, ap₂, subst, arith, rules}
 use Rattle.std.proofs.Math.ListN.{set}
 use Rattle.std.specs.Option.{unwrap_or}
 use Rattle.f2b_base.specs.declared.jail.JailDef.{JailDef}
@@ -6,11 +6,11 @@ use Rattle.f2b_model.specs.declared.jail_now.JailNow.{JailNow}
 use Rattle.f2b_model.specs.Moves.{Out}
 use Rattle.f2b_model.specs.NowMoves.{limited_now}
 use Rattle.f2b_model.specs.Steps.{Outs, alone, moves_now}
-use Rattle.jail_moves.specs.Rooms.{Contents, jail_in, IsBounded, IsKept}
+use Rattle.jail_moves.specs.Rooms.{Contents, jail_in, IsKept}
 use Rattle.jail_rooms.specs.Kept.{jails_in, AreKept}
 use Rattle.jail_rooms.specs.Reading.{jail_place}
 use Rattle.jail_rooms.proofs.EachLemmas.{kept_length}
-use Rattle.jail_rooms.proofs.PlaceLemmas.{at_own_place, idle_kept, in_jail_at, in_jail_none, kept_at, kept_set, moved_at, moved_kept}
+use Rattle.jail_rooms.proofs.PlaceLemmas.{in_jail_at, in_jail_none, kept_at, kept_set}
 use Rattle.jail_rooms.proofs.changes.limit_in.Goals as goal
 
 pub bounds-rooms-place : goal.bounds-rooms-place

@@ -1,4 +1,4 @@
-use Rattle.std.proofs.Common.{◌≡◌, List, insert, ◌∙◌, ap}
+use Rattle.std.proofs.Common.{List, insert, ◌∙◌, ap}
 use Rattle.std.proofs.lemmas.Result.{on_ok_weaker}
 use Rattle.f2b_base.specs.declared.jail.JailDef.{JailDef}
 use Rattle.jail_rooms.proofs.PlaceLemmas.{replaced}

@@ -1,13 +1,11 @@
-use Rattle.std.proofs.Common.{◌≡◌, ◌<◌, ◌≤◌, ℕ, List, length, get_or, refl, sym, ◌∙◌, ap, ap₂, subst, arith, rules}
+use Rattle.std.proofs.Common.{◌≡◌, List, get_or, refl, sym, ◌∙◌, ap, subst, rules}
 use Rattle.std.proofs.Math.ListN.{set}
 use Rattle.f2b_base.specs.declared.jail.JailDef.{JailDef}
 use Rattle.f2b_model.specs.declared.jail_now.JailNow.{JailNow}
-use Rattle.f2b_model.specs.Moves.{Out, ignored, spanned}
+use Rattle.f2b_model.specs.Moves.{spanned}
 use Rattle.f2b_model.specs.Steps.{Outs, alone, moves_now}
-use Rattle.jail_moves.specs.Rooms.{Contents, jail_in, IsKept}
 use Rattle.jail_rooms.specs.Kept.{jails_in, AreKept}
-use Rattle.jail_rooms.proofs.EachLemmas.{kept_length}
-use Rattle.jail_rooms.proofs.PlaceLemmas.{at_own_place, ignored_in, ignored_kept, in_jail_at, in_jail_none, kept_at, kept_set, redefined_at, redefined_kept, spanned_kept}
+use Rattle.jail_rooms.proofs.PlaceLemmas.{in_jail_none, redefined_at, redefined_kept, spanned_kept}
 use Rattle.jail_rooms.proofs.changes.span_in.Goals as goal
 
 pub returns-in_ok-replace-clause-jails : goal.returns-in_ok-replace-clause-jails

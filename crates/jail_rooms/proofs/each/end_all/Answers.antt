@@ -1,7 +1,6 @@
-use Rattle.std.proofs.Common.{◌≡◌, ◌≤◌, ◌++◌, ℕ, List, cond, length, take, drop, map, sym, ◌∙◌, ap, subst, arith, rules}
+use Rattle.std.proofs.Common.{◌≡◌, List, length, sym, ◌∙◌, ap, subst, rules}
 use Rattle.f2b_model.specs.declared.jail_now.JailNow.{JailNow}
-use Rattle.f2b_model.specs.NowMoves.{dropped_now}
-use Rattle.f2b_model.specs.Steps.{ended_by_time, is_meant_jail, moves_now, unbanned}
+use Rattle.f2b_model.specs.Steps.{ended_by_time, moves_now}
 use Rattle.jail_moves.specs.Rooms.{Contents}
 use Rattle.jail_rooms.specs.Each.{AreMoved}
 use Rattle.jail_rooms.specs.Kept.{jails_in, AreKept}

@@ -1,8 +1,6 @@
-use Rattle.std.proofs.Common.{◌≡◌, ◌++◌, cond, take}
-use Rattle.f2b_model.specs.declared.jail_now.JailNow.{JailNow}
-use Rattle.f2b_model.specs.NowMoves.{dropped_now}
-use Rattle.f2b_model.specs.Steps.{ended_by_time, is_meant_jail, moves_now, unbanned}
-use Rattle.f2b_model.specs.Told.{told_each, told_ends, told_unbanned}
+use Rattle.std.proofs.Common.{◌≡◌, ◌++◌, take}
+use Rattle.f2b_model.specs.Steps.{ended_by_time, moves_now}
+use Rattle.f2b_model.specs.Told.{told_each, told_ends}
 use Rattle.jail_rooms.specs.Each.{AreMoved}
 use Rattle.jail_rooms.specs.Kept.{jails_in}
 use Rattle.jail_rooms.proofs.each.end_each.Given as goal

@@ -1,10 +1,9 @@
-use Rattle.std.proofs.Common.{◌≡◌, ◌≤◌, ◌<◌, ℕ, suc, ◌+◌, cond, length, get_or, List, ◌++◌, take, sym, ◌∙◌, ap, ap₂, subst, arith, append_assoc}
+use Rattle.std.proofs.Common.{◌≡◌, ◌<◌, suc, ◌+◌, cond, length, List, ◌++◌, take, sym, ◌∙◌, ap, subst, arith, append_assoc}
 use Rattle.std.proofs.Math.ListN.{set}
 use Rattle.f2b_model.specs.declared.happening.Happening.{Happening}
 use Rattle.f2b_model.specs.declared.jail_now.JailNow.{JailNow}
-use Rattle.f2b_model.specs.NowMoves.{dropped_now}
-use Rattle.f2b_model.specs.Steps.{ended_by_time, is_meant_jail, moves_now, unbanned}
-use Rattle.f2b_model.specs.Told.{told_each, told_ends, told_unbanned}
+use Rattle.f2b_model.specs.Steps.{is_meant_jail, moves_now, unbanned}
+use Rattle.f2b_model.specs.Told.{told_each, told_unbanned}
 use Rattle.jail_moves.specs.Rooms.{Contents}
 use Rattle.jail_rooms.specs.Each.{AreMoved, IsMoved}
 use Rattle.jail_rooms.specs.Kept.{jails_in}

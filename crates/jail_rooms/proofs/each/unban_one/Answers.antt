@@ -1,9 +1,6 @@
-use Rattle.std.proofs.Common.{◌≡◌, true, false, cond, sym, ◌∙◌, ap, refl, arith, rules}
-use Rattle.f2b_model.specs.declared.jail_now.JailNow.{JailNow}
-use Rattle.f2b_model.specs.Steps.{is_meant_jail, moves_now, unbanned}
-use Rattle.jail_moves.specs.Rooms.{jail_in}
+use Rattle.std.proofs.Common.{◌≡◌, true, false, refl, arith, rules}
+use Rattle.f2b_model.specs.Steps.{is_meant_jail}
 use Rattle.jail_moves.proofs.RoomLemmas.{kept_later}
-use Rattle.jail_rooms.specs.Each.{IsMoved}
 use Rattle.jail_rooms.proofs.each.unban_one.Goals as goal
 
 pub returns-in_ok-unban-clause-room : goal.returns-in_ok-unban-clause-room

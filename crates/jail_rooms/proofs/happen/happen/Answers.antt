@@ -1,15 +1,11 @@
-use Rattle.std.proofs.Common.{◌≡◌, ◌++◌, ℕ, List, length, take, drop, Some, None, sym, ◌∙◌, ap, ap₂, subst, rules}
+use Rattle.std.proofs.Common.{◌≡◌, length, sym, ◌∙◌, ap, rules}
 use mir.Syntax.{w64}
 use mir.Val.{of_z, to_z}
 use Rattle.f2b_base.specs.declared.input.What.{What}
-use Rattle.f2b_base.specs.declared.jail.JailDef.{JailDef}
-use Rattle.f2b_model.specs.declared.jail_now.JailNow.{JailNow}
-use Rattle.f2b_model.specs.NowMoves.{limited_now}
-use Rattle.f2b_model.specs.Steps.{Outs, alone, in_jail, moves_now}
-use Rattle.jail_moves.specs.Rooms.{Contents}
+use Rattle.f2b_model.specs.Steps.{alone, in_jail, moves_now}
 use Rattle.jail_rooms.specs.Happened.{happened}
-use Rattle.jail_rooms.specs.Kept.{jails_in, AreKept}
-use Rattle.jail_rooms.proofs.EachLemmas.{as_a_whole, kept_length}
+use Rattle.jail_rooms.specs.Kept.{jails_in}
+use Rattle.jail_rooms.proofs.EachLemmas.{kept_length}
 use Rattle.jail_rooms.proofs.happen.happen.Goals as goal
 
 pub unban_all-requires-clause-same : goal.unban_all-requires-clause-same

@@ -1,9 +1,9 @@
 use Rattle.std.proofs.Common.{◌≡◌, ◌<◌, suc, ◌+◌, ◌++◌, length, List, [], ◌∷◌, take, sym, ◌∙◌, ap, ap₂, arith}
 use Rattle.f2b_base.specs.declared.jail.JailDef.{JailDef}
-use Rattle.f2b_model.specs.Active.{held_by, held_in}
+use Rattle.f2b_model.specs.Active.{held_by}
 use Rattle.f2b_model.specs.Orders.{Held}
 use Rattle.f2b_model.specs.Steps.{moves_now}
-use Rattle.jail_moves.specs.Rooms.{Contents, jail_in}
+use Rattle.jail_moves.specs.Rooms.{Contents}
 use Rattle.lane_moves.specs.declared.held.JailBans.{JailBans}
 use Rattle.lane_moves.specs.Held.{held_in_jail, held_of}
 use Rattle.jail_rooms.specs.Kept.{jails_in}

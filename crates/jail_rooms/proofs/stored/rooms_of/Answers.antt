@@ -1,6 +1,6 @@
 use Rattle.std.proofs.Common.{◌≡◌, ◌+◌, length, List, ◌++◌, [], ◌∷◌, sym, ◌∙◌, ap, subst, arith, length-append}
 use Rattle.jail_moves.specs.Rooms.{Contents}
-use Rattle.jail_rooms.proofs.StoredLemmas.{AreBack, IsBack, back_jails, back_kept, back_one_more, back_watched, stored_at, stored_length}
+use Rattle.jail_rooms.proofs.StoredLemmas.{AreBack, IsBack, back_jails, back_kept, back_one_more, stored_at, stored_length}
 use Rattle.jail_rooms.proofs.stored.rooms_of.Goals as goal
 
 pub bounds-definitions-index : goal.bounds-definitions-index
@@ -41,7 +41,7 @@ loop-index-preserved c =
     let same = stored_length at c.requires.0 ds vs c.requires.1 in
     let there = c.loop-index-test.true in
     let many = c.loop-index.invariant.0 in
-    let is : IsBack at d v room = record { jail = c.in_ok-of.ensures.jail; kept = c.in_ok-of.ensures.kept; watches = c.in_ok-of.ensures.watches } in
+    let is : IsBack at d v room = record { jail = c.in_ok-of.ensures.jail; kept = c.in_ok-of.ensures.kept } in
     let pushed : c.push.new.self.items ≡ old ++ room ∷ [] = c.in_ok-push.ensures.items in
     let more = length-append old (room ∷ []) in
     let longer : length (old ++ room ∷ []) ≡ i + 1 = omega arith in (
@@ -55,7 +55,7 @@ returns-clause-jails c =
     let same = stored_length c.args.at c.requires.0 c.args.definitions.now c.args.views.now c.requires.1 in
     let many = c.loop-index.invariant.0 in
     let all : length c.loop-index.rooms.items ≡ length c.args.definitions.now = omega (arith, same, many, c.loop-index-test.false, c.loop-index.auto.index-end) in
-    λ well. back_jails c.args.at c.args.definitions.now c.args.views.now c.loop-index.rooms.items all c.loop-index.invariant.1 well
+    back_jails c.args.at c.args.definitions.now c.args.views.now c.loop-index.rooms.items all c.loop-index.invariant.1
 
 pub returns-clause-kept : goal.returns-clause-kept
 returns-clause-kept c =
@@ -63,10 +63,3 @@ returns-clause-kept c =
     let many = c.loop-index.invariant.0 in
     let all : length c.loop-index.rooms.items ≡ length c.args.definitions.now = omega (arith, same, many, c.loop-index-test.false, c.loop-index.auto.index-end) in
     λ next stored. back_kept c.args.at next c.args.definitions.now c.args.views.now c.loop-index.rooms.items all c.loop-index.invariant.1 stored
-
-pub returns-clause-watched : goal.returns-clause-watched
-returns-clause-watched c =
-    let same = stored_length c.args.at c.requires.0 c.args.definitions.now c.args.views.now c.requires.1 in
-    let many = c.loop-index.invariant.0 in
-    let all : length c.loop-index.rooms.items ≡ length c.args.definitions.now = omega (arith, same, many, c.loop-index-test.false, c.loop-index.auto.index-end) in
-    λ watched. back_watched c.args.at c.args.definitions.now c.args.views.now c.loop-index.rooms.items all c.loop-index.invariant.1 watched

@@ -1,4 +1,4 @@
-use Rattle.std.proofs.Common.{◌≡◌, ◌<◌, ◌+◌, ◌++◌, ℕ, length, List, get_or, sym, ◌∙◌, ap, ap₂, subst, arith}
+use Rattle.std.proofs.Common.{◌≡◌, ◌++◌, ℕ, List, sym, ◌∙◌, ap, subst, arith}
 use Rattle.std.proofs.Math.ListN.{set}
 use Rattle.std.proofs.lemmas.List.{append-nil}
 use Rattle.f2b_base.specs.declared.jail.JailDef.{JailDef}
@@ -8,7 +8,7 @@ use Rattle.f2b_model.specs.Moves.{Out}
 use Rattle.f2b_model.specs.Steps.{Outs}
 use Rattle.jail_moves.specs.Rooms.{Contents, jail_in, IsKept}
 use Rattle.jail_rooms.specs.Kept.{jails_in, AreKept}
-use Rattle.jail_rooms.specs.Reading.{banned_each, found_each, read_each, told_each_banned, told_each_found, told_read}
+use Rattle.jail_rooms.specs.Reading.{banned_each, told_each_banned}
 use Rattle.jail_rooms.proofs.EachLemmas.{kept_length}
 use Rattle.jail_rooms.proofs.PlaceLemmas.{at_own_place, in_jail_at, in_jail_none, kept_at, kept_set, told_in_at, told_in_nowhere}
 use Rattle.jail_rooms.proofs.within.ban_in.Goals as goal

@@ -7,4 +7,7 @@ use Rattle.lane_moves.proofs.book.JobBook.void.Goals as goal
 pub invariant_of-self : goal.invariant_of-self
 invariant_of-self c =
     let old = c.self.inside.jobs in
-    rw (← c.check_failed-end.ensures.voided 0) (below_void c.self.inside.next 0 (voided_in (checked_lane c.args.id old) old) old c.self.invariant)
+    record {
+      below = rw (← c.check_failed-end.ensures.voided 0) (below_void c.self.inside.next 0 (voided_in (checked_lane c.args.id old) old) old c.self.invariant.below);
+      few = c.self.invariant.few;
+    }
