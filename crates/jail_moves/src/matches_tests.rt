@@ -1,10 +1,10 @@
 //! Worked rows of the lines that a ban shows, through `matches_of` and the calls of `Room`.
 ghost use Rattle.std.specs.Prelude.{◌≡◌, IfOk};
-ghost use Rattle.jail_moves.specs.Rooms.{IsBounded};
+ghost use Rattle.jail_moves.specs.Rooms.{IsBounded, IsKept, IsStored};
 
 use crate::matches::matches_of;
 use crate::room::Room;
-use f2b_base::{Addr, BanRule, DateSpec, Failure, JailDef, NoMemory, Seq, Text};
+use f2b_base::{Addr, BanRule, DateSpec, Failure, JailDef, JailView, NoMemory, Seq, Text};
 use f2b_model::Happening;
 use std::alloc::Global;
 use std::test::Fail;
@@ -16,7 +16,10 @@ const ADDR: Addr = Addr::V4(0xc000_0207);
 const OTHER: Addr = Addr::V6(0x2001_0db8_0000_0000_0000_0000_0000_0001);
 
 /// A failure with a line.
-fn failure(alloc: Global, addr: Addr, time: u64, line: &str) -> Result<Failure, NoMemory> {
+fn failure(alloc: Global, addr: Addr, time: u64, line: &str) -> Result<Failure, NoMemory>
+    ensures addr { IfOk result (λ failure. failure.addr ≡ addr) }
+    ensures time { IfOk result (λ failure. failure.time ≡ time) }
+{
     Ok(Failure {
         addr,
         time,
@@ -141,19 +144,33 @@ fn lines_told(alloc: Global, told: &[Happening]) -> Result<Text, NoMemory> {
     Ok(lines)
 }
 
-/// What is told of these failures, each with its address, its time and its line, which are all found at 300, and of the ban of an
+/// What a jail tells of these failures, each with its address, its time and its line, which are all found at 300, and of the ban of an
 /// address by command after them.
-fn told_of(alloc: Global, failures: &[(Addr, u64, &str)], banned: Addr) -> Result<Text, NoMemory> {
-    let definition = definition(alloc)?;
+fn told_of(
+    alloc: Global,
+    definition: &JailDef,
+    mut room: Room,
+    failures: &[(Addr, u64, &str)],
+    banned: Addr,
+) -> Result<Text, NoMemory>
+    requires { IsKept 300 0 definition.now room }
+{
     let mut told = Seq::new(alloc);
-    let mut room = Room::fresh(alloc, &definition)?;
     let mut serial = 0;
     for &(addr, time, line) in failures {
         let failure = failure(alloc, addr, time, line)?;
-        serial = room.found(&definition, &mut told, 300, 7, serial, &failure)?;
+        serial = room.found(definition, &mut told, 300, 7, serial, &failure)?;
     }
-    room.ban(&definition, &mut told, 300, 7, serial, banned)?;
+    room.ban(definition, &mut told, 300, 7, serial, banned)?;
     lines_told(alloc, told.as_slice())
+}
+
+/// The jail before its first failure.
+fn fresh(alloc: Global, definition: &JailDef) -> Result<Room, NoMemory>
+    requires { IsBounded definition.now }
+    ensures { IfOk result (IsKept 300 0 definition.now) }
+{
+    Room::fresh(alloc, definition)
 }
 
 #[test]
@@ -165,7 +182,51 @@ fn a_ban_shows_the_lines_that_led_to_it(rt: HostRuntime) -> Result<(), Fail> {
         (OTHER, 200, "another"),
         (ADDR, 200, "b"),
     ];
-    let lines = told_of(rt.alloc(), &failures, OTHER)?;
+    let definition = definition(rt.alloc())?;
+    let room = fresh(rt.alloc(), &definition)?;
+    let lines = told_of(rt.alloc(), &definition, room, &failures, OTHER)?;
+    assert_eq!(rt; lines.as_str(), "a / b / c\n\n");
+    Ok(())
+}
+
+/// The jail as it was stored at 300: one address has failures, and another has too many.
+fn stored(alloc: Global) -> Result<JailView, NoMemory>
+    ensures { IfOk result (IsStored 300 0) }
+{
+    let mut failures = Seq::new(alloc);
+    failures.push(failure(alloc, ADDR, 100, "a")?)?;
+    failures.push(failure(alloc, ADDR, 200, "b")?)?;
+    failures.push(failure(alloc, OTHER, 100, "other")?)?;
+    failures.push(failure(alloc, OTHER, 200, "another")?)?;
+    failures.push(failure(alloc, OTHER, 300, "a third")?)?;
+    Ok(JailView {
+        name: Text::from_str(alloc, "sshd")?,
+        idle: false,
+        total_failed: 5,
+        total_banned: 0,
+        moment: 300,
+        failures,
+        bans: Seq::new(alloc),
+        past: Seq::new(alloc),
+        watches: Seq::new(alloc),
+    })
+}
+
+/// The jail that is taken up from what was stored.
+fn taken_up(alloc: Global, definition: &JailDef) -> Result<Room, NoMemory>
+    requires { IsBounded definition.now }
+    ensures { IfOk result (IsKept 300 0 definition.now) }
+{
+    let view = stored(alloc)?;
+    Room::of(alloc, definition, &view, 300)
+}
+
+#[test]
+fn a_ban_shows_lines_that_were_stored(rt: HostRuntime) -> Result<(), Fail> {
+    let failures = [(OTHER, 300, "one more"), (ADDR, 300, "c")];
+    let definition = definition(rt.alloc())?;
+    let room = taken_up(rt.alloc(), &definition)?;
+    let lines = told_of(rt.alloc(), &definition, room, &failures, OTHER)?;
     assert_eq!(rt; lines.as_str(), "a / b / c\n\n");
     Ok(())
 }

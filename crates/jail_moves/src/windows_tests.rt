@@ -12,16 +12,24 @@ const SECOND: Addr = Addr::V4(0xc000_0208);
 
 const THIRD: Addr = Addr::V6(0xc000_0207);
 
-/// A failure of an address.
-fn failure(alloc: Global, addr: Addr, time: u64) -> Result<Failure, NoMemory>
+/// A failure of an address, with a line.
+fn lined(alloc: Global, addr: Addr, time: u64, line: &str) -> Result<Failure, NoMemory>
     ensures addr { IfOk result (λ failure. failure.addr ≡ addr) }
     ensures time { IfOk result (λ failure. failure.time ≡ time) }
 {
     Ok(Failure {
         addr,
         time,
-        line: Text::from_str(alloc, "")?,
+        line: Text::from_str(alloc, line)?,
     })
+}
+
+/// A failure of an address.
+fn failure(alloc: Global, addr: Addr, time: u64) -> Result<Failure, NoMemory>
+    ensures addr { IfOk result (λ failure. failure.addr ≡ addr) }
+    ensures time { IfOk result (λ failure. failure.time ≡ time) }
+{
+    lined(alloc, addr, time, "")
 }
 
 /// The places at which an address was full, each with the number of its failures that were near.
@@ -142,5 +150,44 @@ fn kept_of_two(alloc: Global, maxretry: u32) -> Result<usize, NoMemory>
 fn a_full_window_is_left_out(rt: HostRuntime) -> Result<(), Fail> {
     assert_eq!(rt; kept_of_two(rt.alloc(), 3)?, 2);
     assert_eq!(rt; kept_of_two(rt.alloc(), 2)?, 0);
+    Ok(())
+}
+
+/// The lines of those failures that are kept of a stored list. In it the first address and the third have two failures within ten
+/// minutes, and the second has not.
+fn kept_of_three(alloc: Global, maxretry: u32, moment: u64) -> Result<Text, NoMemory>
+    requires { 1 ≤ maxretry }
+{
+    let failures = [
+        lined(alloc, FIRST, 100, "a")?,
+        lined(alloc, FIRST, 300, "b")?,
+        lined(alloc, FIRST, 1000, "c")?,
+        lined(alloc, SECOND, 200, "d")?,
+        lined(alloc, SECOND, 900, "e")?,
+        lined(alloc, THIRD, 500, "f")?,
+        lined(alloc, THIRD, 600, "g")?,
+    ];
+    let windows = Windows::of(alloc, 600, maxretry, moment, &failures)?;
+    let mut lines = Text::new(alloc);
+    for failure in windows.failures(0)?.as_slice() {
+        lines.push_str(failure.line.as_str())?;
+    }
+    Ok(lines)
+}
+
+#[test]
+fn what_fills_no_address_is_taken_up(rt: HostRuntime) -> Result<(), Fail> {
+    let rows = [
+        (3, 1000, "abcdefg"),
+        (2, 1000, "de"),
+        (2, 899, "d"),
+        (2, 1300, "bcde"),
+        (2, 1700, "ceg"),
+        (1, 1000, ""),
+    ];
+    for (maxretry, moment, expected) in rows {
+        let lines = kept_of_three(rt.alloc(), maxretry, moment)?;
+        assert_eq!(rt; lines.as_str(), expected, "{maxretry} at {moment}");
+    }
     Ok(())
 }
