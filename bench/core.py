@@ -9,9 +9,11 @@ import sys
 
 DAYS = [
     ("busy", "250 a second: many bans"),
+    ("lines", "the same, and bans show lines"),
     ("failures", "40 a second: few bans"),
     ("bans", "55 a second, each a ban"),
     ("fewer", "11 a second, each a ban"),
+    ("once", "a million addresses, once each"),
 ]
 
 
@@ -41,16 +43,19 @@ def main(program):
     days = {day: run(program, day, cpu) for day, _ in DAYS}
     print(f"one of {os.cpu_count()} cores; with no inputs {base['peak'] / 1024:.1f} MiB")
     print(
-        f"{'':24} {'inputs':>9} {'CPU s':>6} {'inputs/s':>9} {'counted':>8} {'begun':>8}"
+        f"{'':30} {'inputs':>9} {'CPU s':>6} {'inputs/s':>9} {'counted':>8} {'begun':>8}"
         f" {'active':>7} {'open':>7} {'peak MiB':>9}"
     )
     for day, name in DAYS:
         each = days[day]
         seconds = each["microseconds"] / 1e6
         print(
-            f"{name:24} {each['inputs']:9,} {seconds:6.2f} {each['inputs'] / seconds:9,.0f} {each['counted']:8,}"
+            f"{name:30} {each['inputs']:9,} {seconds:6.2f} {each['inputs'] / seconds:9,.0f} {each['counted']:8,}"
             f" {each['begun']:8,} {each['active']:7,} {each['open']:7,} {each['peak'] / 1024:9.1f}"
         )
+    times = days["lines"]["microseconds"] / days["busy"]["microseconds"]
+    print(f"with lines {times:.2f} times the time of the same day without")
+    print(f"about {each_takes(base, days['once'], 'open'):.0f} bytes for each address that failed once, with an empty line")
     print(f"about {each_takes(base, days['failures'], 'open'):.0f} bytes for each open failure, with the window of its address")
     print(f"about {each_takes(days['fewer'], days['bans'], 'active'):.0f} bytes for each active ban")
 

@@ -39,7 +39,14 @@ const HEAD: &str = "Mar  2 00:00:00 host sshd[1]: Server listening on 0.0.0.0 po
 
 const BAN: &str = "nft add element inet f2b-table addr-set-<name> { <ip> }";
 
+/// The same, with the lines of the failures that led to the ban.
+const SHOW: &str = "nft add element inet f2b-table addr-set-<name> { <ip> comment '<matches>' }";
+
 const UNBAN: &str = "nft delete element inet f2b-table addr-set-<name> { <ip> }";
+
+/// A line of 110 bytes.
+const LINE: &str =
+    "Mar  2 00:00:00 host sshd[811]: Failed password for invalid user administrator from 198.18.0.1 port 40222 ssh2";
 
 /// What a day is like.
 #[derive(Clone, Copy)]
@@ -49,6 +56,27 @@ struct Day {
     pace: u64,
     maxretry: u64,
     purge: u64,
+    /// Whether failures have lines, which the command that bans shows.
+    shows: bool,
+    /// Whether each failure is of another address.
+    apart: bool,
+}
+
+/// A day of this pace, whose jail bans after so many failures and counts bans that are over for so long.
+fn plain_day(pace: u64, maxretry: u64, purge: u64) -> Day
+    requires least { 1 ≤ maxretry }
+    requires most { maxretry < 2 ^ 32 }
+    ensures least { 1 ≤ result.maxretry }
+    ensures most { result.maxretry < 2 ^ 32 }
+{
+    Day {
+        inputs: 1_000_000,
+        pace,
+        maxretry,
+        purge,
+        shows: false,
+        apart: false,
+    }
 }
 
 /// What the inputs of a day did.
@@ -64,35 +92,21 @@ fn day_of(name: &str) -> Day
     ensures most { result.maxretry < 2 ^ 32 }
 {
     match name {
-        "busy" => Day {
-            inputs: 1_000_000,
-            pace: 250,
-            maxretry: 5,
-            purge: 86_400,
+        "busy" => plain_day(250, 5, 86_400),
+        "lines" => Day {
+            shows: true,
+            ..plain_day(250, 5, 86_400)
         },
-        "failures" => Day {
-            inputs: 1_000_000,
-            pace: 40,
-            maxretry: 5,
-            purge: 86_400,
-        },
-        "bans" => Day {
-            inputs: 1_000_000,
-            pace: 55,
-            maxretry: 1,
-            purge: 0,
-        },
-        "fewer" => Day {
-            inputs: 1_000_000,
-            pace: 11,
-            maxretry: 1,
-            purge: 0,
+        "failures" => plain_day(40, 5, 86_400),
+        "bans" => plain_day(55, 1, 0),
+        "fewer" => plain_day(11, 1, 0),
+        "once" => Day {
+            apart: true,
+            ..plain_day(10_000, 5, 86_400)
         },
         _ => Day {
             inputs: 0,
-            pace: 1,
-            maxretry: 5,
-            purge: 86_400,
+            ..plain_day(1, 5, 86_400)
         },
     }
 }
@@ -108,7 +122,7 @@ fn watches(alloc: Global) -> Result<Seq<WatchDef>, NoMemory>
     Ok(watches)
 }
 
-fn actions(alloc: Global) -> Result<Seq<ActionDef>, NoMemory>
+fn actions(alloc: Global, ban: &str) -> Result<Seq<ActionDef>, NoMemory>
     ensures { IfOk result (λ actions. AreDistinct same_kind actions) }
 {
     let mut actions = Seq::new(alloc);
@@ -117,7 +131,7 @@ fn actions(alloc: Global) -> Result<Seq<ActionDef>, NoMemory>
         family: Family::Both,
         start: Text::new(alloc),
         stop: Text::new(alloc),
-        ban: Text::from_str(alloc, BAN)?,
+        ban: Text::from_str(alloc, ban)?,
         unban: Text::from_str(alloc, UNBAN)?,
         check: Text::new(alloc),
         timeout: 60,
@@ -126,15 +140,15 @@ fn actions(alloc: Global) -> Result<Seq<ActionDef>, NoMemory>
 }
 
 /// A jail whose bans last ten minutes, after so many failures within ten minutes.
-fn jail(alloc: Global, maxretry: u64) -> Result<JailDef, NoMemory>
-    requires least { 1 ≤ maxretry }
-    requires most { maxretry < 2 ^ 32 }
+fn jail(alloc: Global, day: &Day) -> Result<JailDef, NoMemory>
+    requires least { 1 ≤ day.now.maxretry }
+    requires most { day.now.maxretry < 2 ^ 32 }
     ensures bounded { IfOk result IsBounded }
     ensures paths { IfOk result (λ jail. AreDistinct bytes_eq (map (λ (w : WatchDef). w.path) jail.watches)) }
     ensures actions { IfOk result (λ jail. AreDistinct same_kind jail.actions) }
 {
     let watches = watches(alloc)?;
-    let actions = actions(alloc)?;
+    let actions = actions(alloc, if day.shows { SHOW } else { BAN })?;
     Ok(JailDef {
         name: Text::from_str(alloc, JAIL)?,
         watches,
@@ -145,8 +159,8 @@ fn jail(alloc: Global, maxretry: u64) -> Result<JailDef, NoMemory>
         ignore_lines: Seq::new(alloc),
         ignore: Seq::new(alloc),
         findtime: 600,
-        maxretry,
-        maxmatches: 0,
+        maxretry: day.maxretry,
+        maxmatches: 5,
         rule: BanRule {
             base: 600,
             increment: false,
@@ -166,7 +180,7 @@ fn configuration(alloc: Global, day: &Day) -> Result<Input, NoMemory>
     ensures { IfOk result IsTaken }
 {
     let mut jails = Seq::new(alloc);
-    jails.push(jail(alloc, day.maxretry)?)?;
+    jails.push(jail(alloc, day)?)?;
     Ok(Input {
         secs: BEGIN,
         word: 0,
@@ -205,8 +219,14 @@ fn done(secs: u64, job: u64) -> Input
     }
 }
 
-/// A reading at which one failure of an address was found.
-fn reading(alloc: Global, secs: u64, position: u64, addr: Addr) -> Result<Input, NoMemory>
+/// A reading at which one failure of an address was found, with this line.
+fn reading(
+    alloc: Global,
+    secs: u64,
+    position: u64,
+    addr: Addr,
+    line: &str,
+) -> Result<Input, NoMemory>
     requires { secs ≤ last_moment }
     ensures { IfOk result IsTaken }
 {
@@ -214,7 +234,7 @@ fn reading(alloc: Global, secs: u64, position: u64, addr: Addr) -> Result<Input,
     found.push(Failure {
         addr,
         time: secs,
-        line: Text::new(alloc),
+        line: Text::from_str(alloc, line)?,
     })?;
     Ok(Input {
         secs,
@@ -256,23 +276,43 @@ fn address(number: u64) -> Addr {
     Addr::V4(0xc612_0000 + place as u32)
 }
 
+/// An address of the network 10.0.0.0/8, another one for each of its steps.
+fn own_address(step: u64) -> Addr {
+    let place = step.wrapping_mul(0x9e37_79b1) % (1 << 24);
+    Addr::V4(0x0a00_0000 + place as u32)
+}
+
+/// The next failure.
+fn failing(alloc: Global, day: &Day, secs: u64, step: u64, number: u64) -> Result<Input, NoMemory>
+    requires { secs ≤ last_moment }
+    ensures { IfOk result IsTaken }
+{
+    let addr = if day.apart {
+        own_address(step)
+    } else {
+        address(number)
+    };
+    let line = if day.shows { LINE } else { "" };
+    reading(alloc, secs, step, addr, line)
+}
+
 /// What happens next: bans end, or a job does, or else a failure is found.
 fn next_input(
     alloc: Global,
     core: &Core,
-    secs: u64,
+    day: &Day,
     step: u64,
     number: u64,
 ) -> Result<Input, NoMemory>
-    requires { secs ≤ last_moment }
     ensures { IfOk result IsTaken }
 {
+    let secs = moment(step, day.pace);
     if core.ban_due(secs) {
         return Ok(tick(secs));
     }
     match core.lanes().next_due(secs, &[]) {
         Some(job) => Ok(done(secs, job.id)),
-        None => reading(alloc, secs, step, address(number)),
+        None => failing(alloc, day, secs, step, number),
     }
 }
 
@@ -298,12 +338,11 @@ fn pass(alloc: Global, begin: Core, day: &Day, tally: &mut Tally) -> Result<Core
     let mut core = begin;
     let mut number: u64 = 1;
     for step in 0..day.inputs {
-        let secs = moment(step, day.pace);
         number = next_number(number);
-        let input = next_input(alloc, &core, secs, step, number)?;
+        let input = next_input(alloc, &core, day, step, number)?;
         let (next, told) = core.take(&input)?;
         core = next;
-        count(tally, &told);
+        count(tally, &told.jails);
     }
     Ok(core)
 }

@@ -2,3 +2,4 @@ pub mod AgainLemmas
 pub mod ConfigLemmas
 pub mod CoreLemmas
 pub mod StoredLemmas
+pub mod TakenLemmas

@@ -1,64 +1,120 @@
-//! The histories of docs/model.md, through the calls of `Core`.
-ghost use Rattle.std.specs.Prelude.{◌≡◌, ◌∷◌, [], map, bytes_eq, IfOk};
-ghost use Rattle.f2b_base.specs.declared.jail.WatchDef.{WatchDef};
-ghost use Rattle.f2b_base.specs.declared.view.WatchView.{WatchView};
+//! What no clause says: the histories of docs/model.md with their texts, what is told of lanes and lines, and whole runs. All that a
+//! test lets happen can be stored, so that a core which is made of a view goes on.
+ghost use Rattle.std.specs.Prelude.{◌≡◌, ◌≤◌, length, IfOk};
+ghost use Rattle.std.specs.Str.{IsUtf8};
+ghost use Rattle.f2b_base.specs.Addresses.{IsAddr};
+ghost use Rattle.f2b_base.specs.Limits.{kept_line_bytes};
 ghost use Rattle.f2b_model.specs.Lists.{AllOf, AreDistinct};
-ghost use Rattle.f2b_model.specs.Sound.{AreFitDefs, IsFitWhat, same_kind};
-ghost use Rattle.jail_moves.specs.Rooms.{IsBounded, IsStored};
-ghost use Rattle.jail_rooms.specs.Kept.{IsBoundedWhat};
-ghost use Rattle.jail_rooms.specs.Stored.{IsBoundedView};
-ghost use Rattle.lane_moves.specs.Held.{AreById};
+ghost use Rattle.f2b_model.specs.Sound.{same_kind};
+ghost use Rattle.f2b_model.specs.Storable.{patterns_of, IsJailName, IsStorable, IsStorableAction, IsStorableDef, IsStorableInput, IsStorableRule, IsStorableWhat};
+ghost use Rattle.jail_rooms.specs.Kept.{IsTaken};
+
+mod checks;
+mod histories;
+mod inputs;
+mod lines;
+mod runs;
+mod views;
 
 use crate::Core;
 use f2b_base::{
-    ActionDef, Addr, Ban, BanRule, DEFAULT_PURGE, DateSpec, Defs, Failure, Family, Input, JailDef,
-    JailView, Job, JobKind, LaneId, NoMemory, Outcome, Past, Place, Plain, Seq, Text, Until,
-    UpLane, View, WatchDef, WatchView, What,
+    ActionDef, Addr, BanRule, DEFAULT_PURGE, DateSpec, Defs, Failure, Family, Input, JailDef,
+    NoMemory, Outcome, Place, Seq, Text, WatchDef, What,
 };
-use f2b_model::Happening;
+use f2b_model::{Happening, LaneHappening, Told};
 use std::alloc::Global;
-use std::test::Fail;
 
 /// 192.0.2.7.
 const ADDR: Addr = Addr::V4(0xc000_0207);
 
-/// 2001:db8::1.
-const OTHER: Addr = Addr::V6(0x2001_0db8_0000_0000_0000_0000_0000_0001);
+/// 192.0.2.8.
+const NEXT: Addr = Addr::V4(0xc000_0208);
+
+const JAIL: &str = "sshd";
 
 const PATH: &str = "/var/log/auth.log";
 
-/// One action for both families, with this command that bans.
-fn action(alloc: Global, ban: &str) -> Result<Seq<ActionDef>, NoMemory>
-    ensures { IfOk result (AreDistinct same_kind) }
+/// The command that bans, where a test asks for no other.
+const ADD: &str = "add <ip>";
+
+/// A text of its own.
+fn text(alloc: Global, words: &str) -> Result<Text, NoMemory>
+    ensures value { IfOk result (λ text. text ≡ words.now) }
+    ensures utf8 { IfOk result IsUtf8 }
 {
-    let mut actions = Seq::new(alloc);
-    actions.push(ActionDef {
-        name: Text::from_str(alloc, "fw")?,
-        family: Family::Both,
-        start: Text::from_str(alloc, "up")?,
-        stop: Text::from_str(alloc, "down")?,
-        ban: Text::from_str(alloc, ban)?,
-        unban: Text::from_str(alloc, "del <ip>")?,
-        check: Text::new(alloc),
-        timeout: 60,
-    })?;
-    Ok(actions)
+    let text = Text::from_str(alloc, words)?;
+    let _words = text.as_str();
+    Ok(text)
 }
 
-/// A jail that bans for ten minutes after three failures within ten minutes.
-fn definition(alloc: Global, path: &str, actions: Seq<ActionDef>) -> Result<JailDef, NoMemory>
-    ensures bounded { IfOk result IsBounded }
-    ensures path { IfOk result (λ d. map (λ (w : WatchDef). w.path) d.watches ≡ path.now ∷ []) }
-    ensures paths { IfOk result (λ d. AreDistinct bytes_eq (map (λ (w : WatchDef). w.path) d.watches)) }
-    ensures actions { IfOk result (λ d. d.actions ≡ actions) }
+/// The name of the jail.
+fn jail(alloc: Global) -> Result<Text, NoMemory>
+    ensures { IfOk result IsJailName }
+{
+    Text::from_str(alloc, JAIL)
+}
+
+/// An action whose lanes start by `up`, stop by `down` and unban by `del <ip>`.
+fn action(alloc: Global, family: Family, ban: &str, check: &str) -> Result<ActionDef, NoMemory>
+    ensures storable { IfOk result IsStorableAction }
+    ensures family { IfOk result (λ action. action.family ≡ family) }
+{
+    Ok(ActionDef {
+        name: text(alloc, "fw")?,
+        family,
+        start: text(alloc, "up")?,
+        stop: text(alloc, "down")?,
+        ban: text(alloc, ban)?,
+        unban: text(alloc, "del <ip>")?,
+        check: text(alloc, check)?,
+        timeout: 60,
+    })
+}
+
+/// A log that is followed from its end.
+fn log(alloc: Global) -> Result<WatchDef, NoMemory>
+    ensures { IfOk result (λ log. IsUtf8 log.path) }
+{
+    Ok(WatchDef {
+        path: text(alloc, PATH)?,
+        tail: true,
+    })
+}
+
+/// Ten minutes for each ban.
+fn rule(alloc: Global) -> BanRule
+    ensures { IsStorableRule result }
+{
+    BanRule {
+        base: 600,
+        increment: false,
+        factor: 1000,
+        multipliers: Seq::new(alloc),
+        maxtime: 5000,
+        rndtime: 0,
+    }
+}
+
+/// A jail that bans after three failures within ten minutes, and shows so many lines.
+fn definition(
+    alloc: Global,
+    name: Text,
+    actions: Seq<ActionDef>,
+    maxmatches: u64,
+) -> Result<JailDef, NoMemory>
+    requires name { IsJailName name }
+    requires storable { AllOf IsStorableAction actions }
+    requires kinds { AreDistinct same_kind actions }
+    requires few { length actions ≤ 32 }
+    requires matches { maxmatches ≤ 1000 }
+    ensures storable { IfOk result IsStorableDef }
+    ensures name { IfOk result (λ d. d.name ≡ name) }
+    ensures patterns { IfOk result (λ d. patterns_of d ≡ 0) }
 {
     let mut watches = Seq::new(alloc);
-    watches.push(WatchDef {
-        path: Text::from_str(alloc, path)?,
-        tail: true,
-    })?;
+    watches.push(log(alloc)?)?;
     Ok(JailDef {
-        name: Text::from_str(alloc, "sshd")?,
+        name,
         watches,
         zone: 0,
         date: DateSpec::Default,
@@ -68,116 +124,146 @@ fn definition(alloc: Global, path: &str, actions: Seq<ActionDef>) -> Result<Jail
         ignore: Seq::new(alloc),
         findtime: 600,
         maxretry: 3,
-        maxmatches: 0,
-        rule: BanRule {
-            base: 600,
-            increment: false,
-            factor: 1000,
-            multipliers: Seq::new(alloc),
-            maxtime: 5000,
-            rndtime: 0,
-        },
+        maxmatches,
+        rule: rule(alloc),
         actions,
     })
 }
 
-/// A configuration of that jail alone.
-fn defs_of(alloc: Global, actions: Seq<ActionDef>) -> Result<Defs, NoMemory>
-    requires { AreDistinct same_kind actions }
-    ensures fit { IfOk result AreFitDefs }
-    ensures bounded { IfOk result (λ defs. AllOf IsBounded defs.jails) }
+/// A configuration of one jail is taken.
+fn configuration_of(alloc: Global, definition: JailDef) -> Result<What, NoMemory>
+    requires storable { IsStorableDef definition }
+    requires patterns { patterns_of definition ≡ 0 }
+    ensures { IfOk result IsStorableWhat }
 {
     let mut jails = Seq::new(alloc);
-    jails.push(definition(alloc, PATH, actions)?)?;
-    Ok(Defs {
-        purge: DEFAULT_PURGE,
-        jails,
-    })
-}
-
-/// One jail with an action is taken, with this command that bans.
-fn configuration(alloc: Global, ban: &str) -> Result<What, NoMemory>
-    ensures fit { IfOk result IsFitWhat }
-    ensures bounded { IfOk result IsBoundedWhat }
-{
+    jails.push(definition)?;
     Ok(What::Config {
-        defs: defs_of(alloc, action(alloc, ban)?)?,
+        defs: Defs {
+            purge: DEFAULT_PURGE,
+            jails,
+        },
     })
 }
 
-/// One jail without actions is taken.
-fn no_actions(alloc: Global) -> Result<What, NoMemory>
-    ensures fit { IfOk result IsFitWhat }
-    ensures bounded { IfOk result IsBoundedWhat }
+/// A configuration of one jail is taken, which has one action for both families, with this command that bans and this check, and
+/// shows so many lines.
+fn configuration(alloc: Global, ban: &str, check: &str, maxmatches: u64) -> Result<What, NoMemory>
+    requires { maxmatches ≤ 1000 }
+    ensures { IfOk result IsStorableWhat }
 {
-    Ok(What::Config {
-        defs: defs_of(alloc, Seq::new(alloc))?,
-    })
+    let mut actions = Seq::new(alloc);
+    actions.push(action(alloc, Family::Both, ban, check)?)?;
+    let definition = definition(alloc, jail(alloc)?, actions, maxmatches)?;
+    configuration_of(alloc, definition)
 }
 
-/// A log was read, in which failures of the address with these times were found; where there are none, time passed.
-fn reading(alloc: Global, times: &[u64]) -> Result<What, NoMemory>
-    ensures fit { IfOk result IsFitWhat }
-    ensures bounded { IfOk result IsBoundedWhat }
+/// The log was read, in which a failure of the address with this line was found.
+fn reading(alloc: Global, addr: Addr, time: u32, line: &str) -> Result<What, NoMemory>
+    requires addr { IsAddr addr }
+    requires line { length line.now ≤ kept_line_bytes }
+    ensures { IfOk result IsStorableWhat }
 {
-    if times.is_empty() {
-        return Ok(What::Tick);
-    }
     let mut found = Seq::new(alloc);
-    for &time in times {
-        found.push(Failure {
-            addr: ADDR,
-            time,
-            line: Text::new(alloc),
-        })?;
-    }
+    found.push(Failure {
+        addr,
+        time: u64::from(time),
+        line: text(alloc, line)?,
+    })?;
     Ok(What::Read {
-        jail: Text::from_str(alloc, "sshd")?,
-        path: Text::from_str(alloc, PATH)?,
+        jail: jail(alloc)?,
+        path: text(alloc, PATH)?,
         place: Place::Tail,
         found,
     })
 }
 
-/// The address is banned by command.
-fn banning(alloc: Global) -> Result<What, NoMemory>
-    ensures fit { IfOk result IsFitWhat }
-    ensures bounded { IfOk result IsBoundedWhat }
+/// An address is banned by command.
+fn banning(alloc: Global, addr: Addr) -> Result<What, NoMemory>
+    requires { IsAddr addr }
+    ensures { IfOk result IsStorableWhat }
 {
     let mut addrs = Seq::new(alloc);
-    addrs.push(ADDR)?;
+    addrs.push(addr)?;
     Ok(What::Ban {
-        jail: Text::from_str(alloc, "sshd")?,
+        jail: jail(alloc)?,
         addrs,
     })
 }
 
-/// A job ended with status 0.
-fn done(job: u64) -> What
-    ensures fit { IsFitWhat result }
-    ensures bounded { IsBoundedWhat result }
+/// A try of a job ended with a status.
+fn ended(job: u32, status: i32) -> What
+    ensures { IsStorableWhat result }
 {
     What::Ended {
-        job,
-        outcome: Outcome::Status(0),
+        job: u64::from(job),
+        outcome: Outcome::Status(i64::from(status)),
     }
 }
 
-/// An input is taken: the state after it, and what was told.
-fn step(core: Core, secs: u32, what: What) -> Result<(Core, Seq<Happening>), NoMemory>
-    requires fit { IsFitWhat what }
-    requires bounded { IsBoundedWhat what }
+/// The check of a job ended with status 1.
+fn check_failed(job: u32) -> What
+    ensures { IsStorableWhat result }
 {
-    let input = Input {
+    What::CheckFailed {
+        job: u64::from(job),
+        outcome: Outcome::Status(1),
+    }
+}
+
+/// What happened, and when.
+#[tactic(auto, using(crate::proofs::TakenLemmas::storable_taken))]
+fn input(secs: u32, what: What) -> Input
+    requires { IsStorableWhat what }
+    ensures taken { IsTaken result }
+    ensures storable { IsStorableInput result }
+{
+    Input {
         secs: u64::from(secs),
         word: 0,
         what,
-    };
-    core.take(&input)
+    }
 }
 
-/// A thing that was told, in a line: of a ban its beginning, its end, how many were before and how many failures led to it.
-fn line(alloc: Global, happening: &Happening) -> Result<String, NoMemory> {
+/// The state after something happened, and what was told.
+fn step(core: Core, secs: u32, what: What) -> Result<(Core, Told), NoMemory>
+    requires { IsStorableWhat what }
+    ensures { IsStorable core → IfOk result (λ r. IsStorable r.0) }
+{
+    core.take(&input(secs, what))
+}
+
+/// The jail has its action, with this check, the address is banned, and all jobs are done.
+fn banned(alloc: Global, check: &str) -> Result<Core, NoMemory>
+    ensures { IfOk result IsStorable }
+{
+    let (core, _) = step(
+        Core::empty(alloc),
+        1000,
+        configuration(alloc, ADD, check, 0)?,
+    )?;
+    let (core, _) = step(core, 1000, ended(0, 0))?;
+    let (core, _) = step(core, 1001, banning(alloc, ADDR)?)?;
+    let (core, _) = step(core, 1001, ended(1, 0))?;
+    Ok(core)
+}
+
+/// The jobs that are not settled, one a line: id, kind and command.
+fn jobs(alloc: Global, core: &Core) -> Result<String, NoMemory> {
+    let jobs = core.lanes().jobs(alloc)?;
+    let mut out = String::new(alloc);
+    for job in jobs.as_slice() {
+        let id = job.id;
+        let kind = job.kind;
+        let text = job.text.as_str();
+        let line = format!(in alloc; "{id} {kind:?} {text}\n")?;
+        out.push_str(line.as_str())?;
+    }
+    Ok(out)
+}
+
+/// A thing that a jail told, as a line: of a ban its beginning, its end, how many were before and how many failures led to it.
+fn jail_line(alloc: Global, happening: &Happening) -> Result<String, NoMemory> {
     let (word, ban) = match happening {
         Happening::Counts { .. } => return Ok(String::from_str(alloc, "counts\n")?),
         Happening::Begins { ban, .. } => ("begins", *ban),
@@ -190,285 +276,32 @@ fn line(alloc: Global, happening: &Happening) -> Result<String, NoMemory> {
     Ok(format!(in alloc; "{word} {begin} {until:?} {count} {failures}\n")?)
 }
 
-/// What was told, one a line.
-fn lines(alloc: Global, told: &Seq<Happening>) -> Result<String, NoMemory> {
+/// What was told of the jails, one thing a line.
+fn jail_lines(alloc: Global, told: &Told) -> Result<String, NoMemory> {
     let mut out = String::new(alloc);
-    for happening in told.as_slice() {
-        let line = line(alloc, happening)?;
+    for happening in told.jails.as_slice() {
+        let line = jail_line(alloc, happening)?;
         out.push_str(line.as_str())?;
     }
     Ok(out)
 }
 
-/// The state after these readings, each with the times of the failures that were found, and what they told.
-fn after_readings(alloc: Global, readings: &[(u32, &[u64])]) -> Result<(Core, String), NoMemory> {
-    let (mut core, _) = step(Core::empty(alloc), 1000, no_actions(alloc)?)?;
+/// What was told of the lanes, one thing a line: the kind of a job whose try failed and how, a check and how it failed, and a lane that
+/// starts anew.
+fn lane_lines(alloc: Global, told: &Told) -> Result<String, NoMemory> {
     let mut out = String::new(alloc);
-    for (secs, times) in readings {
-        let (next, told) = step(core, *secs, reading(alloc, times)?)?;
-        core = next;
-        let lines = lines(alloc, &told)?;
-        out.push_str(lines.as_str())?;
-    }
-    Ok((core, out))
-}
-
-/// The jobs that are not settled, one a line: id and command.
-fn jobs(alloc: Global, core: &Core) -> Result<String, NoMemory> {
-    let jobs = core.lanes().jobs(alloc)?;
-    let mut out = String::new(alloc);
-    for job in jobs.as_slice() {
-        let id = job.id;
-        let text = job.text.as_str();
-        let line = format!(in alloc; "{id} {text}\n")?;
+    for happening in told.lanes.as_slice() {
+        let line = match happening {
+            LaneHappening::TryFails {
+                kind,
+                outcome,
+                last,
+                ..
+            } => format!(in alloc; "{kind:?} {outcome:?} last {last}\n")?,
+            LaneHappening::CheckFails { outcome, .. } => format!(in alloc; "check {outcome:?}\n")?,
+            LaneHappening::Restarts { .. } => String::from_str(alloc, "anew\n")?,
+        };
         out.push_str(line.as_str())?;
     }
     Ok(out)
-}
-
-/// The state after an input, and its jobs.
-fn jobs_after(core: Core, alloc: Global, secs: u32, what: What) -> Result<(Core, String), NoMemory>
-    requires fit { IsFitWhat what }
-    requires bounded { IsBoundedWhat what }
-{
-    let (core, _) = step(core, secs, what)?;
-    let jobs = jobs(alloc, &core)?;
-    Ok((core, jobs))
-}
-
-/// The jail has its action, the address is banned, and all jobs are done.
-fn banned(alloc: Global) -> Result<Core, NoMemory> {
-    let (core, _) = step(Core::empty(alloc), 1000, configuration(alloc, "add <ip>")?)?;
-    let (core, _) = step(core, 1000, done(0))?;
-    let (core, _) = step(core, 1001, banning(alloc)?)?;
-    let (core, _) = step(core, 1001, done(1))?;
-    Ok(core)
-}
-
-/// The lane that is up.
-fn stored_up(alloc: Global) -> Result<Seq<UpLane>, NoMemory> {
-    let mut up = Seq::new(alloc);
-    for action in action(alloc, "add <ip>")?.as_slice() {
-        up.push(UpLane {
-            jail: Text::from_str(alloc, "sshd")?,
-            action: action.copy()?,
-        })?;
-    }
-    Ok(up)
-}
-
-/// The job that waits after a failed try.
-fn stored_jobs(alloc: Global) -> Result<Seq<Job>, NoMemory>
-    ensures { IfOk result (λ jobs. AreById 0 jobs 2) }
-{
-    let mut jobs = Seq::new(alloc);
-    jobs.push(Job {
-        id: 1,
-        lane: LaneId {
-            jail: Text::from_str(alloc, "sshd")?,
-            action: Text::from_str(alloc, "fw")?,
-            family: Family::Both,
-        },
-        kind: JobKind::Ban,
-        addr: Some(ADDR),
-        text: Text::from_str(alloc, "add 192.0.2.7")?,
-        timeout: 60,
-        tries: 1,
-        due: 1004,
-    })?;
-    Ok(jobs)
-}
-
-/// What is stored of the jail: a failure, a ban and one that is over.
-fn stored_jail(alloc: Global, path: &str) -> Result<JailView, NoMemory>
-    ensures stored { IfOk result (IsStored 1002 8) }
-    ensures path { IfOk result (λ v. map (λ (w : WatchView). w.path) v.watches ≡ path.now ∷ []) }
-{
-    let mut failures = Seq::new(alloc);
-    failures.push(Failure {
-        addr: OTHER,
-        time: 950,
-        line: Text::new(alloc),
-    })?;
-    let mut bans = Seq::new(alloc);
-    bans.push(Ban {
-        serial: 7,
-        addr: ADDR,
-        begin: 1001,
-        until: Until::At(1601),
-        count: 0,
-        failures: 0,
-    })?;
-    let mut past = Seq::new(alloc);
-    past.push(Past {
-        addr: OTHER,
-        end: 940,
-    })?;
-    let mut watches = Seq::new(alloc);
-    watches.push(WatchView {
-        path: Text::from_str(alloc, path)?,
-        place: Place::Tail,
-    })?;
-    Ok(JailView {
-        name: Text::from_str(alloc, "sshd")?,
-        idle: true,
-        total_failed: 4,
-        total_banned: 2,
-        moment: 960,
-        failures,
-        bans,
-        past,
-        watches,
-    })
-}
-
-/// What is stored of a server with one jail.
-fn view_of(
-    alloc: Global,
-    definition: JailDef,
-    jail: JailView,
-    up: Seq<UpLane>,
-    jobs: Seq<Job>,
-) -> Result<View, NoMemory>
-    requires bounded { IsBounded definition }
-    requires stored { IsStored 1002 8 jail }
-    requires path { map (λ (w : WatchView). w.path) jail.watches ≡ map (λ (w : WatchDef). w.path) definition.watches }
-    requires jobs { AreById 0 jobs 2 }
-    ensures { IfOk result IsBoundedView }
-{
-    let mut definitions = Seq::new(alloc);
-    definitions.push(definition)?;
-    let mut jails = Seq::new(alloc);
-    jails.push(jail)?;
-    Ok(View {
-        at: 1002,
-        defs: Defs {
-            purge: 3600,
-            jails: definitions,
-        },
-        stopping: false,
-        up,
-        jails,
-        jobs,
-        next_job: 2,
-        next_ban: 8,
-    })
-}
-
-/// What is stored.
-fn stored(alloc: Global) -> Result<View, NoMemory>
-    ensures { IfOk result IsBoundedView }
-{
-    let definition = definition(alloc, PATH, action(alloc, "add <ip>")?)?;
-    let jail = stored_jail(alloc, PATH)?;
-    view_of(
-        alloc,
-        definition,
-        jail,
-        stored_up(alloc)?,
-        stored_jobs(alloc)?,
-    )
-}
-
-#[test]
-fn three_failures_within_ten_minutes_ban(rt: HostRuntime) -> Result<(), Fail> {
-    let alloc = rt.alloc();
-    let rows: [(&[(u32, &[u64])], &str); 4] = [
-        (
-            &[(1100, &[1100]), (1300, &[1300]), (1700, &[1700])],
-            "counts\ncounts\ncounts\n",
-        ),
-        (
-            &[(1500, &[1500, 1100, 1300])],
-            "counts\ncounts\ncounts\nbegins 1500 At(2100) 0 3\n",
-        ),
-        (
-            &[
-                (1100, &[1100]),
-                (1300, &[1300]),
-                (1699, &[1699]),
-                (2298, &[]),
-                (2200, &[]),
-            ],
-            "counts\ncounts\ncounts\nbegins 1699 At(2299) 0 3\n",
-        ),
-        (
-            &[
-                (1100, &[1100]),
-                (1300, &[1300]),
-                (1699, &[1699]),
-                (2298, &[]),
-                (2299, &[]),
-            ],
-            "counts\ncounts\ncounts\nbegins 1699 At(2299) 0 3\nends 1699 At(2299) 0 3\n",
-        ),
-    ];
-    for (readings, want) in rows {
-        let (_, told) = after_readings(alloc, readings)?;
-        assert_eq!(rt; told.as_str(), want);
-    }
-    Ok(())
-}
-
-#[test]
-fn a_ban_is_taken_back_while_it_waits(rt: HostRuntime) -> Result<(), Fail> {
-    let alloc = rt.alloc();
-    let taken = configuration(alloc, "add <ip>")?;
-    let (core, ordered) = jobs_after(Core::empty(alloc), alloc, 1000, taken)?;
-    assert_eq!(rt; ordered.as_str(), "0 up\n");
-    assert_eq!(rt; core.defs().jails.len(), 1);
-
-    let (core, ordered) = jobs_after(core, alloc, 1000, done(0))?;
-    assert_eq!(rt; ordered.as_str(), "");
-    let (core, ordered) = jobs_after(core, alloc, 1001, banning(alloc)?)?;
-    assert_eq!(rt; ordered.as_str(), "1 add 192.0.2.7\n");
-    let unban = What::Unban {
-        jail: None,
-        addrs: None,
-    };
-    let (core, ordered) = jobs_after(core, alloc, 1002, unban)?;
-    assert_eq!(rt; ordered.as_str(), "1 add 192.0.2.7\n2 del 192.0.2.7\n");
-    assert!(rt; !core.spent());
-    Ok(())
-}
-
-#[test]
-fn a_changed_action_goes_down_and_comes_up(rt: HostRuntime) -> Result<(), Fail> {
-    let alloc = rt.alloc();
-    let changed = configuration(alloc, "drop <ip>")?;
-    let (core, ordered) = jobs_after(banned(alloc)?, alloc, 1010, changed)?;
-    assert_eq!(rt;
-        ordered.as_str(),
-        "2 del 192.0.2.7\n3 down\n4 up\n5 drop 192.0.2.7\n"
-    );
-    assert!(rt; core.now() == 1010 && !core.ban_due(1600) && core.ban_due(1601));
-    Ok(())
-}
-
-#[test]
-fn a_stop_is_kept_and_called_off(rt: HostRuntime) -> Result<(), Fail> {
-    let alloc = rt.alloc();
-    let (core, ordered) = jobs_after(banned(alloc)?, alloc, 1010, What::Stop)?;
-    assert_eq!(rt; ordered.as_str(), "2 del 192.0.2.7\n3 down\n");
-    let view = core.view()?;
-    assert!(rt; view.stopping && view.up.is_empty() && view.jails.len() == 1);
-    assert!(rt; core.ban_due(1601));
-
-    let again = configuration(alloc, "add <ip>")?;
-    let (core, ordered) = jobs_after(core, alloc, 1011, again)?;
-    assert_eq!(rt;
-        ordered.as_str(),
-        "2 del 192.0.2.7\n3 down\n4 up\n5 add 192.0.2.7\n"
-    );
-    assert!(rt; !core.view()?.stopping);
-    Ok(())
-}
-
-#[test]
-fn what_is_stored_is_what_was_kept(rt: HostRuntime) -> Result<(), Fail> {
-    let alloc = rt.alloc();
-    let view = stored(alloc)?;
-    let core = Core::of(alloc, &view)?;
-    assert!(rt; core.view()? == view);
-    Ok(())
 }

@@ -1,0 +1,132 @@
+//! What is kept over a stop, and a server that goes on from it.
+ghost use Rattle.std.specs.Prelude.{IfOk};
+ghost use Rattle.f2b_model.specs.Lists.{AllOf};
+ghost use Rattle.f2b_model.specs.Storable.{IsStorable, IsStorableInput, IsStorableWhat};
+ghost use Rattle.jail_rooms.specs.Kept.{IsTaken};
+
+use crate::tests::{
+    ADDR, JAIL, NEXT, PATH, banning, check_failed, configuration, ended, input, jail, reading,
+    step, text,
+};
+use crate::{Core, view_after};
+use f2b_base::{Addr, Bytes, Input, NoMemory, Place, Seq, What};
+use std::alloc::Global;
+use std::process::Abort;
+use std::test::Fail;
+
+/// 2001:db8::1.
+const OTHER: Addr = Addr::V6(0x2001_0db8_0000_0000_0000_0000_0000_0001);
+
+/// A log was followed to byte 4, and nothing was found.
+fn followed(alloc: Global) -> Result<What, NoMemory>
+    ensures { IfOk result IsStorableWhat }
+{
+    Ok(What::Read {
+        jail: jail(alloc)?,
+        path: text(alloc, PATH)?,
+        place: Place::Pos {
+            position: 4,
+            head: Bytes::from_slice(alloc, b"a\nb\n")?,
+        },
+        found: Seq::new(alloc),
+    })
+}
+
+/// All bans end.
+fn unbanning() -> What
+    ensures { IsStorableWhat result }
+{
+    What::Unban {
+        jail: None,
+        addrs: None,
+    }
+}
+
+/// The jail's logs are not looked at any more.
+fn idling(alloc: Global) -> Result<What, NoMemory>
+    ensures { IfOk result IsStorableWhat }
+{
+    Ok(What::Idle {
+        jail: jail(alloc)?,
+        idle: true,
+    })
+}
+
+/// A ban is over, and one is active whose job failed once.
+fn with_bans(alloc: Global) -> Result<Core, NoMemory>
+    ensures { IfOk result IsStorable }
+{
+    let taken = configuration(alloc, "echo <ip> '<matches>'", "test -e /x", 5)?;
+    let (core, _) = step(Core::empty(alloc), 1000, taken)?;
+    let (core, _) = step(core, 1000, ended(0, 0))?;
+    let (core, _) = step(core, 1001, banning(alloc, NEXT)?)?;
+    let (core, _) = step(core, 1001, ended(1, 0))?;
+    let (core, _) = step(core, 1002, unbanning())?;
+    let (core, _) = step(core, 1002, ended(2, 0))?;
+    let (core, _) = step(core, 1003, banning(alloc, ADDR)?)?;
+    let (core, _) = step(core, 1003, ended(3, 1))?;
+    Ok(core)
+}
+
+/// Two failures with lines are open besides, the log was followed to a place, and the jail is idle.
+fn with_all(alloc: Global) -> Result<Core, NoMemory>
+    ensures { IfOk result IsStorable }
+{
+    let core = with_bans(alloc)?;
+    let (core, _) = step(core, 1003, reading(alloc, OTHER, 1003, "sshd[811]: a")?)?;
+    let (core, _) = step(core, 1004, reading(alloc, OTHER, 1004, "sshd[812]: b")?)?;
+    let (core, _) = step(core, 1004, followed(alloc)?)?;
+    let (core, _) = step(core, 1005, idling(alloc)?)?;
+    Ok(core)
+}
+
+/// What happens next: a third failure fills its address, the check of the job fails, and the ban from before ends.
+fn what_comes(alloc: Global) -> Result<[Input; 3], NoMemory>
+    ensures taken { IfOk result (AllOf IsTaken) }
+    ensures storable { IfOk result (AllOf IsStorableInput) }
+{
+    let found = reading(alloc, OTHER, 1005, "sshd[813]: c")?;
+    Ok([
+        input(1005, found),
+        input(1005, check_failed(3)),
+        input(1604, What::Tick),
+    ])
+}
+
+/// Both take it: they tell the same, and have one view.
+fn both(rt: &impl Abort, core: Core, again: Core, input: &Input) -> Result<(Core, Core), NoMemory>
+    requires { IsTaken input.now }
+{
+    let (core, told) = core.take(input)?;
+    let (again, told_again) = again.take(input)?;
+    assert!(rt; told == told_again);
+    assert!(rt; core.view()? == again.view()?);
+    Ok((core, again))
+}
+
+#[test]
+fn a_core_that_is_made_of_a_view_goes_on_alike(rt: HostRuntime) -> Result<(), Fail> {
+    let alloc = rt.alloc();
+    let core = with_all(alloc)?;
+    let view = core.view()?;
+    assert_eq!(rt; view.jails.len(), 1);
+    for jail in view.jails.as_slice() {
+        assert!(rt; jail.name.as_str() == JAIL && jail.idle);
+        assert!(rt; jail.failures.len() == 2 && jail.bans.len() == 1 && jail.past.len() == 1);
+    }
+    assert!(rt;
+        view.jobs
+            .as_slice()
+            .iter()
+            .all(|job| job.id == 3 && job.tries == 1)
+    );
+
+    let again = Core::of(alloc, &view)?;
+    assert!(rt; again.view()? == view);
+    let [found, failed, later] = what_comes(alloc)?;
+    let (core, again) = both(&rt, core, again, &found)?;
+    let (core, again) = both(&rt, core, again, &failed)?;
+    let (core, _) = both(&rt, core, again, &later)?;
+    assert!(rt; view_after(alloc, &view, &what_comes(alloc)?)? == core.view()?);
+    Ok(())
+}
