@@ -7,3 +7,4 @@ pub mod CountLemmas
 pub mod PurgeLemmas
 pub mod FillLemmas
 pub mod FoundLemmas
+pub mod WalkLemmas

@@ -2,3 +2,4 @@ pub mod Tables
 pub mod Places
 pub mod Counts
 pub mod Entries
+pub mod Walks

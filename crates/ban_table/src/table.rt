@@ -9,6 +9,7 @@ ghost use Rattle.f2b_model.specs.Moves.{ban_of, is_banned, past_of, up_to_32};
 ghost use Rattle.f2b_model.specs.Sound.{IsOnceEach, IsRisingSerials};
 ghost use Rattle.f2b_model.specs.Steps.{is_due, is_meant};
 ghost use Rattle.ban_table.specs.Tables.{begun, ended, purged, IsNextDue};
+ghost use Rattle.ban_table.specs.Walks.{is_from};
 
 use crate::counts::Counts;
 use crate::index::Index;
@@ -135,6 +136,15 @@ impl BanTable {
     {
         let serial = self.index.serial_of(addr)?;
         self.bans.get(&serial)
+    }
+
+    /// The active ban of the least serial that is at least this one, or `None` where there is none. Takes no memory, and no walk over
+    /// the bans before it.
+    pub fn from(&self, serial: u64) -> Option<&Ban>
+        ensures { option_copied result ≡ find (is_from serial) self.now.active }
+    {
+        let (_, ban) = self.bans.range(serial..).next()?;
+        Some(ban)
     }
 
     /// The ban to end next at a moment, in seconds since 1970, or `None` where no end is at most that.

@@ -248,6 +248,33 @@ fn a_table_of_lists_stands_as_they_do(rt: HostRuntime) -> Result<(), Fail> {
 }
 
 #[test]
+fn active_bans_are_found_from_a_serial_on(rt: HostRuntime) -> Result<(), Fail> {
+    let bans = [
+        (Addr::V4(3), Until::Never),
+        (Addr::V4(2), Until::At(10)),
+        (Addr::V6(1), Until::Never),
+        (Addr::V4(1), Until::At(30)),
+    ];
+    let mut table = table_of(rt.alloc(), &bans)?;
+    let _ = table.end(Addr::V4(2), 10);
+    let rows = [
+        (0, Some(0)),
+        (1, Some(2)),
+        (2, Some(2)),
+        (3, Some(3)),
+        (4, None),
+    ];
+    for (serial, found) in rows {
+        assert_eq!(rt;
+            table.from(serial).map(|ban| ban.serial),
+            found,
+            "from {serial}"
+        );
+    }
+    Ok(())
+}
+
+#[test]
 fn a_million_bans_end_in_order(rt: HostRuntime) -> Result<(), Fail> {
     let mut bans = Vec::new(rt.alloc());
     for number in 0..1_000_000_u32 {

@@ -39,7 +39,7 @@ pub fn drop_old(kept: &mut VecDeque<Failure>, at: u64, findtime: u64)
 }
 
 /// Whether a moment is less than `findtime` seconds after another.
-fn is_close(first: u64, last: u64, findtime: u64) -> bool
+pub fn is_close(first: u64, last: u64, findtime: u64) -> bool
     ensures { result ≡ nat_lt last (first + findtime) }
 {
     last < first || last - first < findtime

@@ -134,6 +134,17 @@ fn equal_times_stand_in_order_of_arrival(rt: HostRuntime) -> Result<(), Fail> {
     Ok(())
 }
 
+#[test]
+fn a_window_is_recent_until_its_last_failure_is_findtime_old(rt: HostRuntime) -> Result<(), Fail> {
+    let rows = [(100, 100, ""), (300, 300, ""), (200, 301, "")];
+    let (window, _) = fed(rt.alloc(), 600, 9, &rows)?;
+    for (now, recent) in [(301, true), (899, true), (900, false), (5000, false)] {
+        assert_eq!(rt; window.is_recent(now), recent, "at {now}");
+    }
+    assert!(rt; !Window::new(rt.alloc(), 600, 9).is_recent(0));
+    Ok(())
+}
+
 /// So many failures, one a second.
 fn one_a_second(alloc: Global, count: u64) -> Result<Vec<(u64, u64, &'static str)>, NoMemory> {
     let mut rows = Vec::new(alloc);

@@ -1,11 +1,13 @@
 //! `Window` and its calls.
 ghost use Rattle.std.specs.Prelude.{◌≡◌, ◌<◌, ◌≤◌, ◌+◌, ◌-◌, ◌*◌, [], length, true, OnOk, OnErr, IfOk};
+ghost use Rattle.std.specs.List.{list_any};
 ghost use Rattle.f2b_base.specs.declared.ban.Failure.{Failure};
 ghost use Rattle.f2b_model.specs.Full.{is_of};
 ghost use Rattle.f2b_model.specs.Lists.{AllOf};
 ghost use Rattle.fail_window.specs.Opened.{GoesOn, IsOpen, KeepsLimits, TellsFull};
+ghost use Rattle.fail_window.specs.Times.{is_recent};
 
-use crate::runs::{drop_old, has_run_with, place_of};
+use crate::runs::{drop_old, has_run_with, is_close, place_of};
 use f2b_base::{Failure, NoMemory, Plain, Seq};
 use std::alloc::Global;
 use std::collections::VecDeque;
@@ -70,6 +72,17 @@ impl Window {
         ensures short { IsOpen self.now → result ≤ 2 * self.now.maxretry - 2 }
     {
         self.kept.len() as u64
+    }
+
+    /// Whether some failure is later than `findtime` seconds before a moment, in seconds since 1970. Takes no memory, and looks at the
+    /// last failure alone.
+    pub fn is_recent(&self, now: u64) -> bool
+        ensures { result ≡ list_any (is_recent now self.now.findtime) self.now.failures }
+    {
+        match self.kept.back() {
+            Some(last) => is_close(last.time, now, self.findtime),
+            None => false,
+        }
     }
 
     /// The failures, in order of time, then of arrival. Takes no memory.

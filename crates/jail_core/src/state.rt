@@ -1,11 +1,12 @@
 //! `Core` and its calls.
-ghost use Rattle.std.specs.Prelude.{◌≡◌, ◌≢◌, ◌↔◌, ◌≤◌, ◌&&◌, not, map, option_copied, option_map, IsTrue, IfOk};
+ghost use Rattle.std.specs.Prelude.{◌≡◌, ◌≢◌, ◌↔◌, ◌≤◌, ◌&&◌, not, map, option_and_then, option_copied, option_map, IsTrue, IfOk};
+ghost use Rattle.std.specs.Option.{option_map_or};
 ghost use Rattle.f2b_base.specs.declared.job.UpLane.{UpLane};
 ghost use Rattle.f2b_model.specs.Checks.{check_of};
 ghost use Rattle.f2b_model.specs.Lanes.{books_now};
 ghost use Rattle.f2b_model.specs.Laws.{AreWatched};
 ghost use Rattle.f2b_model.specs.Sound.{AreFitDefs, IsSoundView};
-ghost use Rattle.f2b_model.specs.Steps.{is_ban_due, moves_now};
+ghost use Rattle.f2b_model.specs.Steps.{find_jail, is_ban_due, moves_now};
 ghost use Rattle.f2b_model.specs.Storable.{most_numbers, IsStorable, IsStorableInput};
 ghost use Rattle.f2b_model.specs.StorableViews.{taken_up, IsStorableView};
 ghost use Rattle.f2b_model.specs.Views.{empty_view, gathered, spread};
@@ -13,12 +14,14 @@ ghost use Rattle.f2b_model.specs.Whole.{is_whole_spent, step_now, told_now};
 ghost use Rattle.f2b_model.specs.declared.jail_now.JailNow.{JailNow};
 ghost use Rattle.jail_rooms.specs.Configured.{configured_now};
 ghost use Rattle.jail_rooms.specs.Kept.{IsTaken};
+ghost use Rattle.jail_rooms.specs.Shown.{ban_from, lately_in, totals_of};
 ghost use Rattle.lane_moves.specs.CheckText.{check_text_of};
 
 use crate::after::{Aftermath, after};
 use action_queue::Lanes;
-use f2b_base::{Defs, Input, NoMemory, Plain, Seq, Text, UpLane, View};
+use f2b_base::{Ban, Defs, Input, JailDef, NoMemory, Plain, Seq, Text, UpLane, View};
 use f2b_model::Told;
+use jail_moves::Totals;
 use jail_rooms::{Jails, same_defs};
 use lane_moves::Actions;
 use std::alloc::Global;
@@ -166,6 +169,36 @@ impl Core {
         ensures { result.now ≡ record { purge = self.now.world.purge; jails = map (λ (j : JailNow). j.definition) self.now.world.jails } }
     {
         self.jails.defs()
+    }
+
+    /// The definition of the jail of a name, if there is one. Takes no memory.
+    pub fn jail(&self, name: &str) -> Option<&JailDef>
+        ensures { option_copied result ≡ option_map (λ (j : JailNow). j.definition) (find_jail moves_now name.now self.now.world.jails) }
+    {
+        self.jails.definition(name)
+    }
+
+    /// What happened in the jail of a name in numbers, and whether it is idle. Takes no memory.
+    pub fn totals(&self, name: &str) -> Option<Totals>
+        ensures { result ≡ option_map totals_of (find_jail moves_now name.now self.now.world.jails) }
+    {
+        self.jails.totals(name)
+    }
+
+    /// The active ban of the least serial that is at least this one, in the jail of a name. Takes no memory.
+    pub fn ban_from(&self, name: &str, serial: u64) -> Option<&Ban>
+        ensures { option_copied result ≡ option_and_then (ban_from serial) (find_jail moves_now name.now self.now.world.jails) }
+    {
+        self.jails.ban_from(name, serial)
+    }
+
+    /// How many addresses have an open failure in the jail of a name that is later than `findtime` before a moment. 0 where there is no
+    /// such jail. It takes time by the addresses that have failures, and no memory.
+    pub fn failed_lately(&self, name: &str, now: u64) -> u64
+        requires { self.now.world.at ≤ now }
+        ensures { result ≡ option_map_or (lately_in now) (find_jail moves_now name.now self.now.world.jails) 0 }
+    {
+        self.jails.failed_lately(name, now)
     }
 
     /// Whether the serials of bans or the ids of jobs are used up. Nothing happens any more then. Takes no memory.

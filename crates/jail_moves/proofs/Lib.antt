@@ -10,3 +10,4 @@ pub mod WindowLosses
 pub mod WindowTurns
 pub mod WindowReads
 pub mod LineLemmas
+pub mod LatelyLemmas

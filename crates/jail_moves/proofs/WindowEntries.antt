@@ -88,7 +88,7 @@ abbrev pub IsSome : ℕ → ℕ → Entry → Type 0
 IsSome findtime maxretry e = (addr : Addr) × IsOwn findtime maxretry addr e
 
 -- the failures behind an entry are of addresses that come after its own
-above : (findtime maxretry : ℕ) (addr : Addr) (k : ℕ × ℕ) (es : List Entry) → k ≡ key_of addr → AllOf (IsSome findtime maxretry) es
+pub above : (findtime maxretry : ℕ) (addr : Addr) (k : ℕ × ℕ) (es : List Entry) → k ≡ key_of addr → AllOf (IsSome findtime maxretry) es
     → AllByRecursion (λ (q : ℕ × ℕ). pair_cmp k q ≡ Less) (keys_of es) → AllOf (λ (f : Failure). addr_before addr f.addr ≡ true) (failures_in es)
 above findtime maxretry addr k [] is each rising = tt
 above findtime maxretry addr k (e ∷ es) is each rising =
@@ -100,7 +100,7 @@ above findtime maxretry addr k (e ∷ es) is each rising =
     (above findtime maxretry addr k es is each.1 rising.1)
 
 -- a failure of an address that comes after another is not the other's
-not_own : (addr : Addr) (f : Failure) → addr_before addr f.addr ≡ true → is_of addr f ≡ false
+pub not_own : (addr : Addr) (f : Failure) → addr_before addr f.addr ≡ true → is_of addr f ≡ false
 not_own addr f h =
     by_test (same_addr f.addr addr) _
     (λ e. absurd (let k : true ≡ false = sym h ∙ one_addr (λ a. addr_before addr a) f.addr addr e ∙ addr_same addr in cc))

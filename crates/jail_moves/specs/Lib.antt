@@ -3,3 +3,4 @@ pub mod Rooms
 pub mod Watching
 pub mod Addresses
 pub mod Shown
+pub mod Lately

@@ -9,11 +9,13 @@
 mod addresses;
 mod bans;
 mod ends;
+mod lately;
 mod matches;
 #[cfg(test)]
 mod matches_tests;
 mod room;
 mod stored;
+mod totals;
 mod unbans;
 mod watches;
 mod windows;
@@ -21,3 +23,4 @@ mod windows;
 mod windows_tests;
 
 pub use room::Room;
+pub use totals::Totals;

@@ -1,6 +1,7 @@
 //! `Room` and its calls.
-ghost use Rattle.std.specs.Prelude.{◌≡◌, ◌≤◌, ◌<◌, ◌+◌, ◌^◌, ◌∷◌, ◌++◌, [], false, ℕ, length, filter, map, OnOk, IfOk};
+ghost use Rattle.std.specs.Prelude.{◌≡◌, ◌≤◌, ◌<◌, ◌+◌, ◌^◌, ◌∷◌, ◌++◌, [], false, ℕ, length, filter, find, map, option_copied, OnOk, IfOk};
 ghost use Rattle.std.specs.List.{list_any};
+ghost use Rattle.ban_table.specs.Walks.{is_from};
 ghost use Rattle.f2b_base.specs.declared.ban.Ban.{Ban};
 ghost use Rattle.f2b_model.specs.Lists.{AllOf};
 ghost use Rattle.f2b_model.specs.Matches.{matches_of};
@@ -13,11 +14,13 @@ ghost use Rattle.f2b_base.specs.Limits.{last_moment};
 ghost use Rattle.f2b_model.specs.Views.{jail_view};
 ghost use Rattle.f2b_model.specs.Watches.{is_watched, with_place};
 ghost use Rattle.f2b_model.specs.declared.happening.Happening.TheVariants.{Ends};
+ghost use Rattle.jail_moves.specs.Lately.{failed_lately};
 ghost use Rattle.jail_moves.specs.Rooms.{jail_in, with_ban, IsBounded, IsCounted, IsKept, IsStored};
 
 use crate::bans::{begin, drop_past, end_due, unban};
 use crate::matches::matches_of;
 use crate::stored::table_of;
+use crate::totals::Totals;
 use crate::watches::{set_place, watches_of};
 use crate::windows::Windows;
 use ban_table::{BanLists, BanTable};
@@ -170,6 +173,34 @@ impl Room {
         ensures { result ≡ is_banned addr self.now.bans.active }
     {
         self.bans.active(addr).is_some()
+    }
+
+    /// What happened in the jail in numbers, and whether it is idle. Takes no memory.
+    pub fn totals(&self) -> Totals
+        ensures { result ≡ record { idle = self.now.idle; failed = self.now.total_failed; banned = self.now.total_banned } }
+    {
+        Totals {
+            idle: self.idle,
+            failed: self.total_failed,
+            banned: self.total_banned,
+        }
+    }
+
+    /// The active ban of the least serial that is at least this one. Takes no memory.
+    pub fn ban_from(&self, serial: u64) -> Option<&Ban>
+        ensures { option_copied result ≡ find (is_from serial) self.now.bans.active }
+    {
+        self.bans.from(serial)
+    }
+
+    /// How many addresses have an open failure that is later than `findtime` before a moment. It takes time by the addresses that have
+    /// failures, and no memory.
+    pub fn failed_lately(&self, definition: &JailDef, now: u64) -> u64
+        requires limits { self.now.windows.findtime ≡ definition.now.findtime }
+        requires later { self.now.moment ≤ now }
+        ensures { result ≡ failed_lately now definition.now.findtime (jail_in definition.now self.now).failures }
+    {
+        self.windows.failed_lately(now)
     }
 
     /// Counts a failure, and gives those of its address's failures that are near it, where the address is now full. Its failures are

@@ -7,10 +7,12 @@ ghost use Rattle.f2b_model.specs.Nows.{comes_before};
 ghost use Rattle.f2b_model.specs.StorableViews.{can_matter, unfilled};
 ghost use Rattle.fail_window.specs.Opened.{KeepsLimits};
 ghost use Rattle.jail_moves.specs.Added.{IsAdded};
+ghost use Rattle.jail_moves.specs.Lately.{failed_lately};
 
 use crate::addresses::{
     ByAddr, can_matter, count, late_failures, remove, remove_each, sweep_in_turn,
 };
+use crate::lately::failed_lately;
 use f2b_base::{Addr, Failure, NoMemory, Plain, Seq};
 use std::alloc::Global;
 use std::collections::BTreeMap;
@@ -121,6 +123,13 @@ impl Windows {
         ensures { self.new ≡ record self.old { failures = filter (λ (f : Failure). not (is_of addr f)) self.old.failures } }
     {
         let _ = remove(&mut self.by_addr, addr);
+    }
+
+    /// How many addresses have a failure that is later than `findtime` before a moment. Takes no memory.
+    pub fn failed_lately(&self, now: u64) -> u64
+        ensures { result ≡ failed_lately now self.now.findtime self.now.failures }
+    {
+        failed_lately(&self.by_addr, now)
     }
 
     /// A copy of the failures that are late at a moment.

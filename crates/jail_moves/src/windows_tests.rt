@@ -191,3 +191,18 @@ fn what_fills_no_address_is_taken_up(rt: HostRuntime) -> Result<(), Fail> {
     }
     Ok(())
 }
+
+#[test]
+fn addresses_that_failed_lately_count_once(rt: HostRuntime) -> Result<(), Fail> {
+    let rows = [
+        (FIRST, 100, 100),
+        (SECOND, 300, 300),
+        (FIRST, 400, 400),
+        (THIRD, 400, 400),
+    ];
+    let (windows, _filled) = fed(rt.alloc(), 600, 9, &rows)?;
+    for (now, count) in [(400, 3), (899, 3), (900, 2), (999, 2), (1000, 0)] {
+        assert_eq!(rt; windows.failed_lately(now), count, "at {now}");
+    }
+    Ok(())
+}

@@ -8,3 +8,4 @@ pub mod ReadLemmas
 pub mod StoredLemmas
 pub mod StorableLemmas
 pub mod TakenLemmas
+pub mod ShownLemmas

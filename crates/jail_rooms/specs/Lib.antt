@@ -6,3 +6,4 @@ pub mod Kept
 pub mod Left
 pub mod Reading
 pub mod Stored
+pub mod Shown

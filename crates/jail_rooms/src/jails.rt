@@ -1,13 +1,14 @@
 //! `Jails`: the jails of the server, their definitions and what is kept of each.
-ghost use Rattle.std.specs.Prelude.{◌≡◌, ◌≤◌, ◌^◌, ◌∷◌, ◌++◌, [], length, map, max, true, OnOk, IfOk};
+ghost use Rattle.std.specs.Prelude.{◌≡◌, ◌≤◌, ◌^◌, ◌∷◌, ◌++◌, [], length, map, max, option_copied, option_map, option_and_then, true, Some, None, OnOk, IfOk, IfSome, MatchOption};
 ghost use Rattle.std.specs.List.{list_any};
+ghost use Rattle.std.specs.Option.{option_map_or};
 ghost use Rattle.f2b_base.specs.declared.ban.Failure.{Failure};
 ghost use Rattle.f2b_base.specs.declared.input.What.TheVariants.{Config};
 ghost use Rattle.f2b_base.specs.declared.view.JailView.{JailView};
 ghost use Rattle.f2b_model.specs.Active.{held, held_by};
 ghost use Rattle.f2b_model.specs.NowMoves.{dropped_now};
 ghost use Rattle.f2b_model.specs.Sound.{AreFitDefs};
-ghost use Rattle.f2b_model.specs.Steps.{at_reading, done, each_jail, is_ban_due, moves_now};
+ghost use Rattle.f2b_model.specs.Steps.{at_reading, done, each_jail, find_jail, is_ban_due, moves_now};
 ghost use Rattle.f2b_model.specs.Told.{told_done, told_each, told_ends};
 ghost use Rattle.f2b_base.specs.Limits.{default_purge, last_moment};
 ghost use Rattle.f2b_model.specs.StorableViews.{IsStorableView, taken_up};
@@ -16,17 +17,19 @@ ghost use Rattle.f2b_model.specs.Lists.{AllOf};
 ghost use Rattle.f2b_model.specs.declared.jail_now.JailNow.{JailNow};
 ghost use Rattle.jail_rooms.specs.Jails.{is_of_jails};
 ghost use Rattle.jail_rooms.specs.Kept.{jails_in, IsBoundedWhat};
-ghost use Rattle.jail_moves.specs.Rooms.{Contents, IsBounded};
+ghost use Rattle.jail_rooms.specs.Shown.{ban_from, lately_in, totals_of};
+ghost use Rattle.jail_moves.specs.Rooms.{jail_in, Contents, IsBounded, IsKept};
 ghost use Rattle.lane_moves.specs.Held.{held_of};
 
 use crate::configure::configure;
 use crate::each::{drop_all, end_all, is_ban_due};
 use crate::happen::happen;
 use crate::reads::Turn;
+use crate::shown::jail_of;
 use crate::stored::{rooms_of, views};
-use f2b_base::{DEFAULT_PURGE, Defs, JailDef, JailView, NoMemory, Plain, Seq, View, What};
+use f2b_base::{Ban, DEFAULT_PURGE, Defs, JailDef, JailView, NoMemory, Plain, Seq, View, What};
 use f2b_model::Happening;
-use jail_moves::Room;
+use jail_moves::{Room, Totals};
 use lane_moves::JailBans;
 use std::alloc::Global;
 use std::marker::Model;
@@ -155,6 +158,50 @@ impl Jails {
         ensures { result ≡ list_any (λ (j : JailNow). j.idle) self.now.jails }
     {
         is_any_idle(self.rooms.as_slice())
+    }
+
+    /// The jail of a name, if there is one: its definition, and what is kept of it.
+    fn jail_of(&self, name: &str) -> Option<(&JailDef, &Room)>
+        ensures jail { MatchOption result (find_jail moves_now name.now self.now.jails ≡ None) (λ p. find_jail moves_now name.now self.now.jails ≡ Some (jail_in p.0.now p.1.now)) }
+        ensures kept { IfSome result (λ p. IsKept self.now.at self.now.next_ban p.0.now p.1.now) }
+    {
+        jail_of(self.defs.jails.as_slice(), self.rooms.as_slice(), name)
+    }
+
+    /// The definition of the jail of a name, if there is one. Takes no memory.
+    pub fn definition(&self, name: &str) -> Option<&JailDef>
+        ensures { option_copied result ≡ option_map (λ (j : JailNow). j.definition) (find_jail moves_now name.now self.now.jails) }
+    {
+        let (definition, _) = self.jail_of(name)?;
+        Some(definition)
+    }
+
+    /// What happened in the jail of a name in numbers, and whether it is idle. Takes no memory.
+    pub fn totals(&self, name: &str) -> Option<Totals>
+        ensures { result ≡ option_map totals_of (find_jail moves_now name.now self.now.jails) }
+    {
+        let (_, room) = self.jail_of(name)?;
+        Some(room.totals())
+    }
+
+    /// The active ban of the least serial that is at least this one, in the jail of a name. Takes no memory.
+    pub fn ban_from(&self, name: &str, serial: u64) -> Option<&Ban>
+        ensures { option_copied result ≡ option_and_then (ban_from serial) (find_jail moves_now name.now self.now.jails) }
+    {
+        let (_, room) = self.jail_of(name)?;
+        room.ban_from(serial)
+    }
+
+    /// How many addresses have an open failure in the jail of a name that is later than `findtime` before a moment. 0 where there is no
+    /// such jail. It takes time by the addresses that have failures, and no memory.
+    pub fn failed_lately(&self, name: &str, now: u64) -> u64
+        requires { self.now.at ≤ now }
+        ensures { result ≡ option_map_or (lately_in now) (find_jail moves_now name.now self.now.jails) 0 }
+    {
+        match self.jail_of(name) {
+            Some((definition, room)) => room.failed_lately(definition, now),
+            None => 0,
+        }
     }
 
     /// What is stored of each jail, where no failure is to come.

@@ -16,6 +16,7 @@ mod happen;
 mod jails;
 mod reads;
 mod same;
+mod shown;
 mod stored;
 mod within;
 
