@@ -4,5 +4,6 @@ mod ItemRows
 pub mod NumberLemmas
 pub mod PartLemmas
 pub mod RunLemmas
+pub mod TermLemmas
 pub mod TrimLemmas
 mod TreeRows

@@ -7,7 +7,7 @@ use Rattle.std.proofs.lemmas.Bool.Decides.{nat_tests}
 use Rattle.std.proofs.lemmas.List.Folds.{list_all_at}
 use Rattle.jail_conf.specs.Words.{number, is_decimal}
 
-decimal : (text : List ℕ) → 0 < length text → list_all is_ascii_digit text ≡ true → is_decimal text ≡ true
+pub decimal : (text : List ℕ) → 0 < length text → list_all is_ascii_digit text ≡ true → is_decimal text ≡ true
 decimal [] some all = absurd (omega arith)
 decimal (byte ∷ text) some all = grind (arith, nat_tests, all)
 

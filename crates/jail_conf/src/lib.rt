@@ -20,6 +20,7 @@ mod reading;
 mod sections;
 mod settings;
 mod source;
+mod terms;
 #[cfg(test)]
 mod tests;
 mod times;
