@@ -6,7 +6,7 @@ use Rattle.std.specs.Str.Parse.{digits_value}
 use Rattle.std.proofs.lemmas.Bool.Decides.{nat_tests}
 use Rattle.ini_interp.specs.Lines.{is_blank}
 use Rattle.jail_conf.specs.Words.{number}
-use Rattle.jail_conf.specs.Times.{Run, Digits, Letters, Gap, Stray, before_digits, before_letters, runs_of, without_gaps, pieces, begins_with, unit_seconds, added, sum_of_terms, sum_of, saturated, plus}
+use Rattle.jail_conf.specs.Times.{Run, Digits, Letters, Gap, Stray, before_digits, before_letters, runs_of, without_gaps, pieces, with_digits, begins_with, unit_seconds, added, sum_of_terms, sum_of, saturated, plus}
 use Rattle.jail_conf.proofs.NumberLemmas.{decimal}
 use Rattle.jail_conf.proofs.RunLemmas.{digits_cut, letters_cut}
 
@@ -58,6 +58,37 @@ no_digits_sum (first ∷ text) some digit blank = rw (digit, blank) (by (is_asci
     by : (letter : Bool) → sum_of (without_gaps (cond letter (before_letters first (runs_of text)) (Stray ∷ runs_of text))) ≡ None
     by true = letters_no_sum first (runs_of text)
     by false = refl
+
+-- digits with something behind them are no number of seconds
+digits_first : (digits : List ℕ) (first : ℕ) (runs : List Run) →
+    sum_of (Digits digits ∷ without_gaps (before_digits first runs)) ≡ sum_of_terms (Digits digits ∷ without_gaps (before_digits first runs))
+digits_first digits first [] = refl
+digits_first digits first (Digits text ∷ runs) = refl
+digits_first digits first (Letters text ∷ runs) = refl
+digits_first digits first (Gap ∷ runs) = refl
+digits_first digits first (Stray ∷ runs) = refl
+
+letters_first : (digits : List ℕ) (first : ℕ) (runs : List Run) →
+    sum_of (Digits digits ∷ without_gaps (before_letters first runs)) ≡ sum_of_terms (Digits digits ∷ without_gaps (before_letters first runs))
+letters_first digits first [] = refl
+letters_first digits first (Digits text ∷ runs) = refl
+letters_first digits first (Letters text ∷ runs) = refl
+letters_first digits first (Gap ∷ runs) = refl
+letters_first digits first (Stray ∷ runs) = refl
+
+digits_and_more : (digits text : List ℕ) → 0 < length text → begins_with is_blank text ≡ false →
+    sum_of (Digits digits ∷ pieces text) ≡ sum_of_terms (Digits digits ∷ pieces text)
+digits_and_more digits [] some blank = absurd (omega arith)
+digits_and_more digits (first ∷ text) some blank = rw blank (by (is_ascii_digit first) (is_ascii_alphabetic first))
+  where
+    runs : List Run
+    runs = runs_of text
+
+    by : (digit letter : Bool) → sum_of (Digits digits ∷ without_gaps (cond digit (before_digits first runs) (cond letter (before_letters first runs) (Stray ∷ runs))))
+        ≡ sum_of_terms (Digits digits ∷ without_gaps (cond digit (before_digits first runs) (cond letter (before_letters first runs) (Stray ∷ runs))))
+    by true letter = digits_first digits first runs
+    by false true = letters_first digits first runs
+    by false false = refl
 
 -- ---- the first term
 
@@ -200,3 +231,35 @@ sum-end text [] seconds before empty fits =
     let kept : seconds ≡ min (seconds + 0) (2 ^ 64 - 1) = omega (arith, fits) in
     ap Some kept ∙ before
 sum-end text (byte ∷ left) seconds before empty fits = absurd (omega (arith, empty))
+
+-- ---- a number of seconds, or terms
+
+-- digits alone
+pub sum-digits : (text front digits behind after : List ℕ) → pieces front ≡ pieces text → front ≡ digits ++ behind → list_all is_ascii_digit digits ≡ true →
+    begins_with is_ascii_digit behind ≡ false → pieces after ≡ pieces behind → length after ≡ 0 → saturated (number digits) ≡ saturated (sum_of (pieces text))
+sum-digits text front digits behind [] same whole all ends nothing none =
+    by digits all (sym same ∙ (ap pieces whole ∙ (digits_cut digits behind all ends ∙ ap (with_digits digits) (sym nothing))))
+  where
+    by : (digits : List ℕ) → list_all is_ascii_digit digits ≡ true → pieces text ≡ with_digits digits [] → saturated (number digits) ≡ saturated (sum_of (pieces text))
+    by [] all is = sym (ap (λ runs. saturated (sum_of runs)) is)
+    by (byte ∷ digits) all is =
+        ap (λ b. saturated (cond b (Some (digits_value 10 (byte ∷ digits))) None)) (decimal (byte ∷ digits) (omega arith) all)
+        ∙ sym (ap (λ runs. saturated (sum_of runs)) is)
+sum-digits text front digits behind (byte ∷ after) same whole all ends nothing none = absurd (omega (arith, none))
+
+-- any other text
+pub sum-terms : (text front digits behind after : List ℕ) → pieces front ≡ pieces text → begins_with is_blank front ≡ false → 0 < length front → front ≡ digits ++ behind →
+    list_all is_ascii_digit digits ≡ true → begins_with is_ascii_digit behind ≡ false → pieces after ≡ pieces behind → begins_with is_blank after ≡ false → 0 < length after →
+    saturated (sum_of_terms (pieces front)) ≡ saturated (sum_of (pieces text))
+sum-terms text front [] behind after same blank some whole all ends cut clean more =
+    let digit : begins_with is_ascii_digit front ≡ false = ap (begins_with is_ascii_digit) whole ∙ ends in
+    ap saturated (no_digits front some digit blank ∙ (sym (no_digits_sum front some digit blank) ∙ ap sum_of same))
+sum-terms text front (byte ∷ digits) behind after same blank some whole all ends cut clean more =
+    let is : pieces front ≡ Digits (byte ∷ digits) ∷ pieces after =
+    ap pieces whole ∙ (digits_cut (byte ∷ digits) behind all ends ∙ ap (λ runs. Digits (byte ∷ digits) ∷ runs) (sym cut)) in
+    ap saturated (ap sum_of_terms is ∙ (sym (digits_and_more (byte ∷ digits) after more clean) ∙ (ap sum_of (sym is) ∙ ap sum_of same)))
+
+-- nothing but blanks
+pub sum-nothing : (text front : List ℕ) → pieces front ≡ pieces text → length front ≡ 0 → None ≡ saturated (sum_of (pieces text))
+sum-nothing text [] same none = ap (λ runs. saturated (sum_of runs)) same
+sum-nothing text (byte ∷ front) same none = absurd (omega (arith, none))

@@ -40,3 +40,18 @@ fn sum_of_terms(text: &[u8]) -> Option<u64>
     }
     Some(seconds)
 }
+
+/// The sum of the terms, or the number of seconds where the text has digits alone.
+pub(crate) fn sum(text: &[u8]) -> Option<u64>
+    ensures { result ≡ saturated (sum_of (pieces text.now)) }
+{
+    let front = behind_blanks(text);
+    if front.is_empty() {
+        return None;
+    }
+    let (digits, behind) = cut_digits(front);
+    if behind_blanks(behind).is_empty() {
+        return number(digits);
+    }
+    sum_of_terms(front)
+}
