@@ -1,5 +1,5 @@
 -- Time words: `600`, `10m`, `1d 12h 30m`, `-1`.
-use Rattle.std.specs.Prelude.{ℕ, ◌+◌, ◌*◌, ◌==◌, nat_le, Bool, false, List, [], ◌∷◌, Option, None, Some, option_and_then, option_map, Ok, ℤ, pos, neg_ℤ, codes, if◌then◌else◌}
+use Rattle.std.specs.Prelude.{ℕ, ◌+◌, ◌*◌, ◌-◌, ◌^◌, min, ◌==◌, nat_le, Bool, false, List, [], ◌∷◌, Option, None, Some, option_and_then, option_map, Ok, ℤ, pos, neg_ℤ, codes, if◌then◌else◌}
 use Rattle.std.specs.Char.{is_ascii_digit, is_ascii_alphabetic}
 use Rattle.std.specs.Str.Parse.{digits_value}
 use Rattle.ini_interp.specs.Lines.{is_blank, trimmed}
@@ -51,6 +51,31 @@ without_gaps [] = []
 without_gaps (Gap ∷ runs) = without_gaps runs
 without_gaps (run ∷ runs) = run ∷ without_gaps runs
 
+-- the runs of a text
+abbrev pub pieces : List ℕ → List Run
+pieces text = without_gaps (runs_of text)
+
+-- digits, or letters, as a run before others, where there are any
+abbrev pub with_digits : List ℕ → List Run → List Run
+with_digits [] runs = runs
+with_digits (byte ∷ text) runs = Digits (byte ∷ text) ∷ runs
+
+abbrev pub with_letters : List ℕ → List Run → List Run
+with_letters [] runs = runs
+with_letters (byte ∷ text) runs = Letters (byte ∷ text) ∷ runs
+
+-- such a byte is the first
+abbrev pub begins_with : (ℕ → Bool) → List ℕ → Bool
+begins_with test [] = false
+begins_with test (byte ∷ text) = test byte
+
+-- numbers in code stay at the greatest of 64 bits
+abbrev pub saturated : Option ℕ → Option ℕ
+saturated n = option_map (λ n. min n (2 ^ 64 - 1)) n
+
+abbrev pub plus : ℕ → Option ℕ → Option ℕ
+plus term rest = option_map (λ n. term + n) rest
+
 -- so many of the unit, and what else there is
 abbrev pub added : List ℕ → Option ℕ → Option ℕ → Option ℕ
 added digits None rest = None
@@ -75,7 +100,7 @@ abbrev pub if_not_too_long : ℕ → Option ℕ
 if_not_too_long seconds = if nat_le seconds most_seconds then Some seconds else None
 
 abbrev pub magnitude : List ℕ → Option ℕ
-magnitude text = option_and_then if_not_too_long (sum_of (without_gaps (runs_of text)))
+magnitude text = option_and_then if_not_too_long (sum_of (pieces text))
 
 -- behind a `-` a digit stands at once
 abbrev pub negated : List ℕ → Option ℤ

@@ -17,15 +17,20 @@ mod logs;
 mod numbers;
 mod options;
 mod reading;
+mod rule;
+mod seconds;
 mod sections;
 mod settings;
 mod source;
+mod terms;
 #[cfg(test)]
 mod tests;
 mod times;
 mod unsupported;
 mod words;
+mod zones;
 
 pub use conf_error::{ConfError, ConfFail, ConfKind};
 pub use fail::Fail;
+pub use seconds::str2sec;
 pub use settings::Settings;

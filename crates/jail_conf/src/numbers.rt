@@ -1,5 +1,6 @@
 //! Items that are numbers.
-ghost use Rattle.std.specs.Prelude.{◌≡◌, ◌<◌, ◌-◌, ◌^◌, option_and_then};
+ghost use Rattle.std.specs.Prelude.{◌≡◌, ◌<◌, ◌-◌, ◌^◌, min, option_map, option_and_then};
+ghost use Rattle.jail_conf.specs.Numbers.{thousandths_of, thousandths};
 ghost use Rattle.jail_conf.specs.Words.{number, if_between};
 
 use crate::conf_error::ConfKind;
@@ -11,7 +12,7 @@ use f2b_base::Seq;
 use std::alloc::Global;
 
 /// The number of a text, where it is in these bounds.
-fn number_between(least: u64, most: u64, text: &[u8]) -> Option<u64>
+pub(crate) fn number_between(least: u64, most: u64, text: &[u8]) -> Option<u64>
     requires { most < 2 ^ 64 - 1 }
     ensures { result ≡ option_and_then (if_between least most) (number text.now) }
 {
@@ -53,6 +54,49 @@ impl Reading<()> for OnlyOne {
             Ok(())
         } else {
             Err(Fail::Refused(ConfKind::Unsupported))
+        }
+    }
+}
+
+/// Thousandths of so many units and this fraction, which has one to three digits. They stay at the greatest `u64`.
+fn thousandths_of(units: &[u8], fraction: &[u8]) -> Option<u64>
+    ensures { result ≡ option_map (λ n. min n (2 ^ 64 - 1)) (thousandths_of units.now fraction.now) }
+{
+    let scale = match fraction.len() {
+        1 => 100,
+        2 => 10,
+        3 => 1,
+        _ => return None,
+    };
+    let units = number(units)?;
+    let fraction = number(fraction)?;
+    let thousandths = fraction.saturating_mul(scale);
+    Some(units.saturating_mul(1_000).saturating_add(thousandths))
+}
+
+/// Thousandths: digits, then nothing, or a dot and one to three digits. They stay at the greatest `u64`.
+fn thousandths(text: &str) -> Option<u64>
+    ensures { result ≡ option_map (λ n. min n (2 ^ 64 - 1)) (thousandths text.now) }
+{
+    match text.split_once('.') {
+        Some((units, fraction)) => thousandths_of(units.as_bytes(), fraction.as_bytes()),
+        None => number(text.as_bytes()).map(|n| n.saturating_mul(1_000)),
+    }
+}
+
+/// A factor from a thousandth to a thousand, in thousandths.
+#[derive(Drop)]
+pub(crate) struct Factor;
+
+impl Reading<u64> for Factor {
+    ghost use Rattle.jail_conf.specs.Numbers.{factor};
+
+    ghost reading = { λ _. factor };
+
+    fn read(&self, _alloc: Global, text: &str) -> Result<u64, Fail<ConfKind>> {
+        match thousandths(trim(text)) {
+            Some(n) if 1 <= n && n <= 1_000_000 => Ok(n),
+            _ => Err(Fail::Refused(ConfKind::BadNumber)),
         }
     }
 }

@@ -2,6 +2,7 @@
 
 use crate::conf_error::ConfKind;
 use crate::fail::Fail;
+use f2b_base::Text;
 use std::alloc::Global;
 
 /// A way to read the text of an item.
@@ -15,4 +16,18 @@ pub(crate) trait Reading<A> {
     /// The value, or what is wrong with the text.
     fn read(&self, alloc: Global, text: &str) -> Result<A, Fail<ConfKind>>
         ensures { Gives (reading self.now text.now) result };
+}
+
+/// The text as it is.
+#[derive(Drop)]
+pub(crate) struct AsWritten;
+
+impl Reading<Text> for AsWritten {
+    ghost use Rattle.jail_conf.specs.Readers.{as_written};
+
+    ghost reading = { λ _. as_written };
+
+    fn read(&self, alloc: Global, text: &str) -> Result<Text, Fail<ConfKind>> {
+        Ok(Text::from_str(alloc, text)?)
+    }
 }

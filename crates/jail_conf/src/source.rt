@@ -1,5 +1,6 @@
 //! Where values are read.
-ghost use Rattle.std.specs.Prelude.{◌≡◌, IfOk};
+ghost use Rattle.std.specs.Prelude.{◌≡◌, [], IfOk};
+ghost use Rattle.jail_conf.specs.Readers.{as_written};
 ghost use Rattle.jail_conf.specs.Items.{item};
 ghost use Rattle.jail_conf.specs.Sources.{text_in, found, told, or_told, own, own_or};
 ghost use Rattle.jail_conf.specs.Then.{Gives};
@@ -7,7 +8,7 @@ ghost use Rattle.jail_conf.specs.Told.{IsTold};
 
 use crate::conf_error::{ConfError, ConfFail, ConfKind};
 use crate::fail::Fail;
-use crate::reading::Reading;
+use crate::reading::{AsWritten, Reading};
 use f2b_base::{NoMemory, Plain, Seq, Text};
 use ini_interp::{Sections, value};
 use std::alloc::Global;
@@ -60,12 +61,7 @@ impl Source {
     }
 
     /// The refusal of an item, of this kind.
-    pub(crate) fn refusal(
-        &self,
-        alloc: Global,
-        name: &str,
-        kind: ConfKind,
-    ) -> Result<ConfError, NoMemory>
+    fn refusal(&self, alloc: Global, name: &str, kind: ConfKind) -> Result<ConfError, NoMemory>
         ensures { IfOk result (λ error. error ≡ told self.now name.now kind) }
     {
         Ok(ConfError {
@@ -119,6 +115,25 @@ impl Source {
         Ok(value.unwrap_or(default))
     }
 
+    /// The list that an item comes to, which has nothing in it where the item is not there.
+    pub(crate) fn list<A: Drop, R: Reading<Seq<A>>>(
+        &self,
+        alloc: Global,
+        name: &str,
+        reading: &R,
+    ) -> Result<Seq<A>, ConfFail>
+        ensures { Gives (own self.now (item name.now (R.reading reading.now) [])) result }
+    {
+        self.item(alloc, name, reading, Seq::new(alloc))
+    }
+
+    /// The text of an item as it is written, which is empty where the item is not there.
+    pub(crate) fn written(&self, alloc: Global, name: &str) -> Result<Text, ConfFail>
+        ensures { Gives (own self.now (item name.now as_written [])) result }
+    {
+        self.item(alloc, name, &AsWritten, Text::new(alloc))
+    }
+
     /// What an item of a jail comes to, or that of its filter where it is not there. Tags in it stand for items of the filter.
     pub(crate) fn item_or<A: Drop, R: Reading<A>>(
         &self,
@@ -135,5 +150,18 @@ impl Source {
             Some(value) => Ok(value),
             None => filter.item(alloc, name, reading, default),
         }
+    }
+
+    /// The list that an item of a jail comes to, or that of its filter, which has nothing in it where neither is there.
+    pub(crate) fn list_or<A: Drop, R: Reading<Seq<A>>>(
+        &self,
+        alloc: Global,
+        filter: &Source,
+        name: &str,
+        reading: &R,
+    ) -> Result<Seq<A>, ConfFail>
+        ensures { Gives (own_or self.now filter.now (item name.now (R.reading reading.now) [])) result }
+    {
+        self.item_or(alloc, filter, name, reading, Seq::new(alloc))
     }
 }

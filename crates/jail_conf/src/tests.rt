@@ -5,9 +5,11 @@ use crate::choices::{Boolean, OneOf, OnlyFalse};
 use crate::conf_error::ConfKind;
 use crate::dates::Date;
 use crate::fail::Fail as Refusal;
-use crate::numbers::{Multipliers, Number, OnlyOne};
+use crate::numbers::{Factor, Multipliers, Number, OnlyOne};
 use crate::reading::Reading;
+use crate::seconds::{Jitter, Seconds, Span, str2sec};
 use crate::source::Source;
+use crate::zones::Zone;
 use f2b_base::{DateSpec, Seq, Text};
 use ini_interp::read_file;
 use std::alloc::Global;
@@ -64,6 +66,64 @@ fn reads_numbers(rt: HostRuntime) -> Result<(), Fail> {
     let growth = Multipliers.read(rt.alloc(), "1 5\n30")?;
     assert_eq!(rt; growth.as_slice(), [1, 5, 30].as_slice());
     Ok(())
+}
+
+#[test]
+fn reads_times(rt: HostRuntime) {
+    for (text, want) in [
+        ("600", Some(600)),
+        ("10m", Some(600)),
+        ("1d12h30m", Some(131_400)),
+        ("1d 12h 30m", Some(131_400)),
+        ("1mo", Some(2_629_800)),
+        ("2 Weeks", Some(1_209_600)),
+        ("-1", Some(-1)),
+        (" 5 ", Some(5)),
+        ("3153600000", Some(3_153_600_000)),
+        ("3153600001", None),
+        ("100years", None),
+        ("99999999999999999999y", None),
+        ("5q", None),
+        ("", None),
+        ("1h 30", None),
+        ("1 2h", None),
+        ("- 5", None),
+        ("--5", None),
+    ] {
+        assert_eq!(rt; str2sec(text), want);
+    }
+    assert_eq!(rt;
+        Seconds { least: 1 }.read(rt.alloc(), "0"),
+        refused(ConfKind::BadTime)
+    );
+    assert_eq!(rt; Span.read(rt.alloc(), "-1"), Ok(-1));
+    assert_eq!(rt; Span.read(rt.alloc(), "0s"), refused(ConfKind::BadTime));
+    assert_eq!(rt;
+        Jitter.read(rt.alloc(), "12d"),
+        refused(ConfKind::BadNumber)
+    );
+    assert_eq!(rt; Jitter.read(rt.alloc(), "x"), refused(ConfKind::BadTime));
+}
+
+#[test]
+fn reads_factors_and_zones(rt: HostRuntime) {
+    for (text, want) in [("1.5", 1_500), ("2", 2_000), ("0.001", 1)] {
+        assert_eq!(rt; Factor.read(rt.alloc(), text), Ok(want));
+    }
+    for text in ["0", "1.5000", "1.", ".5", "1.2.3", "1000.1", "-1"] {
+        assert_eq!(rt; Factor.read(rt.alloc(), text), refused(ConfKind::BadNumber));
+    }
+    for (text, want) in [
+        ("Z", 0),
+        ("UTC", 0),
+        ("UTC-0130", -5_400),
+        ("GMT+2359", 86_340),
+    ] {
+        assert_eq!(rt; Zone.read(rt.alloc(), text), Ok(want));
+    }
+    for text in ["", "z", "UTC+1", "GMT+2400", "GMT+0060", "UTC 0100"] {
+        assert_eq!(rt; Zone.read(rt.alloc(), text), refused(ConfKind::BadZone));
+    }
 }
 
 #[test]

@@ -1,8 +1,9 @@
 //! Time words: `600`, `10m`, `1d 12h 30m`, `-1`.
-ghost use Rattle.std.specs.Prelude.{◌≡◌, length, take_while};
+ghost use Rattle.std.specs.Prelude.{◌≡◌, ◌≤◌, ◌++◌, length, take_while, false, IsTrue};
+ghost use Rattle.std.specs.List.{list_all};
 ghost use Rattle.std.specs.Char.{is_ascii_digit, is_ascii_alphabetic};
 ghost use Rattle.ini_interp.specs.Lines.{is_blank};
-ghost use Rattle.jail_conf.specs.Times.{unit_seconds};
+ghost use Rattle.jail_conf.specs.Times.{unit_seconds, pieces, begins_with};
 
 use crate::words::{is_blank, is_one_of};
 
@@ -50,4 +51,31 @@ pub(crate) fn blanks_len(text: &[u8]) -> usize
     ensures { result ≡ length (take_while is_blank text.now) }
 {
     text.iter().take_while(|&&byte| is_blank(byte)).count()
+}
+
+/// The digits that the text begins with, and what stands behind them.
+pub(crate) fn cut_digits(text: &[u8]) -> (&[u8], &[u8])
+    ensures whole { text.now ≡ result.0.now ++ result.1.now }
+    ensures digits { IsTrue (list_all is_ascii_digit result.0.now) }
+    ensures ends { begins_with is_ascii_digit result.1.now ≡ false }
+{
+    text.split_at(digits_len(text))
+}
+
+/// The letters that the text begins with, and what stands behind them.
+pub(crate) fn cut_letters(text: &[u8]) -> (&[u8], &[u8])
+    ensures whole { text.now ≡ result.0.now ++ result.1.now }
+    ensures letters { IsTrue (list_all is_ascii_alphabetic result.0.now) }
+    ensures ends { begins_with is_ascii_alphabetic result.1.now ≡ false }
+{
+    text.split_at(letters_len(text))
+}
+
+/// The text without the blanks at its front.
+pub(crate) fn behind_blanks(text: &[u8]) -> &[u8]
+    ensures same { pieces result.now ≡ pieces text.now }
+    ensures front { begins_with is_blank result.now ≡ false }
+    ensures within { length result.now ≤ length text.now }
+{
+    text.split_at(blanks_len(text)).1
 }
