@@ -6,7 +6,8 @@ ghost use Rattle.f2b_base.specs.Addresses.{IsAddr};
 ghost use Rattle.f2b_base.specs.Limits.{kept_line_bytes};
 ghost use Rattle.f2b_model.specs.Lists.{AllOf, AreDistinct};
 ghost use Rattle.f2b_model.specs.Sound.{same_kind};
-ghost use Rattle.f2b_model.specs.Storable.{patterns_of, IsJailName, IsStorable, IsStorableAction, IsStorableDef, IsStorableInput, IsStorableRule, IsStorableWhat};
+ghost use Rattle.f2b_model.specs.Storable.{patterns_of, IsJailName, IsStorable, IsStorableAction, IsStorableDef, IsStorableInput, IsStorablePlace, IsStorableRule, IsStorableWhat};
+ghost use Rattle.f2b_model.specs.StorableViews.{IsStorableView};
 ghost use Rattle.jail_rooms.specs.Kept.{IsTaken};
 
 mod checks;
@@ -18,11 +19,12 @@ mod views;
 
 use crate::Core;
 use f2b_base::{
-    ActionDef, Addr, BanRule, DEFAULT_PURGE, DateSpec, Defs, Failure, Family, Input, JailDef,
-    NoMemory, Outcome, Place, Seq, Text, WatchDef, What,
+    ActionDef, Addr, BanRule, Bytes, DEFAULT_PURGE, DateSpec, Defs, Failure, Family, Input,
+    JailDef, NoMemory, Outcome, Place, Seq, Text, View, WatchDef, What,
 };
 use f2b_model::{Happening, LaneHappening, Told};
 use std::alloc::Global;
+use std::process::Abort;
 
 /// 192.0.2.7.
 const ADDR: Addr = Addr::V4(0xc000_0207);
@@ -33,6 +35,9 @@ const NEXT: Addr = Addr::V4(0xc000_0208);
 const JAIL: &str = "sshd";
 
 const PATH: &str = "/var/log/auth.log";
+
+/// The first bytes of the log.
+const HEAD: &[u8; 64] = b"Mar  2 00:00:00 host sshd[1]: Server listening on 0.0.0.0 port 2";
 
 /// The command that bans, where a test asks for no other.
 const ADD: &str = "add <ip>";
@@ -68,6 +73,16 @@ fn action(alloc: Global, family: Family, ban: &str, check: &str) -> Result<Actio
         unban: text(alloc, "del <ip>")?,
         check: text(alloc, check)?,
         timeout: 60,
+    })
+}
+
+/// So many bytes behind the first ones of the log.
+fn place(alloc: Global, behind: u32) -> Result<Place, NoMemory>
+    ensures { IfOk result IsStorablePlace }
+{
+    Ok(Place::Pos {
+        position: 64 + u64::from(behind),
+        head: Bytes::from_slice(alloc, HEAD)?,
     })
 }
 
@@ -158,7 +173,7 @@ fn configuration(alloc: Global, ban: &str, check: &str, maxmatches: u64) -> Resu
     configuration_of(alloc, definition)
 }
 
-/// The log was read, in which a failure of the address with this line was found.
+/// The log was read to a place, and a failure of the address with this line was found.
 fn reading(alloc: Global, addr: Addr, time: u32, line: &str) -> Result<What, NoMemory>
     requires addr { IsAddr addr }
     requires line { length line.now ≤ kept_line_bytes }
@@ -173,7 +188,7 @@ fn reading(alloc: Global, addr: Addr, time: u32, line: &str) -> Result<What, NoM
     Ok(What::Read {
         jail: jail(alloc)?,
         path: text(alloc, PATH)?,
-        place: Place::Tail,
+        place: place(alloc, time)?,
         found,
     })
 }
@@ -231,6 +246,58 @@ fn step(core: Core, secs: u32, what: What) -> Result<(Core, Told), NoMemory>
     ensures { IsStorable core → IfOk result (λ r. IsStorable r.0) }
 {
     core.take(&input(secs, what))
+}
+
+/// A core, and one that is made anew of the view of the two at times.
+#[derive(Drop)]
+struct Pair {
+    core: Core,
+    again: Core,
+}
+
+impl Pair {
+    /// Two cores before the first configuration.
+    fn empty(alloc: Global) -> Pair
+        ensures { IsStorable result.again }
+    {
+        Pair {
+            core: Core::empty(alloc),
+            again: Core::empty(alloc),
+        }
+    }
+
+    /// Both take an input, and tell the same.
+    fn take(self, rt: &impl Abort, input: &Input) -> Result<(Pair, Told), NoMemory>
+        requires { IsTaken input.now }
+        ensures { IsStorable self.again → IsStorableInput input.now → IfOk result (λ r. IsStorable r.0.again) }
+    {
+        let Pair { core, again } = self;
+        let (core, told) = core.take(input)?;
+        let (again, told_again) = again.take(input)?;
+        assert!(rt; told == told_again);
+        Ok((Pair { core, again }, told))
+    }
+
+    /// The view that both have.
+    fn view(&self, rt: &impl Abort) -> Result<View, NoMemory>
+        ensures { IsStorable self.now.again → IfOk result IsStorableView }
+    {
+        let view = self.again.view()?;
+        assert!(rt; self.core.view()? == view);
+        Ok(view)
+    }
+
+    /// Both have one view, of which the second is made anew.
+    fn made_anew(self, rt: &impl Abort, alloc: Global) -> Result<Pair, NoMemory>
+        requires { IsStorable self.again }
+        ensures { IfOk result (λ pair. IsStorable pair.again) }
+    {
+        let view = self.view(rt)?;
+        Ok(Pair {
+            core: self.core,
+            again: Core::of(alloc, &view)?,
+        })
+    }
 }
 
 /// The jail has its action, with this check, the address is banned, and all jobs are done.

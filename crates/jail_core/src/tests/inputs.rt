@@ -1,22 +1,19 @@
 //! A source of pseudo-random inputs of all kinds, for two jails and lanes of both families with checks.
-ghost use Rattle.std.specs.Prelude.{◌≡◌, ◌≢◌, ◌≤◌, ◌<◌, length, IfOk};
+ghost use Rattle.std.specs.Prelude.{◌≡◌, ◌+◌, ◌≤◌, ◌<◌, false, bytes_eq, codes, length, IfOk};
 ghost use Rattle.f2b_base.specs.Addresses.{IsAddr};
 ghost use Rattle.f2b_base.specs.Limits.{last_moment};
 ghost use Rattle.f2b_model.specs.Lists.{AllOf, AreDistinct};
 ghost use Rattle.f2b_model.specs.Sound.{same_kind};
-ghost use Rattle.f2b_model.specs.Storable.{IsJailName, IsStorableAction, IsStorableFailure, IsStorableInput, IsStorableOutcome, IsStorablePlace, IsStorableWhat};
+ghost use Rattle.f2b_model.specs.Storable.{patterns_of, IsJailName, IsStorableAction, IsStorableDef, IsStorableFailure, IsStorableInput, IsStorableOutcome, IsStorableWhat};
 ghost use Rattle.jail_rooms.specs.Kept.{IsTaken};
 
 use crate::Core;
-use crate::tests::{ADD, PATH, action, definition, text};
+use crate::tests::{ADD, PATH, action, configuration_of, definition, place, text};
 use f2b_base::{
-    ActionDef, Addr, Bytes, Cidr, DEFAULT_PURGE, Defs, Failure, Family, Input, LAST_MOMENT,
-    NoMemory, Outcome, Place, Seq, Text, What,
+    ActionDef, Addr, Cidr, DEFAULT_PURGE, Defs, Failure, Family, Input, JailDef, LAST_MOMENT,
+    NoMemory, Outcome, Seq, Text, What,
 };
 use std::alloc::Global;
-
-/// The first bytes of the logs.
-const HEAD: &[u8; 64] = b"Mar  2 00:00:00 host sshd[1]: Server listening on 0.0.0.0 port 2";
 
 const CHECK: &str = "test -e /x";
 
@@ -69,43 +66,65 @@ fn two_families(alloc: Global, ban: &str) -> Result<Seq<ActionDef>, NoMemory>
 }
 
 /// One action for both families.
-fn one_action(alloc: Global, ban: &str) -> Result<Seq<ActionDef>, NoMemory>
+fn one_action(alloc: Global) -> Result<Seq<ActionDef>, NoMemory>
     ensures storable { IfOk result (AllOf IsStorableAction) }
     ensures kinds { IfOk result (AreDistinct same_kind) }
     ensures few { IfOk result (λ actions. length actions ≤ 32) }
 {
     let mut actions = Seq::new(alloc);
-    actions.push(action(alloc, Family::Both, ban, CHECK)?)?;
+    actions.push(action(alloc, Family::Both, ADD, CHECK)?)?;
     Ok(actions)
 }
 
-/// The jail `sshd`, and `web` too or not.
-fn jails(alloc: Global, ban: &str, both: bool) -> Result<What, NoMemory>
+/// The jail `sshd`, which shows lines.
+fn sshd(alloc: Global, ban: &str) -> Result<JailDef, NoMemory>
+    ensures storable { IfOk result IsStorableDef }
+    ensures name { IfOk result (λ d. d.name ≡ codes "sshd") }
+    ensures patterns { IfOk result (λ d. patterns_of d ≡ 0) }
+{
+    let name = Text::from_str(alloc, "sshd")?;
+    definition(alloc, name, two_families(alloc, ban)?, 5)
+}
+
+/// The jail `web`, which shows none.
+fn web(alloc: Global) -> Result<JailDef, NoMemory>
+    ensures storable { IfOk result IsStorableDef }
+    ensures name { IfOk result (λ d. d.name ≡ codes "web") }
+    ensures patterns { IfOk result (λ d. patterns_of d ≡ 0) }
+{
+    let name = Text::from_str(alloc, "web")?;
+    definition(alloc, name, one_action(alloc)?, 0)
+}
+
+/// A configuration of two jails is taken.
+fn configuration_of_two(alloc: Global, one: JailDef, other: JailDef) -> Result<What, NoMemory>
+    requires one { IsStorableDef one }
+    requires other { IsStorableDef other }
+    requires names { bytes_eq one.name other.name ≡ false }
+    requires patterns { patterns_of one + patterns_of other ≡ 0 }
     ensures { IfOk result IsStorableWhat }
 {
-    let sshd = definition(
-        alloc,
-        Text::from_str(alloc, "sshd")?,
-        two_families(alloc, ban)?,
-        5,
-    )?;
-    let web = definition(
-        alloc,
-        Text::from_str(alloc, "web")?,
-        one_action(alloc, ADD)?,
-        0,
-    )?;
     let mut jails = Seq::new(alloc);
-    jails.push(sshd)?;
-    if both {
-        jails.push(web)?;
-    }
+    jails.push(one)?;
+    jails.push(other)?;
     Ok(What::Config {
         defs: Defs {
             purge: DEFAULT_PURGE,
             jails,
         },
     })
+}
+
+/// A configuration of `sshd` is taken, and of `web` too or not.
+fn jails(alloc: Global, ban: &str, both: bool) -> Result<What, NoMemory>
+    ensures { IfOk result IsStorableWhat }
+{
+    let sshd = sshd(alloc, ban)?;
+    if both {
+        configuration_of_two(alloc, sshd, web(alloc)?)
+    } else {
+        configuration_of(alloc, sshd)
+    }
 }
 
 /// The job that may start.
@@ -163,15 +182,6 @@ impl Source {
         }
     }
 
-    fn place(&mut self) -> Result<Place, NoMemory>
-        ensures { IfOk result IsStorablePlace }
-    {
-        Ok(Place::Pos {
-            position: 64 + self.below(1000),
-            head: Bytes::from_slice(self.alloc, HEAD)?,
-        })
-    }
-
     /// A failure of an address, at most ten minutes old or so.
     fn failure(&mut self, secs: u64) -> Result<Failure, NoMemory>
         requires { secs ≤ last_moment }
@@ -194,7 +204,7 @@ impl Source {
         Ok(What::Read {
             jail: self.jail()?,
             path: text(self.alloc, PATH)?,
-            place: self.place()?,
+            place: place(self.alloc, self.below(1000) as u32)?,
             found,
         })
     }

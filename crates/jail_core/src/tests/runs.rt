@@ -3,8 +3,9 @@ ghost use Rattle.std.specs.Prelude.{IfOk};
 ghost use Rattle.f2b_model.specs.Storable.{IsStorable};
 
 use crate::Core;
+use crate::tests::Pair;
 use crate::tests::inputs::Source;
-use f2b_base::{Addr, Ban, Job, JobKind, LaneId, NoMemory, Plain, Seq, View};
+use f2b_base::{Addr, Ban, Job, JobKind, LaneId, NoMemory, Plain, Seq};
 use f2b_model::{Happening, LaneHappening, Told};
 use std::alloc::Global;
 use std::process::Abort;
@@ -111,8 +112,9 @@ impl Seen {
         Ok(())
     }
 
-    /// What an input told, and the view after it.
-    fn see(&mut self, rt: &impl Abort, told: &Told, view: &View) -> Result<(), NoMemory> {
+    /// What an input told, and the core after it.
+    fn see(&mut self, rt: &impl Abort, told: &Told, core: &Core) -> Result<(), NoMemory> {
+        let view = core.view()?;
         for jail in view.jails.as_slice() {
             expect_once_each(rt, jail.bans.as_slice());
         }
@@ -125,41 +127,43 @@ impl Seen {
     }
 }
 
-/// A core that is made of the view of another one, which is that of a third.
-fn made_again(rt: &impl Abort, alloc: Global, core: &Core, again: &Core) -> Result<Core, NoMemory>
-    requires { IsStorable again.now }
-    ensures { IfOk result IsStorable }
+/// An input is taken, and seen.
+fn step(rt: &impl Abort, pair: Pair, source: &mut Source, seen: &mut Seen) -> Result<Pair, NoMemory>
+    ensures { IsStorable pair.again → IfOk result (λ next. IsStorable next.again) }
 {
-    let view = again.view()?;
-    assert!(rt; core.view()? == view);
-    Core::of(alloc, &view)
+    let input = source.next_input(&pair.core)?;
+    let (pair, told) = pair.take(rt, &input)?;
+    seen.see(rt, &told, &pair.core)?;
+    Ok(pair)
 }
 
-/// So many inputs are taken, by one core, and by one that is made anew at each 50th.
-fn run(rt: &impl Abort, alloc: Global, mut source: Source, inputs: u32) -> Result<Seen, NoMemory> {
-    let mut seen = Seen::new(alloc);
-    let mut core = Core::empty(alloc);
-    let mut again = Core::empty(alloc);
-    for number in 0..inputs {
-        let input = source.next_input(&core)?;
-        let (next, told) = core.take(&input)?;
-        let (next_again, told_again) = again.take(&input)?;
-        assert!(rt; told == told_again, "{number}");
-        core = next;
-        again = if number % 50 == 0 {
-            made_again(rt, alloc, &core, &next_again)?
-        } else {
-            next_again
-        };
-        seen.see(rt, &told, &core.view()?)?;
+/// Fifty inputs are taken.
+fn fifty_steps(
+    rt: &impl Abort,
+    pair: Pair,
+    source: &mut Source,
+    seen: &mut Seen,
+) -> Result<Pair, NoMemory>
+    requires { IsStorable pair.again }
+    ensures { IfOk result (λ next. IsStorable next.again) }
+{
+    let mut pair = pair;
+    for _ in 0..50 {
+        pair = step(rt, pair, source, seen)?;
     }
-    Ok(seen)
+    Ok(pair)
 }
 
 #[test]
 fn two_thousand_inputs_keep_the_laws(rt: HostRuntime) -> Result<(), Fail> {
     let alloc = rt.alloc();
-    let seen = run(&rt, alloc, Source::new(alloc, 1, 1_700_000_000), 2000)?;
-    println!(rt; "{} {} {}", seen.begun, seen.restarts, seen.next_job)?;
+    let mut source = Source::new(alloc, 1, 1_700_000_000);
+    let mut seen = Seen::new(alloc);
+    let mut pair = Pair::empty(alloc);
+    for _ in 0..40 {
+        pair = fifty_steps(&rt, pair, &mut source, &mut seen)?;
+        pair = pair.made_anew(&rt, alloc)?;
+    }
+    assert!(rt; seen.begun > 100 && seen.restarts > 15 && seen.next_job > 500);
     Ok(())
 }

@@ -1,36 +1,21 @@
 //! What is kept over a stop, and a server that goes on from it.
 ghost use Rattle.std.specs.Prelude.{IfOk};
-ghost use Rattle.f2b_model.specs.Lists.{AllOf};
-ghost use Rattle.f2b_model.specs.Storable.{IsStorable, IsStorableInput, IsStorableWhat};
+ghost use Rattle.f2b_model.specs.Storable.{IsStorable, IsStorableWhat};
+ghost use Rattle.f2b_model.specs.StorableViews.{IsStorableView};
 ghost use Rattle.jail_rooms.specs.Kept.{IsTaken};
 
 use crate::tests::{
-    ADDR, JAIL, NEXT, PATH, banning, check_failed, configuration, ended, input, jail, reading,
-    step, text,
+    ADDR, JAIL, NEXT, Pair, banning, check_failed, configuration, ended, input, jail, place,
+    reading, step, text,
 };
 use crate::{Core, view_after};
-use f2b_base::{Addr, Bytes, Input, NoMemory, Place, Seq, What};
+use f2b_base::{Addr, Input, NoMemory, View, What};
 use std::alloc::Global;
 use std::process::Abort;
 use std::test::Fail;
 
 /// 2001:db8::1.
 const OTHER: Addr = Addr::V6(0x2001_0db8_0000_0000_0000_0000_0000_0001);
-
-/// A log was followed to byte 4, and nothing was found.
-fn followed(alloc: Global) -> Result<What, NoMemory>
-    ensures { IfOk result IsStorableWhat }
-{
-    Ok(What::Read {
-        jail: jail(alloc)?,
-        path: text(alloc, PATH)?,
-        place: Place::Pos {
-            position: 4,
-            head: Bytes::from_slice(alloc, b"a\nb\n")?,
-        },
-        found: Seq::new(alloc),
-    })
-}
 
 /// All bans end.
 fn unbanning() -> What
@@ -68,40 +53,53 @@ fn with_bans(alloc: Global) -> Result<Core, NoMemory>
     Ok(core)
 }
 
-/// Two failures with lines are open besides, the log was followed to a place, and the jail is idle.
+/// Two failures with lines are open besides, the log was read to a place, and the jail is idle.
 fn with_all(alloc: Global) -> Result<Core, NoMemory>
     ensures { IfOk result IsStorable }
 {
     let core = with_bans(alloc)?;
     let (core, _) = step(core, 1003, reading(alloc, OTHER, 1003, "sshd[811]: a")?)?;
     let (core, _) = step(core, 1004, reading(alloc, OTHER, 1004, "sshd[812]: b")?)?;
-    let (core, _) = step(core, 1004, followed(alloc)?)?;
     let (core, _) = step(core, 1005, idling(alloc)?)?;
     Ok(core)
 }
 
-/// What happens next: a third failure fills its address, the check of the job fails, and the ban from before ends.
-fn what_comes(alloc: Global) -> Result<[Input; 3], NoMemory>
-    ensures taken { IfOk result (AllOf IsTaken) }
-    ensures storable { IfOk result (AllOf IsStorableInput) }
+/// What happens first then: a third failure fills its address.
+fn third_failure(alloc: Global) -> Result<Input, NoMemory>
+    ensures { IfOk result IsTaken }
 {
     let found = reading(alloc, OTHER, 1005, "sshd[813]: c")?;
-    Ok([
-        input(1005, found),
-        input(1005, check_failed(3)),
-        input(1604, What::Tick),
-    ])
+    Ok(input(1005, found))
 }
 
-/// Both take it: they tell the same, and have one view.
-fn both(rt: &impl Abort, core: Core, again: Core, input: &Input) -> Result<(Core, Core), NoMemory>
-    requires { IsTaken input.now }
+/// And then: the check of the job fails.
+fn failed_check() -> Input
+    ensures { IsTaken result }
 {
-    let (core, told) = core.take(input)?;
-    let (again, told_again) = again.take(input)?;
-    assert!(rt; told == told_again);
-    assert!(rt; core.view()? == again.view()?);
-    Ok((core, again))
+    input(1005, check_failed(3))
+}
+
+/// And then: the ban from before ends.
+fn later() -> Input
+    ensures { IsTaken result }
+{
+    input(1604, What::Tick)
+}
+
+/// Both cores do alike what comes.
+fn both_after(rt: &impl Abort, alloc: Global, pair: Pair) -> Result<Pair, NoMemory> {
+    let (pair, _) = pair.take(rt, &third_failure(alloc)?)?;
+    let (pair, _) = pair.take(rt, &failed_check())?;
+    let (pair, _) = pair.take(rt, &later())?;
+    Ok(pair)
+}
+
+/// The view after what comes, from one before it.
+fn kept_after(alloc: Global, view: &View) -> Result<View, NoMemory>
+    requires { IsStorableView view.now }
+{
+    let inputs = [third_failure(alloc)?, failed_check(), later()];
+    view_after(alloc, view, &inputs)
 }
 
 #[test]
@@ -122,11 +120,9 @@ fn a_core_that_is_made_of_a_view_goes_on_alike(rt: HostRuntime) -> Result<(), Fa
     );
 
     let again = Core::of(alloc, &view)?;
-    assert!(rt; again.view()? == view);
-    let [found, failed, later] = what_comes(alloc)?;
-    let (core, again) = both(&rt, core, again, &found)?;
-    let (core, again) = both(&rt, core, again, &failed)?;
-    let (core, _) = both(&rt, core, again, &later)?;
-    assert!(rt; view_after(alloc, &view, &what_comes(alloc)?)? == core.view()?);
+    let pair = Pair { core, again };
+    assert!(rt; pair.view(&rt)? == view);
+    let pair = both_after(&rt, alloc, pair)?;
+    assert!(rt; pair.view(&rt)? == kept_after(alloc, &view)?);
     Ok(())
 }
