@@ -1,12 +1,12 @@
 //! What the files of a base come to, with the items that a jail, a filter or an action adds.
-ghost use Rattle.std.specs.Prelude.{◌≡◌, OnOk, codes};
-ghost use Rattle.jail_conf.specs.Sources.{bases_of, sections_of, with_items, names_for, version};
+ghost use Rattle.std.specs.Prelude.{◌≡◌, IfOk, OnOk, codes};
+ghost use Rattle.jail_conf.specs.Sources.{bases_of, section_names, sections_of, with_items, names_for, version};
 ghost use Rattle.jail_conf.specs.Then.{Gives};
 ghost use Rattle.jail_conf.specs.Told.{IsMergeFail};
 
 use crate::conf_error::{ConfError, ConfFail, ConfKind};
 use crate::fail::Fail;
-use f2b_base::{NoMemory, Text, Tree};
+use f2b_base::{NoMemory, Seq, Text, Tree};
 use ini_interp::{MergeError, Sections, merge};
 use std::alloc::Global;
 
@@ -52,4 +52,28 @@ pub(crate) fn put_names(sections: &mut Sections, jail: &str) -> Result<(), NoMem
     sections.put("]name", "name", jail)?;
     sections.put("]name", "__name__", jail)?;
     put_version(sections)
+}
+
+/// Whether the tree has a file of this path.
+pub(crate) fn has_file(tree: &Tree, path: &str) -> bool
+    ensures { result ≡ (bases_of tree.now).has_file path.now }
+{
+    tree.files
+        .as_slice()
+        .iter()
+        .any(|file| file.path.as_str() == path)
+}
+
+/// The names of the sections, in order.
+pub(crate) fn section_names(alloc: Global, sections: &Sections) -> Result<Seq<Text>, NoMemory>
+    ensures { IfOk result (λ names. names ≡ section_names sections.now) }
+{
+    let mut names = Seq::new(alloc);
+    'places: for index in 0..usize::MAX {
+        let Some(name) = sections.section(index) else {
+            return Ok(names);
+        };
+        names.push(Text::from_str(alloc, name)?)?;
+    }
+    Err(NoMemory)
 }
