@@ -1,7 +1,6 @@
 -- The files of a base, one after the other.
 use Rattle.std.proofs.Common.{◌≡◌, ℕ, ◌+◌, List, [], ◌∷◌, ◌++◌, drop, slice_get, append-nil, Option, None, Some, Result, Ok, Err, refl, sym, ap, ◌∙◌}
 use Rattle.std.specs.List.{fold}
-use Rattle.f2b_base.specs.declared.outside.Tree.{Tree}
 use Rattle.ini_interp.specs.declared.merge_error.MergeError.{MergeError}
 use Rattle.ini_interp.specs.declared.merge_error.MergeError.TheVariants.{NoMemory}
 use Rattle.std.specs.Result.{IfOk, IfErr}
@@ -9,7 +8,7 @@ use Rattle.std.proofs.Common.{◌≢◌}
 use Rattle.ini_interp.specs.Frames.{IsKept}
 use Rattle.ini_interp.specs.InTurn.{followed, in_turn}
 use Rattle.ini_interp.specs.Joins.{joined}
-use Rattle.ini_interp.specs.Merges.{Files, Reading, files_of, all_read, base_file, base_files, joined_all, merged}
+use Rattle.ini_interp.specs.Merges.{Files, Reading, all_read, base_file, base_files, joined_all, merged_in}
 use Rattle.ini_interp.specs.Sections.{Sections}
 use Rattle.ini_interp.proofs.FramesLemmas.{kept_on, kept_fault}
 use Rattle.ini_interp.proofs.PlacesLemmas.{drop_at_place}
@@ -30,30 +29,29 @@ module _ (give : List ℕ → Reading) (whole : Reading) (paths : List (List ℕ
   turn_fault fault faulty = kept_fault whole (in_turn give (drop index paths)) old between fault kept
       (ap (in_turn give) (drop_at_place paths index path there) ∙ ap (λ (r : Reading). followed r (in_turn give (drop (index + 1) paths))) faulty)
 
-pub merged_is : (tree : Tree) (base : List ℕ) (files : Files) (sections : Sections) → files ≡ files_of tree →
-    IsKept (in_turn (base_file files) (base_files files base)) (Ok []) [] sections → merged tree base ≡ Ok sections
-unfolding merged all_read
-merged_is tree base files sections is kept =
-    ap (λ (fs : Files). joined_all (all_read fs base)) (sym is)
-    ∙ ap joined_all (kept.pending ∙ followed-end {E = MergeError} (Ok kept.done)) ∙ ap (λ (s : Sections). Ok s) (sym kept.merged)
+pub merged_is : (base : List ℕ) (files : Files) (sections : Sections) →
+    IsKept (in_turn (base_file files) (base_files files base)) (Ok []) [] sections → merged_in files base ≡ Ok sections
+unfolding merged_in all_read
+merged_is base files sections kept =
+    ap joined_all (kept.pending ∙ followed-end {E = MergeError} (Ok kept.done)) ∙ ap (λ (s : Sections). Ok s) (sym kept.merged)
 
-pub merged_fault : (tree : Tree) (base : List ℕ) (files : Files) (fault : MergeError) → files ≡ files_of tree →
-    in_turn (base_file files) (base_files files base) ≡ Err fault → merged tree base ≡ Err fault
-unfolding merged all_read
-merged_fault tree base files fault is faulty = ap (λ (fs : Files). joined_all (all_read fs base)) (sym is) ∙ ap joined_all faulty
+pub merged_fault : (base : List ℕ) (files : Files) (fault : MergeError) →
+    in_turn (base_file files) (base_files files base) ≡ Err fault → merged_in files base ≡ Err fault
+unfolding merged_in all_read
+merged_fault base files fault faulty = ap joined_all faulty
 
 -- what is answered
-pub merged_answer : (tree : Tree) (base : List ℕ) (files : Files) (result : Result Sections MergeError) → files ≡ files_of tree →
+pub merged_answer : (base : List ℕ) (files : Files) (result : Result Sections MergeError) →
     IfOk result (λ (sections : Sections). IsKept (in_turn (base_file files) (base_files files base)) (Ok []) [] sections) →
-    IfOk result (λ (sections : Sections). merged tree base ≡ Ok sections)
-merged_answer tree base files (Ok sections) is kept = merged_is tree base files sections is kept
-merged_answer tree base files (Err fault) is kept = tt
+    IfOk result (λ (sections : Sections). merged_in files base ≡ Ok sections)
+merged_answer base files (Ok sections) kept = merged_is base files sections kept
+merged_answer base files (Err fault) kept = tt
 
-pub merged_failure : (tree : Tree) (base : List ℕ) (files : Files) (result : Result Sections MergeError) → files ≡ files_of tree →
+pub merged_failure : (base : List ℕ) (files : Files) (result : Result Sections MergeError) →
     IfErr result (λ (fault : MergeError). fault ≢ NoMemory → in_turn (base_file files) (base_files files base) ≡ Err fault) →
-    IfErr result (λ (fault : MergeError). fault ≢ NoMemory → merged tree base ≡ Err fault)
-merged_failure tree base files (Ok sections) is faulty = tt
-merged_failure tree base files (Err fault) is faulty = λ memory. merged_fault tree base files fault is (faulty memory)
+    IfErr result (λ (fault : MergeError). fault ≢ NoMemory → merged_in files base ≡ Err fault)
+merged_failure base files (Ok sections) faulty = tt
+merged_failure base files (Err fault) faulty = λ memory. merged_fault base files fault (faulty memory)
 
 -- before the first file
 pub base_starts : (files : Files) (base : List ℕ) (paths items : List (List ℕ)) (new : Sections) → items ≡ paths → paths ≡ base_files files base → new ≡ [] →

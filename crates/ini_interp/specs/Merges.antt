@@ -141,6 +141,9 @@ abbrev pub joined_all : Reading → Result Sections MergeError
 joined_all (Err error) = Err error
 joined_all (Ok files) = Ok (fold joined [] files)
 
--- what the files of a base come to, or the first fault
-unfoldable pub merged : Tree → List ℕ → Result Sections MergeError
-merged tree base = joined_all (all_read (files_of tree) base)
+-- what the files of a base come to among these, or the first fault
+unfoldable pub merged_in : Files → List ℕ → Result Sections MergeError
+merged_in files base = joined_all (all_read files base)
+
+abbrev pub merged : Tree → List ℕ → Result Sections MergeError
+merged tree base = merged_in (files_of tree) base

@@ -1,5 +1,5 @@
 //! The files of a tree under their paths.
-ghost use Rattle.std.specs.Prelude.{◌≡◌, ◌++◌, IfOk, OnOk, option_copied};
+ghost use Rattle.std.specs.Prelude.{◌≡◌, ◌++◌, IfOk, OnOk, is_some, option_copied};
 ghost use Rattle.ini_interp.specs.Merges.{files_of, with_file, paths_in};
 ghost use Rattle.ini_interp.specs.Sections.{value_of};
 
@@ -11,7 +11,7 @@ use std::marker::Model;
 
 /// The contents of files under their paths, in byte order of the paths.
 #[derive(Drop)]
-pub(crate) struct FileTable<'a> {
+pub struct FileTable<'a> {
     contents: BTreeMap<String, &'a [u8]>,
 }
 
@@ -51,15 +51,22 @@ impl<'a> FileTable<'a> {
         Ok(())
     }
 
+    /// Whether there is a file of this path. Takes no memory.
+    pub fn has(&self, path: &str) -> bool
+        ensures { result ≡ is_some (value_of path.now self.now) }
+    {
+        self.contents.contains_key(path)
+    }
+
     /// What the file of this path holds, or `None` where there is none.
-    pub fn get(&self, path: &str) -> Option<&'a [u8]>
+    pub(crate) fn get(&self, path: &str) -> Option<&'a [u8]>
         ensures { option_copied result ≡ value_of path.now self.now }
     {
         self.contents.get(path).copied()
     }
 
     /// Adds the paths of the files that stand in a directory, which is written with its slash, and end so, in byte order.
-    pub fn push_paths(
+    pub(crate) fn push_paths(
         &self,
         alloc: Global,
         directory: &str,

@@ -31,8 +31,9 @@ mod values;
 
 pub use error::IniError;
 pub use file::read_file;
+pub use file_table::FileTable;
 pub use merge_error::MergeError;
-pub use merges::merge;
+pub use merges::{merge, merge_in};
 pub use sections::Sections;
 pub use value_error::InterpError;
 pub use values::value;

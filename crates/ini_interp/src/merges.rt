@@ -2,7 +2,7 @@
 ghost use Rattle.std.specs.Prelude.{◌≡◌, ◌≢◌, ◌++◌, [], Ok, Err, IfOk, IfErr, OnOk};
 ghost use Rattle.ini_interp.specs.Frames.{IsKept};
 ghost use Rattle.ini_interp.specs.InTurn.{in_turn};
-ghost use Rattle.ini_interp.specs.Merges.{base_file, base_files, files_ending, merged};
+ghost use Rattle.ini_interp.specs.Merges.{base_file, base_files, files_ending, merged, merged_in};
 
 use crate::file_table::FileTable;
 use crate::frames::read_with_includes;
@@ -82,11 +82,21 @@ fn read_base(alloc: Global, files: &FileTable<'_>, base: &str) -> Result<Section
     Ok(sections)
 }
 
-/// What the files of a base come to.
+/// What the files of a base come to among the files of a table, which serves any number of bases.
 ///
 /// For the bases `jail` and `fail2ban` these are read: `BASE.conf`, the files `BASE.d/*.conf` in byte order, `BASE.local`, and the
 /// files `BASE.d/*.local` in byte order; for any other base, as `filter.d/sshd`, `BASE.conf` and `BASE.local`. Files that are not
 /// there are skipped; where none is there, the sections are empty. A file reads what its section [INCLUDES] names as well.
+pub fn merge_in(alloc: Global, files: &FileTable<'_>, base: &str) -> Result<Sections, MergeError>
+    ensures ok { IfOk result (λ sections. merged_in files.now base.now ≡ Ok sections) }
+
+    // The first fault in the order of reading, or want of memory.
+    ensures fault { IfErr result (λ fault. fault ≢ MergeError.NoMemory → merged_in files.now base.now ≡ Err fault) }
+{
+    read_base(alloc, files, base)
+}
+
+/// What the files of a base come to in a tree, as `merge_in` says of the table of its files.
 pub fn merge(alloc: Global, tree: &Tree, base: &str) -> Result<Sections, MergeError>
     ensures ok { IfOk result (λ sections. merged tree.now base.now ≡ Ok sections) }
 
@@ -94,5 +104,5 @@ pub fn merge(alloc: Global, tree: &Tree, base: &str) -> Result<Sections, MergeEr
     ensures fault { IfErr result (λ fault. fault ≢ MergeError.NoMemory → merged tree.now base.now ≡ Err fault) }
 {
     let files = FileTable::new(alloc, tree)?;
-    read_base(alloc, &files, base)
+    merge_in(alloc, &files, base)
 }

@@ -1,8 +1,0 @@
-use Rattle.ini_interp.proofs.MergesLemmas.{merged_answer, merged_failure}
-use Rattle.ini_interp.proofs.merges.merge.Goals as goal
-
-pub returns-clause-ok : goal.returns-clause-ok
-returns-clause-ok c = merged_answer c.args.tree.now c.args.base.now c.in_ok-files.files c.read_base.result c.in_ok-files.ensures c.read_base.ensures.ok
-
-pub returns-clause-fault : goal.returns-clause-fault
-returns-clause-fault c = merged_failure c.args.tree.now c.args.base.now c.in_ok-files.files c.read_base.result c.in_ok-files.ensures c.read_base.ensures.fault
