@@ -1,5 +1,5 @@
 -- Faults of values, as what is told of an item.
-use Rattle.std.proofs.Common.{◌≡◌, ◌≢◌, List, ℕ, Bool, cond, sym, subst, Option, None, Some, Result, Ok, Err, true, false, refl}
+use Rattle.std.proofs.Common.{◌≡◌, ◌≢◌, List, ℕ, Bool, cond, sym, ap, ◌∙◌, subst, Option, None, Some, Result, Ok, Err, true, false, refl}
 use Rattle.ini_interp.specs.declared.value_error.InterpError.{InterpError}
 use Rattle.ini_interp.specs.declared.value_error.InterpError.TheVariants as interp
 use Rattle.tag_subst.specs.declared.tag_error.TagError.{TagError}
@@ -13,7 +13,7 @@ use Rattle.jail_conf.specs.declared.source.Source.{Source}
 use Rattle.jail_conf.specs.Fails.{interp_fail, tag_fail}
 use Rattle.jail_conf.specs.Sources.{with_tags, or_tag_kind, or_told}
 use Rattle.jail_conf.specs.Then.{◌>>=◌, ◌>>◌, Gives}
-use Rattle.jail_conf.specs.Told.{IsTold}
+use Rattle.jail_conf.specs.Told.{IsRefusal, IsTold}
 
 -- ---- the text of an item
 
@@ -84,3 +84,13 @@ first_is_there {A = A} {E = E} defined next value result is given = subst (λ (f
 pub first_is : {A B E : Type 0} (defined : Result A E) (next : A → Result B E) (value : A) (result : Result B E) →
     defined ≡ Ok value → next value ≡ result → (defined >>= next) ≡ result
 first_is defined next value result is given = rw is given
+
+-- a refusal that is told is the one that is defined
+pub refusal_gives : {A : Type 0} (defined : Result A ConfError) (error : ConfError) (result : Fail ConfError) → IsRefusal error result → defined ≡ Err error → Gives defined (Err result)
+refusal_gives defined error (Refused told) same is = is ∙ ap Err (sym same)
+refusal_gives defined error NoMemory same is = tt
+
+-- behind what is there the rest decides, also where it is looked at for its refusal alone
+pub first_is_fine : {A B E : Type 0} (defined : Result A E) (next : Result B E) (value : A) (result : Result B (Fail E)) →
+    defined ≡ Ok value → Gives next result → Gives (defined >> next) result
+first_is_fine {A = A} {E = E} defined next value result is given = subst (λ (first : Result A E). Gives (first >> next) result) (sym is) given

@@ -1,8 +1,13 @@
 pub mod EachLemmas
 pub mod FaultLemmas
+pub mod FewLemmas
+pub mod GoodLemmas
 mod ItemRows
+pub mod ListedLemmas
 pub mod NumberLemmas
+pub mod OptionLemmas
 pub mod PartLemmas
+pub mod PlaceLemmas
 pub mod RunLemmas
 pub mod SecondLemmas
 pub mod TermLemmas

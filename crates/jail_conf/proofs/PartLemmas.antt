@@ -1,5 +1,5 @@
 -- The parts of a text round the bytes that divide it.
-use Rattle.std.proofs.Common.{◌≡◌, ℕ, ◌+◌, ◌<◌, Bool, true, false, ◌==◌, ◌||◌, ◌&&◌, nat_lt, List, [], ◌∷◌, length, get_or, take, drop, Option, None, Some, ap, ◌∙◌, refl, arith}
+use Rattle.std.proofs.Common.{◌≡◌, ℕ, zero, suc, ◌+◌, ◌<◌, ◌≤◌, not, ◌++◌, Bool, true, false, ◌==◌, ◌||◌, ◌&&◌, nat_lt, List, [], ◌∷◌, length, get_or, take, drop, Option, None, Some, ap, ◌∙◌, refl, arith}
 use Rattle.std.specs.List.{slice_split, list_all, position_or_len}
 use Rattle.std.proofs.lemmas.Bool.Decides.{nat_tests}
 use Rattle.std.proofs.lemmas.List.Elements.{All-from_get_or}
@@ -35,3 +35,27 @@ ascii_among (one ∷ bytes) byte all here = ascii_step one byte (is_among_bytes 
 abbrev pub left_of : Option (List ℕ) → ℕ
 left_of None = 0
 left_of (Some rest) = length rest + 1
+
+-- ---- a text that is cut at a byte
+
+-- before it none of the bytes passes
+pub none_in_front : (p : ℕ → Bool) (text : List ℕ) (place : ℕ) → place ≤ length text → ((k : ℕ) → k < place → p (get_or text k 0) ≡ false) → list_all (λ byte. not (p byte)) (take place text) ≡ true
+none_in_front p text zero within none = refl
+none_in_front p [] (suc place) within none = absurd (omega arith)
+none_in_front p (byte ∷ text) (suc place) within none =
+    let first : p byte ≡ false = none 0 (omega arith) in
+    rw first (none_in_front p text place (omega arith) (λ k below. none (suc k) (omega arith)))
+
+pub none_at_all : (p : ℕ → Bool) (text : List ℕ) → ((k : ℕ) → k < length text → p (get_or text k 0) ≡ false) → list_all (λ byte. not (p byte)) text ≡ true
+none_at_all p [] none = refl
+none_at_all p (byte ∷ text) none =
+    let first : p byte ≡ false = none 0 (omega arith) in
+    rw first (none_at_all p text (λ k below. none (suc k) (omega arith)))
+
+-- what stands before it, it, and what stands behind it
+pub whole_at : (text : List ℕ) (place : ℕ) → place < length text → text ≡ take place text ++ get_or text place 0 ∷ drop (place + 1) text
+whole_at [] place within = absurd (omega arith)
+whole_at (byte ∷ text) zero within = refl
+whole_at (byte ∷ text) (suc place) within =
+    let next : suc (place + 1) ≡ suc place + 1 = omega arith in
+    ap (λ rest. byte ∷ rest) (whole_at text place (omega arith)) ∙ ap (λ n. byte ∷ take place text ++ get_or text place 0 ∷ drop n (byte ∷ text)) next

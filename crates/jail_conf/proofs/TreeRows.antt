@@ -15,7 +15,7 @@ use Rattle.ini_interp.specs.Files.{file_of, meaning_of}
 use Rattle.ini_interp.specs.Joins.{joined}
 use Rattle.ini_interp.specs.Known.{known_replaced}
 use Rattle.ini_interp.specs.Lines.{trimmed_start, trimmed_end, opened_by, item_of, content_form, form_of}
-use Rattle.ini_interp.specs.Merges.{files_of, read_with, all_read, merged}
+use Rattle.ini_interp.specs.Merges.{files_of, read_with, all_read, merged_in}
 use Rattle.ini_interp.specs.References.{referred, percent_piece, piece_at, pieces_from}
 use Rattle.ini_interp.specs.Sections.{items_of, raw, opened, with_raw}
 use Rattle.ini_interp.specs.Values.{replaced}
@@ -97,25 +97,25 @@ of_jails field (Ok settings) = Ok (map field settings.defs.jails)
 of_jails field (Err refusal) = Err refusal
 
 pub three_failures : of_jails (λ jail. jail.maxretry) (conf worked_tree) ≡ Ok (3 ∷ [])
-unfolding trimmed_start trimmed_end opened_by item_of content_form form_of items_of raw opened with_raw referred percent_piece piece_at pieces_from replaced read hosts_in read_cidr read_bits written_addr read_addr octets_number groups_number read_ipv4 read_octet read_number read_ipv6 read_segments read_segment digits files_of file_of meaning_of read_with all_read merged joined known_replaced is_utf8 chars encode_utf8 time_word named is_date_pattern times text_in own own_or named_filter filter_of ignored_of rule_of unsupported_in jail_with jail_of lane lane_of_both lane_of_each action_of actions_of is_enabled next_jail settings_in
+unfolding trimmed_start trimmed_end opened_by item_of content_form form_of items_of raw opened with_raw referred percent_piece piece_at pieces_from replaced read hosts_in read_cidr read_bits written_addr read_addr octets_number groups_number read_ipv4 read_octet read_number read_ipv6 read_segments read_segment digits files_of file_of meaning_of read_with all_read merged_in joined known_replaced is_utf8 chars encode_utf8 time_word named is_date_pattern times text_in own own_or named_filter filter_of ignored_of rule_of unsupported_in jail_with jail_of lane lane_of_both lane_of_each action_of actions_of is_enabled next_jail settings_in
 three_failures = refl
 
 pub one_log : of_jails (λ jail. map (λ watch. watch.path) jail.watches) (conf worked_tree) ≡ Ok ((codes "/var/log/auth.log" ∷ []) ∷ [])
-unfolding trimmed_start trimmed_end opened_by item_of content_form form_of items_of raw opened with_raw referred percent_piece piece_at pieces_from replaced read hosts_in read_cidr read_bits written_addr read_addr octets_number groups_number read_ipv4 read_octet read_number read_ipv6 read_segments read_segment digits files_of file_of meaning_of read_with all_read merged joined known_replaced is_utf8 chars encode_utf8 time_word named is_date_pattern times text_in own own_or named_filter filter_of ignored_of rule_of unsupported_in jail_with jail_of lane lane_of_both lane_of_each action_of actions_of is_enabled next_jail settings_in
+unfolding trimmed_start trimmed_end opened_by item_of content_form form_of items_of raw opened with_raw referred percent_piece piece_at pieces_from replaced read hosts_in read_cidr read_bits written_addr read_addr octets_number groups_number read_ipv4 read_octet read_number read_ipv6 read_segments read_segment digits files_of file_of meaning_of read_with all_read merged_in joined known_replaced is_utf8 chars encode_utf8 time_word named is_date_pattern times text_in own own_or named_filter filter_of ignored_of rule_of unsupported_in jail_with jail_of lane lane_of_both lane_of_each action_of actions_of is_enabled next_jail settings_in
 one_log = refl
 
 pub command_of_a_ban : of_jails (λ jail. map (λ action. action.ban) jail.actions) (conf worked_tree) ≡ Ok ((codes "echo ban <ip> ssh <failures> <bantime>" ∷ []) ∷ [])
-unfolding trimmed_start trimmed_end opened_by item_of content_form form_of items_of raw opened with_raw referred percent_piece piece_at pieces_from replaced read hosts_in read_cidr read_bits written_addr read_addr octets_number groups_number read_ipv4 read_octet read_number read_ipv6 read_segments read_segment digits files_of file_of meaning_of read_with all_read merged joined known_replaced is_utf8 chars encode_utf8 time_word named is_date_pattern times text_in own own_or named_filter filter_of ignored_of rule_of unsupported_in jail_with jail_of lane lane_of_both lane_of_each action_of actions_of is_enabled next_jail settings_in
+unfolding trimmed_start trimmed_end opened_by item_of content_form form_of items_of raw opened with_raw referred percent_piece piece_at pieces_from replaced read hosts_in read_cidr read_bits written_addr read_addr octets_number groups_number read_ipv4 read_octet read_number read_ipv6 read_segments read_segment digits files_of file_of meaning_of read_with all_read merged_in joined known_replaced is_utf8 chars encode_utf8 time_word named is_date_pattern times text_in own own_or named_filter filter_of ignored_of rule_of unsupported_in jail_with jail_of lane lane_of_both lane_of_each action_of actions_of is_enabled next_jail settings_in
 command_of_a_ban = refl
 
 pub command_of_a_start : of_jails (λ jail. map (λ action. action.start) jail.actions) (conf worked_tree) ≡ Ok ((codes "echo start sshd" ∷ []) ∷ [])
-unfolding trimmed_start trimmed_end opened_by item_of content_form form_of items_of raw opened with_raw referred percent_piece piece_at pieces_from replaced read hosts_in read_cidr read_bits written_addr read_addr octets_number groups_number read_ipv4 read_octet read_number read_ipv6 read_segments read_segment digits files_of file_of meaning_of read_with all_read merged joined known_replaced is_utf8 chars encode_utf8 time_word named is_date_pattern times text_in own own_or named_filter filter_of ignored_of rule_of unsupported_in jail_with jail_of lane lane_of_both lane_of_each action_of actions_of is_enabled next_jail settings_in
+unfolding trimmed_start trimmed_end opened_by item_of content_form form_of items_of raw opened with_raw referred percent_piece piece_at pieces_from replaced read hosts_in read_cidr read_bits written_addr read_addr octets_number groups_number read_ipv4 read_octet read_number read_ipv6 read_segments read_segment digits files_of file_of meaning_of read_with all_read merged_in joined known_replaced is_utf8 chars encode_utf8 time_word named is_date_pattern times text_in own own_or named_filter filter_of ignored_of rule_of unsupported_in jail_with jail_of lane lane_of_both lane_of_each action_of actions_of is_enabled next_jail settings_in
 command_of_a_start = refl
 
 pub three_patterns : of_jails (λ jail. length jail.fail) (conf worked_tree) ≡ Ok (3 ∷ [])
-unfolding trimmed_start trimmed_end opened_by item_of content_form form_of items_of raw opened with_raw referred percent_piece piece_at pieces_from replaced read hosts_in read_cidr read_bits written_addr read_addr octets_number groups_number read_ipv4 read_octet read_number read_ipv6 read_segments read_segment digits files_of file_of meaning_of read_with all_read merged joined known_replaced is_utf8 chars encode_utf8 time_word named is_date_pattern times text_in own own_or named_filter filter_of ignored_of rule_of unsupported_in jail_with jail_of lane lane_of_both lane_of_each action_of actions_of is_enabled next_jail settings_in
+unfolding trimmed_start trimmed_end opened_by item_of content_form form_of items_of raw opened with_raw referred percent_piece piece_at pieces_from replaced read hosts_in read_cidr read_bits written_addr read_addr octets_number groups_number read_ipv4 read_octet read_number read_ipv6 read_segments read_segment digits files_of file_of meaning_of read_with all_read merged_in joined known_replaced is_utf8 chars encode_utf8 time_word named is_date_pattern times text_in own own_or named_filter filter_of ignored_of rule_of unsupported_in jail_with jail_of lane lane_of_both lane_of_each action_of actions_of is_enabled next_jail settings_in
 three_patterns = refl
 
 pub never_banned : of_jails (λ jail. map (λ mask. mask.bits) jail.ignore) (conf worked_tree) ≡ Ok ((8 ∷ 128 ∷ 8 ∷ 128 ∷ []) ∷ [])
-unfolding trimmed_start trimmed_end opened_by item_of content_form form_of items_of raw opened with_raw referred percent_piece piece_at pieces_from replaced read hosts_in read_cidr read_bits written_addr read_addr octets_number groups_number read_ipv4 read_octet read_number read_ipv6 read_segments read_segment digits files_of file_of meaning_of read_with all_read merged joined known_replaced is_utf8 chars encode_utf8 time_word named is_date_pattern times text_in own own_or named_filter filter_of ignored_of rule_of unsupported_in jail_with jail_of lane lane_of_both lane_of_each action_of actions_of is_enabled next_jail settings_in
+unfolding trimmed_start trimmed_end opened_by item_of content_form form_of items_of raw opened with_raw referred percent_piece piece_at pieces_from replaced read hosts_in read_cidr read_bits written_addr read_addr octets_number groups_number read_ipv4 read_octet read_number read_ipv6 read_segments read_segment digits files_of file_of meaning_of read_with all_read merged_in joined known_replaced is_utf8 chars encode_utf8 time_word named is_date_pattern times text_in own own_or named_filter filter_of ignored_of rule_of unsupported_in jail_with jail_of lane lane_of_both lane_of_each action_of actions_of is_enabled next_jail settings_in
 never_banned = refl

@@ -9,12 +9,14 @@ use Rattle.f2b_base.specs.declared.jail.JailDef.{JailDef}
 use Rattle.ini_interp.specs.Lines.{trimmed}
 use Rattle.ini_interp.specs.Sections.{Items, Sections, items_of, raw}
 use Rattle.jail_conf.specs.declared.conf_error.ConfError.{ConfError}
-use Rattle.jail_conf.specs.declared.conf_error.ConfKind.TheVariants.{BadOptions, MissingFile}
+use Rattle.jail_conf.specs.declared.conf_error.ConfKind.TheVariants.{BadOptions}
+use Rattle.jail_conf.specs.declared.counts.Counts.{Counts}
 use Rattle.jail_conf.specs.declared.filter.Filter.{Filter}
+use Rattle.jail_conf.specs.declared.lines.Lines.{Lines}
 use Rattle.jail_conf.specs.declared.source.Source.{Source}
 use Rattle.jail_conf.specs.Actions.{actions_of}
 use Rattle.jail_conf.specs.Options.{named}
-use Rattle.jail_conf.specs.Sources.{Bases, sections_of, of_definition, with_known, own, own_or, told}
+use Rattle.jail_conf.specs.Sources.{Bases, sections_of, of_definition, with_known, own, own_or, told, without_file}
 use Rattle.jail_conf.specs.Table as table
 use Rattle.jail_conf.specs.Then.{◌>>=◌, ◌>>◌, Fine, refuse_if, or_refuse}
 use Rattle.jail_conf.specs.Words.{is_empty}
@@ -44,7 +46,7 @@ known_of sections = map (λ item. (item.0, unwrap_or (raw sections (codes "Defin
 unfoldable pub named_filter : Bases → (jail : Source) → List ℕ → Result Filter ConfError
 named_filter bases jail text = do
   given ← or_refuse (told jail table.filter.name BadOptions) (named text)
-  refuse_if (not (bases.has_file (file_of given.name))) (record (told jail table.filter.name MissingFile) { file = file_of given.name })
+  refuse_if (not (bases.has_file (file_of given.name))) (without_file jail table.filter.name (file_of given.name))
   sections ← sections_of bases (base_of given.name)
   Ok (record { source = of_definition (file_of given.name) jail.section given.options sections; known = known_of sections })
 
@@ -81,6 +83,22 @@ rule_of jail = do
   own jail table.bantime_overalljails
   Ok (record { base = base; increment = increment; factor = factor; multipliers = multipliers; maxtime = maxtime; rndtime = rndtime })
 
+-- which lines are failures, where the jails before have so many patterns
+unfoldable pub lines_of : (jail filter : Source) → (patterns : ℕ) → Result Lines ConfError
+lines_of jail filter patterns = do
+  pref ← own filter table.prefregex
+  fail ← own_or jail filter (table.failregex patterns)
+  ignore_lines ← own_or jail filter (table.ignoreregex (patterns + length fail))
+  Ok (record { pref = pref; fail = fail; ignore_lines = ignore_lines })
+
+-- how many failures in which time are a ban, and how many lines are kept
+unfoldable pub counts_of : (jail : Source) → Result Counts ConfError
+counts_of jail = do
+  findtime ← own jail table.findtime
+  maxretry ← own jail table.maxretry
+  maxmatches ← own jail (table.maxmatches maxretry)
+  Ok (record { findtime = findtime; maxretry = maxretry; maxmatches = maxmatches })
+
 -- what other values would be asked for is not offered
 unfoldable pub unsupported_in : (jail filter : Source) → Result Fine ConfError
 unsupported_in jail filter = do
@@ -99,14 +117,10 @@ jail_with bases jail filter patterns = do
   watches ← own jail table.logpath
   zone ← own jail table.logtimezone
   date ← own_or jail filter table.datepattern
-  pref ← own filter table.prefregex
-  fail ← own_or jail filter (table.failregex patterns)
-  ignore_lines ← own_or jail filter (table.ignoreregex (patterns + length fail))
+  lines ← lines_of jail filter patterns
   ignore ← ignored_of jail
   unsupported_in jail filter
-  findtime ← own jail table.findtime
-  maxretry ← own jail table.maxretry
-  maxmatches ← own jail (table.maxmatches maxretry)
+  counts ← counts_of jail
   rule ← rule_of jail
   actions ← actions_of bases jail
   Ok (record {
@@ -114,13 +128,13 @@ jail_with bases jail filter patterns = do
     watches = watches;
     zone = zone;
     date = date;
-    pref = pref;
-    fail = fail;
-    ignore_lines = ignore_lines;
+    pref = lines.pref;
+    fail = lines.fail;
+    ignore_lines = lines.ignore_lines;
     ignore = ignore;
-    findtime = findtime;
-    maxretry = maxretry;
-    maxmatches = maxmatches;
+    findtime = counts.findtime;
+    maxretry = counts.maxretry;
+    maxmatches = counts.maxmatches;
     rule = rule;
     actions = actions;
   })

@@ -1,6 +1,6 @@
 -- The logs of a jail, one a line: a path, and then perhaps `head` or `tail`.
-use Rattle.std.specs.Prelude.{ℕ, ◌==◌, ◌&&◌, ◌||◌, not, nat_lt, Bool, true, false, List, [], ◌∷◌, ◌++◌, length, fold, Result, Ok, codes, slice_index, if◌then◌else◌}
-use Rattle.std.specs.List.{before_last, list_any}
+use Rattle.std.specs.Prelude.{ℕ, ◌==◌, ◌&&◌, ◌||◌, not, nat_lt, Bool, true, false, List, [], ◌∷◌, ◌++◌, length, fold, Result, Ok, codes, if◌then◌else◌}
+use Rattle.std.specs.List.{list_any}
 use Rattle.std.specs.Str.{bytes_eq}
 use Rattle.f2b_base.specs.declared.jail.WatchDef.{WatchDef}
 use Rattle.ini_interp.specs.Values.{is_slash}
@@ -13,9 +13,15 @@ use Rattle.jail_conf.specs.Words.{full_lines, last_word, before_last_word}
 abbrev pub is_wild : ℕ → Bool
 is_wild byte = byte == 42 || byte == 63
 
--- it begins with a slash, and no wildcard stands before its last slash
+-- a slash stands behind a wildcard
+abbrev pub has_wild_directory : List ℕ → Bool
+has_wild_directory [] = false
+has_wild_directory (byte ∷ path) = if is_wild byte then list_any is_slash path else has_wild_directory path
+
+-- it begins with a slash, and no slash stands behind a wildcard
 abbrev pub is_log_path : List ℕ → Bool
-is_log_path path = slice_index path 0 == 47 && not (list_any is_wild (before_last is_slash path))
+is_log_path [] = false
+is_log_path (byte ∷ path) = is_slash byte && not (has_wild_directory (byte ∷ path))
 
 abbrev pub watch : (path : List ℕ) → Bool → Result WatchDef ConfKind
 watch path tail = do

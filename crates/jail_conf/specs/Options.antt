@@ -1,7 +1,7 @@
 -- Names with options: `NAME[key=value, key="value"]`. A plain value runs to a comma or `]` and is trimmed; a quoted one holds all but its
 -- quote. Keys are kept in lower case.
-use Rattle.std.specs.Prelude.{ℕ, ◌==◌, ◌||◌, Bool, List, [], ◌∷◌, ◌++◌, fold, Option, None, Some, if◌then◌else◌}
-use Rattle.std.specs.List.{before_first}
+use Rattle.std.specs.Prelude.{◌≡◌, ℕ, ◌==◌, ◌||◌, Bool, true, not, List, [], ◌∷◌, ◌++◌, drop, fold, Option, None, Some, if◌then◌else◌}
+use Rattle.std.specs.List.{before_first, position_or_len}
 use Rattle.std.specs.Str.{str_to_ascii_lowercase}
 use Rattle.ini_interp.specs.Lines.{is_blank, trimmed}
 use Rattle.ini_interp.specs.Sections.{Items}
@@ -37,10 +37,10 @@ at place reading = record reading { place = place }
 
 -- one more option
 abbrev pub given : List ℕ → List ℕ → Place → Reading → Reading
-given key value place reading = record { place = place; options = reading.options ++ (str_to_ascii_lowercase (trimmed key), value) ∷ [] }
+given key value place reading = record { place = place; options = reading.options ++ (str_to_ascii_lowercase key, value) ∷ [] }
 
 abbrev pub behind_key : List ℕ → Place
-behind_key key = if is_empty (trimmed key) then Nowhere else Value key
+behind_key key = if is_empty (trimmed key) then Nowhere else Value (trimmed key)
 
 -- a byte behind a whole value
 abbrev pub behind_value : ℕ → Place
@@ -74,16 +74,19 @@ whole reading place = None
 abbrev pub whole_of : Reading → Option Items
 whole_of reading = whole reading reading.place
 
+-- what comes of a text where the reading stands at this place, with these options read before
+abbrev pub options_from : Place → Items → List ℕ → Option Items
+options_from place options text = whole_of (fold (λ reading byte. read_byte reading.place byte reading) (record { place = place; options = options }) text)
+
 -- the options of some groups
 abbrev pub groups : List ℕ → Option Items
-groups text = whole_of (fold (λ reading byte. read_byte reading.place byte reading) (record { place = Outside; options = [] }) text)
+groups text = options_from Outside [] text
 
 abbrev pub opens : ℕ → Bool
 opens byte = byte == 91
 
 abbrev pub from_first : List ℕ → List ℕ
-from_first [] = []
-from_first (byte ∷ text) = if opens byte then byte ∷ text else from_first text
+from_first text = drop (position_or_len opens text) text
 
 abbrev pub if_named : List ℕ → Option Items → Option Named
 if_named name None = None
@@ -92,3 +95,30 @@ if_named name (Some options) = if is_empty name then None else Some (record { na
 -- a name with options, in their order; of two with one key the later counts
 unfoldable pub named : List ℕ → Option Named
 named text = if_named (trimmed (before_first opens text)) (groups (from_first text))
+
+-- ---- parts of a text
+
+-- nothing comes of the text from this place on
+abbrev pub ReadsNothing : Place → List ℕ → Type 0
+ReadsNothing place text = (options : Items) → options_from place options text ≡ None
+
+-- from this place on the text comes to what the rest of it comes to from the next
+abbrev pub ReadsAs : Place → (text : List ℕ) → (next : Place) → (rest : List ℕ) → Type 0
+ReadsAs place text next rest = (options : Items) → options_from place options text ≡ options_from next options rest
+
+-- and with one option more
+abbrev pub ReadsOption : Place → (text key value : List ℕ) → (next : Place) → (rest : List ℕ) → Type 0
+ReadsOption place text key value next rest =
+    (options : Items) → options_from place options text ≡ options_from next (options ++ (str_to_ascii_lowercase key, value) ∷ []) rest
+
+-- behind an option
+abbrev pub behind : (is_last : Bool) → Place
+behind is_last = if is_last then Outside else Key []
+
+-- the text begins with neither a blank nor a quote
+abbrev pub begins_plain : List ℕ → Bool
+begins_plain [] = true
+begins_plain (byte ∷ text) = not (is_blank byte || is_quote byte)
+
+abbrev pub IsPlain : List ℕ → Type 0
+IsPlain text = begins_plain text ≡ true

@@ -1,21 +1,19 @@
 -- Where values are read: the items of a base in a scope.
-use Rattle.std.specs.Prelude.{ℕ, ◌==◌, Bool, true, false, List, [], ◌∷◌, map, fold, Option, None, Some, unwrap_or, Result, Ok, Err, codes, if◌then◌else◌}
-use Rattle.std.specs.List.{flat_map, list_any}
-use Rattle.std.specs.Str.{bytes_eq}
-use Rattle.f2b_base.specs.declared.outside.Tree.{Tree}
+use Rattle.std.specs.Prelude.{ℕ, ◌==◌, Bool, true, false, List, [], ◌∷◌, map, fold, Option, None, Some, is_some, unwrap_or, Result, Ok, Err, codes, if◌then◌else◌}
+use Rattle.std.specs.List.{flat_map}
 use Rattle.ini_interp.specs.declared.merge_error.MergeError.{MergeError}
 use Rattle.ini_interp.specs.declared.merge_error.MergeError.TheVariants as merge
 use Rattle.ini_interp.specs.declared.value_error.InterpError.{InterpError}
 use Rattle.ini_interp.specs.declared.value_error.InterpError.TheVariants as interp
-use Rattle.ini_interp.specs.Merges.{merged}
-use Rattle.ini_interp.specs.Sections.{Items, Sections, with_raw}
+use Rattle.ini_interp.specs.Merges.{Files, merged_in}
+use Rattle.ini_interp.specs.Sections.{Items, Sections, value_of, with_raw}
 use Rattle.ini_interp.specs.Values.{value_in}
 use Rattle.tag_subst.specs.declared.tag_error.TagError.{TagError}
 use Rattle.tag_subst.specs.declared.tag_error.TagError.TheVariants as tag
 use Rattle.tag_subst.specs.Tags.{substituted}
 use Rattle.jail_conf.specs.declared.conf_error.ConfError.{ConfError}
 use Rattle.jail_conf.specs.declared.conf_error.ConfKind.{ConfKind}
-use Rattle.jail_conf.specs.declared.conf_error.ConfKind.TheVariants.{Ini, MissingInclude, IncludeLoop, Missing, TooDeep, BadPercent}
+use Rattle.jail_conf.specs.declared.conf_error.ConfKind.TheVariants.{Ini, MissingInclude, IncludeLoop, MissingFile, Missing, TooDeep, BadPercent}
 use Rattle.jail_conf.specs.declared.source.Source.{Source}
 use Rattle.jail_conf.specs.Items.{Item}
 use Rattle.jail_conf.specs.Readers.{Reader}
@@ -28,8 +26,8 @@ pub record Bases : Type 0 where
   pub merged : List ℕ → Result Sections MergeError
   pub has_file : List ℕ → Bool
 
-abbrev pub bases_of : Tree → Bases
-bases_of tree = record { merged = merged tree; has_file = (λ path. list_any (λ file. bytes_eq file.path path) tree.files) }
+abbrev pub bases_of : Files → Bases
+bases_of files = record { merged = merged_in files; has_file = (λ path. is_some (value_of path files)) }
 
 abbrev pub in_file : List ℕ → ConfKind → ConfError
 in_file file kind = record { file = file; section = []; name = []; kind = kind }
@@ -47,6 +45,9 @@ or_merge_refusal (Err fault) = Err (merge_refusal fault)
 
 abbrev pub sections_of : Bases → List ℕ → Result Sections ConfError
 sections_of bases base = or_merge_refusal (bases.merged base)
+
+abbrev pub section_names : Sections → List (List ℕ)
+section_names sections = map (λ section. section.0) sections
 
 -- the sections with these items put into one of them
 abbrev pub with_items : List ℕ → Items → Sections → Sections
@@ -88,7 +89,7 @@ abbrev pub percents_doubled : List ℕ → List ℕ
 percents_doubled text = flat_map (λ byte. if byte == 37 then 37 ∷ 37 ∷ [] else byte ∷ []) text
 
 abbrev pub with_options : Items → Sections → Sections
-with_options options sections = with_items (codes "]options") (map (λ option. (option.0, percents_doubled option.1)) options) sections
+with_options options sections = fold (λ all option. with_raw all (codes "]options") option.0 (percents_doubled option.1)) sections options
 
 abbrev pub in_definition : List (List ℕ)
 in_definition = codes "Init" ∷ codes "Definition" ∷ codes "DEFAULT" ∷ codes "]name" ∷ []
@@ -102,6 +103,13 @@ of_definition file jail options sections = record {
   scope = codes "]options" ∷ in_definition;
   tags = true;
 }
+
+abbrev pub inet6_section : List ℕ
+inet6_section = codes "Init?family=inet6"
+
+-- with the section that IPv6 alone reads
+abbrev pub for_inet6 : Source → Source
+for_inet6 source = record source { scope = codes "]options" ∷ inet6_section ∷ in_definition }
 
 -- ---- values
 
@@ -146,6 +154,10 @@ found tags source name reading = do
 
 abbrev pub told : Source → List ℕ → ConfKind → ConfError
 told source name kind = record { file = source.file; section = source.section; name = name; kind = kind }
+
+-- an item whose file is not there
+abbrev pub without_file : Source → (name file : List ℕ) → ConfError
+without_file source name file = record (told source name MissingFile) { file = file }
 
 abbrev pub or_told : {A : Type 0} → Source → List ℕ → Result A ConfKind → Result A ConfError
 or_told source name (Ok x) = Ok x

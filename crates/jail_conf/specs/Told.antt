@@ -9,6 +9,11 @@ use Rattle.jail_conf.specs.declared.fail.Fail.TheVariants.{Refused, NoMemory}
 use Rattle.jail_conf.specs.declared.source.Source.{Source}
 use Rattle.jail_conf.specs.Sources.{told, merge_refusal}
 
+-- this refusal, unless memory is wanted
+abbrev pub IsRefusal : ConfError → Fail ConfError → Type 0
+IsRefusal refusal (Refused error) = error ≡ refusal
+IsRefusal refusal NoMemory = Unit {0}
+
 -- a refusal is told with the source's file and section, unless memory is wanted
 abbrev pub IsTold : Source → List ℕ → Fail ConfKind → Fail ConfError → Type 0
 IsTold source name (Refused kind) (Refused error) = error ≡ told source name kind

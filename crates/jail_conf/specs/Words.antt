@@ -1,5 +1,5 @@
 -- Parts of a value.
-use Rattle.std.specs.Prelude.{ℕ, ◌-◌, ◌==◌, ◌&&◌, not, nat_le, Bool, List, [], length, take, drop, map, filter, Option, None, Some, codes, if◌then◌else◌}
+use Rattle.std.specs.Prelude.{◌≡◌, ℕ, ◌-◌, ◌==◌, ◌&&◌, not, nat_le, Bool, true, List, [], length, take, drop, map, filter, Option, None, Some, codes, if◌then◌else◌}
 use Rattle.std.specs.Char.{is_ascii_digit}
 use Rattle.std.specs.List.{slice_split, list_all, list_any, suffix_len}
 use Rattle.std.specs.Str.{bytes_eq, str_eq_ignore_ascii_case}
@@ -12,6 +12,10 @@ is_empty text = length text == 0
 -- one of these bytes
 abbrev pub is_among_bytes : List ℕ → ℕ → Bool
 is_among_bytes bytes byte = list_any (λ one. one == byte) bytes
+
+-- none of these bytes is in the text
+abbrev pub HasNone : List ℕ → List ℕ → Type 0
+HasNone bytes text = list_all (λ byte. not (is_among_bytes bytes byte)) text ≡ true
 
 -- the parts between the bytes that divide
 abbrev pub parts_by : List ℕ → List ℕ → List (List ℕ)

@@ -8,20 +8,28 @@ mod actions;
 mod addresses;
 mod choices;
 mod conf_error;
+#[cfg(test)]
+mod conf_tests;
+mod configuration;
+mod counts;
 mod dates;
 mod each;
 mod fail;
 mod filter;
 mod ignored;
+mod jails;
+mod lines;
 mod logs;
 mod numbers;
 mod options;
+mod patterns;
 mod reading;
 mod rule;
 mod seconds;
 mod sections;
 mod settings;
 mod source;
+mod sources;
 mod terms;
 #[cfg(test)]
 mod tests;
@@ -31,6 +39,7 @@ mod words;
 mod zones;
 
 pub use conf_error::{ConfError, ConfFail, ConfKind};
+pub use configuration::conf;
 pub use fail::Fail;
 pub use seconds::str2sec;
 pub use settings::Settings;

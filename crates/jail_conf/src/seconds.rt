@@ -16,10 +16,11 @@ const MOST_SECONDS: u64 = 3_153_600_000;
 fn magnitude(text: &[u8]) -> Option<u32>
     ensures { result ≡ magnitude text.now }
 {
-    match sum(text) {
-        Some(seconds) if seconds <= MOST_SECONDS => Some(seconds as u32),
-        _ => None,
+    let seconds = sum(text)?;
+    if seconds > MOST_SECONDS {
+        return None;
     }
+    Some(seconds as u32)
 }
 
 /// The seconds of what stands behind a `-`.

@@ -1,13 +1,13 @@
 //! What the files of a base come to, with the items that a jail, a filter or an action adds.
-ghost use Rattle.std.specs.Prelude.{◌≡◌, OnOk, codes};
-ghost use Rattle.jail_conf.specs.Sources.{bases_of, sections_of, with_items, names_for, version};
+ghost use Rattle.std.specs.Prelude.{◌≡◌, IfOk, OnOk, codes};
+ghost use Rattle.jail_conf.specs.Sources.{bases_of, section_names, sections_of, with_items, names_for, version};
 ghost use Rattle.jail_conf.specs.Then.{Gives};
 ghost use Rattle.jail_conf.specs.Told.{IsMergeFail};
 
 use crate::conf_error::{ConfError, ConfFail, ConfKind};
 use crate::fail::Fail;
-use f2b_base::{NoMemory, Text, Tree};
-use ini_interp::{MergeError, Sections, merge};
+use f2b_base::{NoMemory, Seq, Text};
+use ini_interp::{FileTable, MergeError, Sections, merge_in};
 use std::alloc::Global;
 
 /// A fault of files as a refusal, which names the file alone.
@@ -29,10 +29,10 @@ fn merge_fail(alloc: Global, fault: MergeError) -> ConfFail
 }
 
 /// What the files of a base come to.
-pub(crate) fn sections_of(alloc: Global, tree: &Tree, base: &str) -> Result<Sections, ConfFail>
-    ensures { Gives (sections_of (bases_of tree.now) base.now) result }
+pub(crate) fn sections_of(alloc: Global, files: &FileTable<'_>, base: &str) -> Result<Sections, ConfFail>
+    ensures { Gives (sections_of (bases_of files.now) base.now) result }
 {
-    match merge(alloc, tree, base) {
+    match merge_in(alloc, files, base) {
         Ok(sections) => Ok(sections),
         Err(fault) => Err(merge_fail(alloc, fault)),
     }
@@ -52,4 +52,18 @@ pub(crate) fn put_names(sections: &mut Sections, jail: &str) -> Result<(), NoMem
     sections.put("]name", "name", jail)?;
     sections.put("]name", "__name__", jail)?;
     put_version(sections)
+}
+
+/// The names of the sections, in order.
+pub(crate) fn section_names(alloc: Global, sections: &Sections) -> Result<Seq<Text>, NoMemory>
+    ensures { IfOk result (λ names. names ≡ section_names sections.now) }
+{
+    let mut names = Seq::new(alloc);
+    'places: for index in 0..usize::MAX {
+        let Some(name) = sections.section(index) else {
+            return Ok(names);
+        };
+        names.push(Text::from_str(alloc, name)?)?;
+    }
+    Err(NoMemory)
 }

@@ -2,9 +2,9 @@
 ghost use Rattle.std.specs.Prelude.{◌≡◌, [], IfOk};
 ghost use Rattle.jail_conf.specs.Readers.{as_written};
 ghost use Rattle.jail_conf.specs.Items.{item};
-ghost use Rattle.jail_conf.specs.Sources.{text_in, found, told, or_told, own, own_or};
+ghost use Rattle.jail_conf.specs.Sources.{text_in, found, told, or_told, own, own_or, without_file};
 ghost use Rattle.jail_conf.specs.Then.{Gives};
-ghost use Rattle.jail_conf.specs.Told.{IsTold};
+ghost use Rattle.jail_conf.specs.Told.{IsRefusal, IsTold};
 
 use crate::conf_error::{ConfError, ConfFail, ConfKind};
 use crate::fail::Fail;
@@ -72,15 +72,37 @@ impl Source {
         })
     }
 
+    /// The refusal of an item, of this kind, or want of memory.
+    pub(crate) fn refused(&self, alloc: Global, name: &str, kind: ConfKind) -> ConfFail
+        ensures { IsRefusal (told self.now name.now kind) result }
+    {
+        match self.refusal(alloc, name, kind) {
+            Ok(error) => Fail::Refused(error),
+            Err(NoMemory) => Fail::NoMemory,
+        }
+    }
+
+    /// The refusal of an item whose file is not there, or want of memory.
+    pub(crate) fn missing_file(&self, alloc: Global, name: &str, file: Text) -> ConfFail
+        ensures { IsRefusal (without_file self.now name.now file) result }
+    {
+        match self.refusal(alloc, name, ConfKind::MissingFile) {
+            Ok(error) => Fail::Refused(ConfError {
+                file,
+                section: error.section,
+                name: error.name,
+                kind: error.kind,
+            }),
+            Err(NoMemory) => Fail::NoMemory,
+        }
+    }
+
     /// What is wrong with an item, told with its place.
     fn told(&self, alloc: Global, name: &str, fail: Fail<ConfKind>) -> ConfFail
         ensures { IsTold self.now name.now fail result }
     {
         match fail {
-            Fail::Refused(kind) => match self.refusal(alloc, name, kind) {
-                Ok(error) => Fail::Refused(error),
-                Err(NoMemory) => Fail::NoMemory,
-            },
+            Fail::Refused(kind) => self.refused(alloc, name, kind),
             Fail::NoMemory => Fail::NoMemory,
         }
     }

@@ -1,10 +1,10 @@
 //! Parts of a value.
-ghost use Rattle.std.specs.Prelude.{◌≡◌, ◌<◌, ◌+◌, ◌*◌, ◌^◌, ◌-◌, ◌∷◌, min, nat_lt, length, IsTrue, IfSome, option_copied, option_map, IfOk};
+ghost use Rattle.std.specs.Prelude.{◌≡◌, ◌<◌, ◌+◌, ◌*◌, ◌^◌, ◌-◌, ◌∷◌, min, nat_lt, length, IsTrue, IfNone, IfSome, ◌++◌, option_copied, option_map, IfOk};
 ghost use Rattle.std.specs.List.{list_all, slice_split};
 ghost use Rattle.std.specs.Char.{is_ascii_digit, digit_value};
 ghost use Rattle.std.specs.Str.{str_eq_ignore_ascii_case};
 ghost use Rattle.ini_interp.specs.Lines.{is_blank, trimmed_start, trimmed_end, trimmed};
-ghost use Rattle.jail_conf.specs.Words.{is_among_bytes, parts_of, is_one_of, number, words_by, full_lines};
+ghost use Rattle.jail_conf.specs.Words.{is_among_bytes, HasNone, parts_of, is_one_of, number, words_by, full_lines};
 
 use f2b_base::{NoMemory, Seq, Text};
 use std::alloc::Global;
@@ -16,7 +16,7 @@ pub(crate) fn is_blank(byte: u8) -> bool
     byte == b' ' || byte == b'\t'
 }
 
-fn trim_start(text: &str) -> &str
+pub(crate) fn trim_start(text: &str) -> &str
     ensures { result.now ≡ trimmed_start text.now }
 {
     for (place, &byte) in text.as_bytes().iter().enumerate() {
@@ -65,6 +65,23 @@ pub(crate) fn cut<'t>(text: &'t str, dividers: &str) -> (&'t str, Option<&'t str
         }
     }
     (text, None)
+}
+
+/// The part before the first of these bytes, all of them ASCII, that byte, and what stands behind it.
+pub(crate) fn split<'t>(text: &'t str, dividers: &str) -> Option<(&'t str, u8, &'t str)>
+    requires { IsTrue (list_all (λ byte. nat_lt byte 128) dividers.now) }
+    ensures none { IfNone result (HasNone dividers.now text.now) }
+    ensures whole { IfSome result (λ cut. text.now ≡ cut.0.now ++ cut.1 ∷ cut.2.now) }
+    ensures before { IfSome result (λ cut. HasNone dividers.now cut.0.now) }
+    ensures divider { IfSome result (λ cut. IsTrue (is_among_bytes dividers.now cut.1)) }
+    ensures shorter { IfSome result (λ cut. length cut.2.now < length text.now) }
+{
+    for (place, &byte) in text.as_bytes().iter().enumerate() {
+        if is_in(dividers, byte) {
+            return Some((&text[..place], byte, &text[place + 1..]));
+        }
+    }
+    None
 }
 
 /// Whether two texts are the same but for the case of ASCII letters.

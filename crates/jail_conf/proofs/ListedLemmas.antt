@@ -1,0 +1,41 @@
+-- What is listed one after the other: actions, and jails.
+use Rattle.std.proofs.Common.{◌≡◌, ℕ, List, [], ◌∷◌, ◌++◌, Option, Result, Ok, Err, refl, sym, ap, append_assoc}
+use Rattle.f2b_base.specs.declared.jail.ActionDef.{ActionDef}
+use Rattle.f2b_base.specs.declared.jail.JailDef.{JailDef}
+use Rattle.ini_interp.specs.Sections.{Sections}
+use Rattle.jail_conf.specs.declared.actions.Action.{Action}
+use Rattle.jail_conf.specs.declared.conf_error.ConfError.{ConfError}
+use Rattle.jail_conf.specs.declared.fail.Fail.{Fail}
+use Rattle.jail_conf.specs.declared.source.Source.{Source}
+use Rattle.jail_conf.specs.Actions.{action_of, actions_behind}
+use Rattle.jail_conf.specs.Conf.{next_jail, with_next, jails_behind}
+use Rattle.jail_conf.specs.Sources.{Bases, of_jail}
+use Rattle.jail_conf.specs.Then.{◌>>=◌, Gives}
+use Rattle.jail_conf.proofs.EachLemmas.{behind, behind_fails}
+use Rattle.jail_conf.proofs.FaultLemmas.{first_fails}
+
+-- one action more
+pub actions_behind-more : (bases : Bases) (jail : Source) (names : List (List ℕ)) (lanes : List ActionDef) (line : List ℕ) (lines : List (List ℕ)) (action : Action) →
+    action_of bases jail names line ≡ Ok action →
+    behind lanes (actions_behind bases jail names (line ∷ lines)) ≡ behind (lanes ++ action.lanes) (actions_behind bases jail (names ++ action.name ∷ []) lines)
+actions_behind-more bases jail names lanes line lines action is = rw is (by (actions_behind bases jail (names ++ action.name ∷ []) lines))
+  where
+    by : (rest : Result (List ActionDef) ConfError) → behind lanes (rest >>= (λ others. Ok (action.lanes ++ others))) ≡ behind (lanes ++ action.lanes) rest
+    by (Ok others) = ap Ok (sym (append_assoc lanes action.lanes others))
+    by (Err refusal) = refl
+
+-- one that is refused
+pub actions_behind-fails : (bases : Bases) (jail : Source) (names : List (List ℕ)) (lanes : List ActionDef) (line : List ℕ) (lines : List (List ℕ)) (fail : Fail ConfError) →
+    Gives (action_of bases jail names line) (Err fail) → Gives (behind lanes (actions_behind bases jail names (line ∷ lines))) (Err fail)
+actions_behind-fails bases jail names lanes line lines fail given =
+    behind_fails (actions_behind bases jail names (line ∷ lines)) fail (first_fails (action_of bases jail names line) _ fail given)
+
+-- one jail more
+pub jails_behind-more : (bases : Bases) (sections : Sections) (before : List JailDef) (name : List ℕ) (names : List (List ℕ)) (next : Option JailDef) →
+    next_jail bases (of_jail sections name) before ≡ Ok next →
+    jails_behind bases sections before (name ∷ names) ≡ jails_behind bases sections (with_next before next) names
+jails_behind-more bases sections before name names next is = rw is refl
+
+pub jails_behind-fails : (bases : Bases) (sections : Sections) (before : List JailDef) (name : List ℕ) (names : List (List ℕ)) (fail : Fail ConfError) →
+    Gives (next_jail bases (of_jail sections name) before) (Err fail) → Gives (jails_behind bases sections before (name ∷ names)) (Err fail)
+jails_behind-fails bases sections before name names fail given = first_fails (next_jail bases (of_jail sections name) before) _ fail given

@@ -1,0 +1,128 @@
+//! What a configuration comes to: the definitions of its enabled jails, or the first refusal.
+ghost use Rattle.std.specs.Prelude.{◌≡◌, ◌≤◌, [], length, sum_by, Ok, codes, IfOk};
+ghost use Rattle.std.specs.Char.{is_ascii_alphanumeric};
+ghost use Rattle.jail_conf.specs.Conf.{jail_names, is_enabled, patterns_in, next_jail, jails_behind, conf};
+ghost use Rattle.jail_conf.specs.Jails.{is_name_byte, is_jail_name};
+ghost use Rattle.jail_conf.specs.Sources.{bases_of, sections_of};
+ghost use Rattle.jail_conf.specs.Then.{Gives};
+
+use crate::choices::Boolean;
+use crate::conf_error::{ConfFail, ConfKind};
+use crate::jails::jail_of;
+use crate::reading::AsWritten;
+use crate::seconds::Seconds;
+use crate::sections::{section_names, sections_of};
+use crate::settings::Settings;
+use crate::source::Source;
+use crate::sources::{of_jail, of_server};
+use f2b_base::{Defs, JailDef, NoMemory, Plain, Seq, Text, Tree};
+use ini_interp::{FileTable, Sections};
+use std::alloc::Global;
+
+/// Whether the name of a jail may have the byte.
+fn is_name_byte(byte: u8) -> bool
+    ensures { result ≡ is_name_byte byte }
+{
+    byte.is_ascii_alphanumeric() || byte == b'_' || byte == b'.' || byte == b'-'
+}
+
+/// Whether a jail may have this name.
+fn is_jail_name(name: &[u8]) -> bool
+    ensures { result ≡ is_jail_name name.now }
+{
+    1 <= name.len() && name.len() <= 64 && name.iter().all(|byte| is_name_byte(*byte))
+}
+
+/// The names of the jails, in order.
+fn jail_names(alloc: Global, sections: &Sections) -> Result<Seq<Text>, NoMemory>
+    ensures { IfOk result (λ names. names ≡ jail_names sections.now) }
+{
+    let all = section_names(alloc, sections)?;
+    let mut names = Seq::new(alloc);
+    for name in all.as_slice() {
+        if name.as_str() != "DEFAULT" {
+            names.push(name.copy()?)?;
+        }
+    }
+    Ok(names)
+}
+
+/// At most so many jails are enabled.
+const MOST_JAILS: usize = 256;
+
+/// Whether a jail is enabled, where so many are before it.
+fn is_enabled(alloc: Global, jail: &Source, before: usize) -> Result<bool, ConfFail>
+    ensures { Gives (is_enabled jail.now before) result }
+{
+    if !is_jail_name(jail.section.as_str().as_bytes()) {
+        return Err(jail.refused(alloc, "", ConfKind::BadName));
+    }
+    let enabled = jail.item(alloc, "enabled", &Boolean, false)?;
+    if enabled && before >= MOST_JAILS {
+        return Err(jail.refused(alloc, "enabled", ConfKind::TooMany));
+    }
+    Ok(enabled)
+}
+
+/// The definition of a jail where it is enabled, behind these, which have so many patterns.
+fn next_jail(
+    alloc: Global,
+    files: &FileTable<'_>,
+    jail: Source,
+    before: &[JailDef],
+    patterns: u64,
+) -> Result<Option<JailDef>, ConfFail>
+    requires counted { sum_by patterns_in before.now ≡ patterns }
+    requires few { patterns ≤ 512 }
+    ensures { Gives (next_jail (bases_of files.now) jail before.now) result }
+{
+    if !is_enabled(alloc, &jail, before.len())? {
+        return Ok(None);
+    }
+    let definition = jail_of(alloc, files, jail, patterns)?;
+    Ok(Some(definition))
+}
+
+/// The definitions of the jails of these names that are enabled.
+fn jails_in(
+    alloc: Global,
+    files: &FileTable<'_>,
+    merged: &Sections,
+    names: &[Text],
+) -> Result<Seq<JailDef>, ConfFail>
+    requires { sections_of (bases_of files.now) (codes "jail") ≡ Ok merged.now }
+    ensures { Gives (jails_behind (bases_of files.now) merged.now [] names.now) result }
+{
+    let mut jails = Seq::new(alloc);
+    let mut patterns: u64 = 0;
+    for name in names {
+        let sections = sections_of(alloc, files, "jail")?;
+        let jail = of_jail(alloc, sections, name.as_str())?;
+        if let Some(next) = next_jail(alloc, files, jail, jails.as_slice(), patterns)? {
+            patterns += next.fail.len() as u64 + next.ignore_lines.len() as u64;
+            jails.push(next)?;
+        }
+    }
+    Ok(jails)
+}
+
+/// What the files of a configuration come to, or the first refusal.
+///
+/// Reads no file and builds no pattern: paths may still have wildcards, and patterns their tags.
+pub fn conf(alloc: Global, tree: &Tree) -> Result<Settings, ConfFail>
+    ensures { Gives (conf tree.now) result }
+{
+    let files = FileTable::new(alloc, tree)?;
+    let merged = sections_of(alloc, &files, "fail2ban")?;
+    let server = of_server(alloc, merged)?;
+    let default = Text::from_str(alloc, "/var/run/fail2ban/fail2ban.sock")?;
+    let socket = server.item(alloc, "socket", &AsWritten, default)?;
+    let purge = server.item(alloc, "dbpurgeage", &Seconds { least: 0 }, 86_400)?;
+    let sections = sections_of(alloc, &files, "jail")?;
+    let names = jail_names(alloc, &sections)?;
+    let jails = jails_in(alloc, &files, &sections, names.as_slice())?;
+    Ok(Settings {
+        defs: Defs { purge, jails },
+        socket,
+    })
+}
