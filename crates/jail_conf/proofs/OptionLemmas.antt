@@ -1,5 +1,5 @@
 -- How a name's options are read, part by part.
-use Rattle.std.proofs.Common.{◌≡◌, ◌≢◌, ℕ, suc, ◌+◌, ◌<◌, Bool, true, false, cond, not, ◌==◌, ◌&&◌, ◌||◌, List, [], ◌∷◌, ◌++◌, length, drop, codes, Option, None, Some, refl, sym, ap, ◌∙◌, append_assoc, ne_eqb, arith}
+use Rattle.std.proofs.Common.{◌≡◌, ◌≢◌, ℕ, suc, ◌+◌, ◌<◌, Bool, true, false, cond, not, ◌==◌, ◌&&◌, ◌||◌, List, [], ◌∷◌, ◌++◌, length, drop, codes, subst, length-drop, length-append, ◌≤◌, Option, None, Some, IfNone, IfSome, refl, sym, ap, ◌∙◌, append_assoc, ne_eqb, arith}
 use Rattle.std.specs.List.{list_all, prefix_len}
 use Rattle.std.specs.Str.{str_to_ascii_lowercase}
 use Rattle.std.proofs.lemmas.List.{append-nil}
@@ -7,10 +7,27 @@ use Rattle.std.proofs.lemmas.Bool.{and_parts}
 use Rattle.std.proofs.lemmas.Bool.Decides.{nat_tests}
 use Rattle.ini_interp.specs.Lines.{is_blank, trimmed_start, trimmed_end, trimmed}
 use Rattle.ini_interp.specs.Sections.{Items}
-use Rattle.jail_conf.specs.Options.{Place, Outside, Key, Value, Plain, Quoted, Closed, Nowhere, Reading, read_byte, options_from, is_quote, ends_value, behind_key, behind_value, behind, begins_plain, ReadsNothing, ReadsAs, ReadsOption}
+use Rattle.jail_conf.specs.Options.{Place, Outside, Key, Value, Plain, Quoted, Closed, Nowhere, Reading, read_byte, outcome, options_from, is_quote, ends_value, behind_key, behind_value, behind, begins_plain, IsPlain, ReadsNothing, ReadsAs, ReadsOption}
+use Rattle.jail_conf.specs.declared.options.Given.{Given}
 use Rattle.jail_conf.specs.Sources.{percents_doubled}
 use Rattle.jail_conf.specs.Times.{begins_with}
 use Rattle.jail_conf.specs.Words.{is_among_bytes, HasNone, is_empty}
+
+pub if_none : {A : Type 0} (o : Option A) {P : Type 0} → P → IfNone o P
+if_none None p = p
+if_none (Some x) p = tt
+
+-- one byte
+step : (place : Place) (byte : ℕ) (rest : List ℕ) (options : Items) (next : Place) (more : Items) →
+    read_byte place byte (record { place = place; options = options }) ≡ record { place = next; options = more } →
+    options_from place options (byte ∷ rest) ≡ options_from next more rest
+step place byte rest options next more reads = ap (λ reading. outcome reading rest) reads
+
+none_first : (bytes : List ℕ) (byte : ℕ) (text : List ℕ) → HasNone bytes (byte ∷ text) → not (is_among_bytes bytes byte) ≡ true
+none_first bytes byte text none = (and_parts _ _ none).0
+
+none_rest : (bytes : List ℕ) (byte : ℕ) (text : List ℕ) → HasNone bytes (byte ∷ text) → HasNone bytes text
+none_rest bytes byte text none = (and_parts _ _ none).1
 
 -- at what is no option nothing is read any more
 pub nowhere : (text : List ℕ) → ReadsNothing Nowhere text
@@ -25,14 +42,14 @@ module _ (place : Place) (stays : (byte : ℕ) (options : Items) → is_blank by
   over_blanks : (text : List ℕ) → ReadsAs place text place (trimmed_start text)
   unfolding trimmed_start
   over_blanks [] options = refl
-  over_blanks (byte ∷ text) options = by (is_blank byte) refl
+  over_blanks (byte ∷ text) options = by (is_blank byte) refl (over_blanks text options)
     where
-      by : (blank : Bool) → is_blank byte ≡ blank →
+      by : (blank : Bool) → is_blank byte ≡ blank → options_from place options text ≡ options_from place options (drop (prefix_len is_blank text) text) →
           options_from place options (byte ∷ text) ≡ options_from place options (drop (cond blank (1 + prefix_len is_blank text) 0) (byte ∷ text))
-      by false is = refl
-      by true is =
-          let more : 1 + prefix_len is_blank text ≡ suc (prefix_len is_blank text) = omega arith in
-          rw (stays byte options is) (over_blanks text options ∙ sym (ap (λ n. options_from place options (drop n (byte ∷ text))) more))
+      by false is rest = refl
+      by true is rest =
+          let more : suc (prefix_len is_blank text) ≡ 1 + prefix_len is_blank text = omega arith in
+          step place byte text options place options (stays byte options is) ∙ (rest ∙ ap (λ n. options_from place options (drop n (byte ∷ text))) more)
 
 outside_stays : (byte : ℕ) (options : Items) → is_blank byte ≡ true → read_byte Outside byte (record { place = Outside; options = options }) ≡ record { place = Outside; options = options }
 outside_stays byte options blank = let other : (byte == 91) ≡ false = grind (arith, nat_tests, blank) in rw (other, blank) refl
@@ -62,14 +79,22 @@ key_byte : (byte : ℕ) (done : List ℕ) (options : Items) → not (is_among_by
     read_byte (Key done) byte (record { place = Key done; options = options }) ≡ record { place = Key (done ++ byte ∷ []); options = options }
 key_byte byte done options among =
     let equals : (byte == 61) ≡ false = grind (arith, nat_tests, among) in
-    let others : (ends_value byte || ((byte == 91) || is_quote byte)) ≡ false = grind (arith, nat_tests, among) in
+    let others : (ends_value byte || byte == 91 || is_quote byte) ≡ false = grind (arith, nat_tests, among) in
+    rw (equals, others) refl
+
+key_broken : (byte : ℕ) (done : List ℕ) (options : Items) → is_among_bytes key_stops byte ≡ true → byte ≢ 61 →
+    read_byte (Key done) byte (record { place = Key done; options = options }) ≡ record { place = Nowhere; options = options }
+key_broken byte done options among other =
+    let equals : (byte == 61) ≡ false = ne_eqb byte 61 other in
+    let others : (ends_value byte || byte == 91 || is_quote byte) ≡ true = grind (arith, nat_tests, among, other) in
     rw (equals, others) refl
 
 pub key_run : (key done rest : List ℕ) → HasNone key_stops key → ReadsAs (Key done) (key ++ rest) (Key (done ++ key)) rest
 key_run [] done rest none options = ap (λ key. options_from (Key key) options rest) (sym (append-nil done))
 key_run (byte ∷ key) done rest none options =
-    let parts = and_parts _ _ none in
-    rw (key_byte byte done options parts.0) (key_run key (done ++ byte ∷ []) rest parts.1 options ∙ ap (λ key. options_from (Key key) options rest) (append_assoc done (byte ∷ []) key))
+    step (Key done) byte (key ++ rest) options (Key (done ++ byte ∷ [])) options (key_byte byte done options (none_first key_stops byte key none))
+    ∙ (key_run key (done ++ byte ∷ []) rest (none_rest key_stops byte key none) options
+    ∙ ap (λ key. options_from (Key key) options rest) (append_assoc done (byte ∷ []) key))
 
 -- a key that ends at `=`
 pub key_ends : (key rest : List ℕ) → HasNone key_stops key → is_empty (trimmed key) ≡ false → ReadsAs (Key []) (key ++ 61 ∷ rest) (Value (trimmed key)) rest
@@ -82,9 +107,7 @@ key_empty key rest none empty options =
 -- at another byte, or nowhere
 pub key_breaks : (key rest : List ℕ) (byte : ℕ) → HasNone key_stops key → is_among_bytes key_stops byte ≡ true → byte ≢ 61 → ReadsNothing (Key []) (key ++ byte ∷ rest)
 key_breaks key rest byte none among other options =
-    let equals : (byte == 61) ≡ false = grind (arith, nat_tests, other) in
-    let others : (ends_value byte || ((byte == 91) || is_quote byte)) ≡ true = grind (arith, nat_tests, among, other) in
-    key_run key [] (byte ∷ rest) none options ∙ rw (equals, others) (nowhere rest options)
+    key_run key [] (byte ∷ rest) none options ∙ (step (Key key) byte rest options Nowhere options (key_broken byte key options among other) ∙ nowhere rest options)
 
 pub key_alone : (key : List ℕ) → HasNone key_stops key → ReadsNothing (Key []) key
 key_alone key none options = ap (options_from (Key []) options) (sym (append-nil key)) ∙ key_run key [] [] none options
@@ -95,27 +118,41 @@ quoted_byte : (quote byte : ℕ) (key done : List ℕ) (options : Items) → not
     read_byte (Quoted quote key done) byte (record { place = Quoted quote key done; options = options }) ≡ record { place = Quoted quote key (done ++ byte ∷ []); options = options }
 quoted_byte quote byte key done options among = let other : (byte == quote) ≡ false = grind (arith, nat_tests, among) in rw other refl
 
+quoted_closed : (quote byte : ℕ) (key done : List ℕ) (options : Items) → is_among_bytes (quote ∷ []) byte ≡ true →
+    read_byte (Quoted quote key done) byte (record { place = Quoted quote key done; options = options })
+    ≡ record { place = Closed; options = options ++ (str_to_ascii_lowercase key, done) ∷ [] }
+quoted_closed quote byte key done options among = let same : (byte == quote) ≡ true = grind (arith, nat_tests, among) in rw same refl
+
 quoted_run : (quote : ℕ) (key value done rest : List ℕ) → HasNone (quote ∷ []) value → ReadsAs (Quoted quote key done) (value ++ rest) (Quoted quote key (done ++ value)) rest
 quoted_run quote key [] done rest none options = ap (λ value. options_from (Quoted quote key value) options rest) (sym (append-nil done))
 quoted_run quote key (byte ∷ value) done rest none options =
-    let parts = and_parts _ _ none in
-    rw (quoted_byte quote byte key done options parts.0)
-    (quoted_run quote key value (done ++ byte ∷ []) rest parts.1 options ∙ ap (λ value. options_from (Quoted quote key value) options rest) (append_assoc done (byte ∷ []) value))
+    step (Quoted quote key done) byte (value ++ rest) options (Quoted quote key (done ++ byte ∷ [])) options
+      (quoted_byte quote byte key done options (none_first (quote ∷ []) byte value none))
+    ∙ (quoted_run quote key value (done ++ byte ∷ []) rest (none_rest (quote ∷ []) byte value none) options
+    ∙ ap (λ value. options_from (Quoted quote key value) options rest) (append_assoc done (byte ∷ []) value))
 
 -- to its closing quote
 pub quoted_ends : (quote end : ℕ) (key value rest : List ℕ) → HasNone (quote ∷ []) value → is_among_bytes (quote ∷ []) end ≡ true →
     ReadsOption (Quoted quote key []) (value ++ end ∷ rest) key value Closed rest
 quoted_ends quote end key value rest none among options =
-    let same : (end == quote) ≡ true = grind (arith, nat_tests, among) in
-    quoted_run quote key value [] (end ∷ rest) none options ∙ rw same refl
+    quoted_run quote key value [] (end ∷ rest) none options
+    ∙ step (Quoted quote key value) end rest options Closed (options ++ (str_to_ascii_lowercase key, value) ∷ []) (quoted_closed quote end key value options among)
 
 pub quoted_open : (quote : ℕ) (key value : List ℕ) → HasNone (quote ∷ []) value → ReadsNothing (Quoted quote key []) value
 quoted_open quote key value none options =
     ap (options_from (Quoted quote key []) options) (sym (append-nil value)) ∙ quoted_run quote key value [] [] none options
 
+quote_read : (quote : ℕ) (key : List ℕ) (options : Items) → is_quote quote ≡ true →
+    read_byte (Value key) quote (record { place = Value key; options = options }) ≡ record { place = Quoted quote key []; options = options }
+quote_read quote key options is = let blank : is_blank quote ≡ false = grind (arith, nat_tests, is) in rw (blank, is) refl
+
 -- it begins
 pub quote_opens : (quote : ℕ) (key rest : List ℕ) → is_quote quote ≡ true → ReadsAs (Value key) (quote ∷ rest) (Quoted quote key []) rest
-quote_opens quote key rest is options = let blank : is_blank quote ≡ false = grind (arith, nat_tests, is) in rw (blank, is) refl
+quote_opens quote key rest is options = step (Value key) quote rest options (Quoted quote key []) options (quote_read quote key options is)
+
+closed_broken : (byte : ℕ) (options : Items) → is_blank byte ≡ false → (byte == 44) ≡ false → (byte == 93) ≡ false →
+    read_byte Closed byte (record { place = Closed; options = options }) ≡ record { place = Nowhere; options = options }
+closed_broken byte options blank first second = rw (blank, first, second) refl
 
 -- behind it
 pub closed_breaks : (text : List ℕ) → begins_with is_blank text ≡ false → ((rest : List ℕ) → text ≢ 44 ∷ rest) → ((rest : List ℕ) → text ≢ 93 ∷ rest) → ReadsNothing Closed text
@@ -123,7 +160,7 @@ closed_breaks [] blank comma bracket options = refl
 closed_breaks (byte ∷ text) blank comma bracket options =
     let first : (byte == 44) ≡ false = ne_eqb byte 44 (λ same. comma text (ap (λ b. b ∷ text) same)) in
     let second : (byte == 93) ≡ false = ne_eqb byte 93 (λ same. bracket text (ap (λ b. b ∷ text) same)) in
-    rw (blank, first, second) (nowhere text options)
+    step Closed byte text options Nowhere options (closed_broken byte options blank first second) ∙ nowhere text options
 
 -- ---- plain values
 
@@ -137,12 +174,21 @@ plain_byte byte key done options among =
     let quote : is_quote byte ≡ false = grind (arith, nat_tests, among) in
     rw (ends, quote) refl
 
+plain_closed : (byte : ℕ) (key done : List ℕ) (options : Items) → ends_value byte ≡ true →
+    read_byte (Plain key done) byte (record { place = Plain key done; options = options })
+    ≡ record { place = behind_value byte; options = options ++ (str_to_ascii_lowercase key, trimmed done) ∷ [] }
+plain_closed byte key done options ends = rw ends refl
+
+plain_broken : (byte : ℕ) (key done : List ℕ) (options : Items) → is_quote byte ≡ true →
+    read_byte (Plain key done) byte (record { place = Plain key done; options = options }) ≡ record { place = Nowhere; options = options }
+plain_broken byte key done options is = let ends : ends_value byte ≡ false = grind (arith, nat_tests, is) in rw (ends, is) refl
+
 plain_run : (key value done rest : List ℕ) → HasNone plain_stops value → ReadsAs (Plain key done) (value ++ rest) (Plain key (done ++ value)) rest
 plain_run key [] done rest none options = ap (λ value. options_from (Plain key value) options rest) (sym (append-nil done))
 plain_run key (byte ∷ value) done rest none options =
-    let parts = and_parts _ _ none in
-    rw (plain_byte byte key done options parts.0)
-    (plain_run key value (done ++ byte ∷ []) rest parts.1 options ∙ ap (λ value. options_from (Plain key value) options rest) (append_assoc done (byte ∷ []) value))
+    step (Plain key done) byte (value ++ rest) options (Plain key (done ++ byte ∷ [])) options (plain_byte byte key done options (none_first plain_stops byte value none))
+    ∙ (plain_run key value (done ++ byte ∷ []) rest (none_rest plain_stops byte value none) options
+    ∙ ap (λ value. options_from (Plain key value) options rest) (append_assoc done (byte ∷ []) value))
 
 trimmed-nil : trimmed [] ≡ []
 unfolding trimmed_start trimmed_end
@@ -152,7 +198,7 @@ quote_no_plain : (quote : ℕ) → not (is_blank quote || is_quote quote) ≡ tr
 quote_no_plain quote plain is = grind (arith, nat_tests, plain, is)
 
 -- its first byte
-plain_first : (byte : ℕ) (key : List ℕ) (options : Items) → begins_plain (byte ∷ []) ≡ true → not (is_among_bytes plain_stops byte) ≡ true →
+plain_first : (byte : ℕ) (key : List ℕ) (options : Items) → not (is_blank byte || is_quote byte) ≡ true → not (is_among_bytes plain_stops byte) ≡ true →
     read_byte (Value key) byte (record { place = Value key; options = options }) ≡ record { place = Plain key (byte ∷ []); options = options }
 plain_first byte key options plain among =
     let blank : is_blank byte ≡ false = grind (arith, nat_tests, plain) in
@@ -160,32 +206,108 @@ plain_first byte key options plain among =
     let ends : ends_value byte ≡ false = grind (arith, nat_tests, among) in
     rw (blank, quote, ends) refl
 
+-- an empty one
+plain_none : (end : ℕ) (key : List ℕ) (options : Items) → ends_value end ≡ true →
+    read_byte (Value key) end (record { place = Value key; options = options })
+    ≡ record { place = behind_value end; options = options ++ (str_to_ascii_lowercase key, []) ∷ [] }
+plain_none end key options ends =
+    let blank : is_blank end ≡ false = grind (arith, nat_tests, ends) in
+    let quote : is_quote end ≡ false = grind (arith, nat_tests, ends) in
+    rw (blank, quote, ends) refl
+
 -- to its comma or bracket
 pub plain_ends : (end : ℕ) (key value rest : List ℕ) → begins_plain (value ++ end ∷ rest) ≡ true → HasNone plain_stops value → ends_value end ≡ true →
     ReadsOption (Value key) (value ++ end ∷ rest) key (trimmed value) (behind_value end) rest
 plain_ends end key [] rest plain none ends options =
-    let blank : is_blank end ≡ false = grind (arith, nat_tests, plain) in
-    let quote : is_quote end ≡ false = grind (arith, nat_tests, plain) in
-    rw (blank, quote, ends) (ap (λ value. options_from (behind_value end) (options ++ (str_to_ascii_lowercase key, value) ∷ []) rest) (sym trimmed-nil))
+    step (Value key) end rest options (behind_value end) (options ++ (str_to_ascii_lowercase key, []) ∷ []) (plain_none end key options ends)
+    ∙ ap (λ value. options_from (behind_value end) (options ++ (str_to_ascii_lowercase key, value) ∷ []) rest) (sym trimmed-nil)
 plain_ends end key (byte ∷ value) rest plain none ends options =
-    let parts = and_parts _ _ none in
-    rw (plain_first byte key options plain parts.0) (plain_run key value (byte ∷ []) (end ∷ rest) parts.1 options ∙ rw ends refl)
+    step (Value key) byte (value ++ end ∷ rest) options (Plain key (byte ∷ [])) options (plain_first byte key options plain (none_first plain_stops byte value none))
+    ∙ (plain_run key value (byte ∷ []) (end ∷ rest) (none_rest plain_stops byte value none) options
+    ∙ step (Plain key (byte ∷ value)) end rest options (behind_value end) (options ++ (str_to_ascii_lowercase key, trimmed (byte ∷ value)) ∷ [])
+      (plain_closed end key (byte ∷ value) options ends))
 
 -- at a quote, or nowhere
 pub plain_breaks : (quote : ℕ) (key value rest : List ℕ) → begins_plain (value ++ quote ∷ rest) ≡ true → HasNone plain_stops value → is_quote quote ≡ true →
     ReadsNothing (Value key) (value ++ quote ∷ rest)
 plain_breaks quote key [] rest plain none is options = absurd (quote_no_plain quote plain is)
 plain_breaks quote key (byte ∷ value) rest plain none is options =
-    let parts = and_parts _ _ none in
-    let ends : ends_value quote ≡ false = grind (arith, nat_tests, is) in
-    rw (plain_first byte key options plain parts.0) (plain_run key value (byte ∷ []) (quote ∷ rest) parts.1 options ∙ rw (ends, is) (nowhere rest options))
+    step (Value key) byte (value ++ quote ∷ rest) options (Plain key (byte ∷ [])) options (plain_first byte key options plain (none_first plain_stops byte value none))
+    ∙ (plain_run key value (byte ∷ []) (quote ∷ rest) (none_rest plain_stops byte value none) options
+    ∙ (step (Plain key (byte ∷ value)) quote rest options Nowhere options (plain_broken quote key (byte ∷ value) options is) ∙ nowhere rest options))
 
 pub plain_alone : (key value : List ℕ) → begins_plain value ≡ true → HasNone plain_stops value → ReadsNothing (Value key) value
 plain_alone key [] plain none options = refl
 plain_alone key (byte ∷ value) plain none options =
-    let parts = and_parts _ _ none in
-    rw (plain_first byte key options plain parts.0)
-    (ap (λ rest. options_from (Plain key (byte ∷ [])) options rest) (sym (append-nil value)) ∙ plain_run key value (byte ∷ []) [] parts.1 options)
+    step (Value key) byte value options (Plain key (byte ∷ [])) options (plain_first byte key options plain (none_first plain_stops byte value none))
+    ∙ (ap (options_from (Plain key (byte ∷ [])) options) (sym (append-nil value)) ∙ plain_run key value (byte ∷ []) [] (none_rest plain_stops byte value none) options)
+
+-- ---- behind blanks
+
+-- no blank begins what is trimmed
+pub no_blank_first : (text : List ℕ) → begins_with is_blank (trimmed_start text) ≡ false
+unfolding trimmed_start
+no_blank_first [] = refl
+no_blank_first (byte ∷ text) = by (is_blank byte) refl (no_blank_first text)
+  where
+    by : (blank : Bool) → is_blank byte ≡ blank → begins_with is_blank (drop (prefix_len is_blank text) text) ≡ false →
+        begins_with is_blank (drop (cond blank (1 + prefix_len is_blank text) 0) (byte ∷ text)) ≡ false
+    by false is rest = is
+    by true is rest =
+        let more : suc (prefix_len is_blank text) ≡ 1 + prefix_len is_blank text = omega arith in
+        subst (λ n. begins_with is_blank (drop n (byte ∷ text)) ≡ false) more rest
+
+trimmed_no_longer : (text : List ℕ) → length (trimmed_start text) ≤ length text
+unfolding trimmed_start
+trimmed_no_longer text = rw (length-drop (prefix_len is_blank text) text) (omega arith)
+
+pub trimmed_shorter : (text rest : List ℕ) (byte : ℕ) → trimmed_start text ≡ byte ∷ rest → length rest < length text
+trimmed_shorter text rest byte is =
+    let whole : length (trimmed_start text) ≡ length (byte ∷ rest) = ap length is in
+    omega (arith, trimmed_no_longer text, whole)
+
+-- the end of an option
+pub closed_comma : (text rest : List ℕ) → trimmed_start text ≡ 44 ∷ rest → ReadsAs Closed text (Key []) rest
+closed_comma text rest is options = closed_trimmed text options ∙ ap (options_from Closed options) is
+
+pub closed_bracket : (text rest : List ℕ) → trimmed_start text ≡ 93 ∷ rest → ReadsAs Closed text Outside rest
+closed_bracket text rest is options = closed_trimmed text options ∙ ap (options_from Closed options) is
+
+pub closed_none : (text : List ℕ) → ((rest : List ℕ) → trimmed_start text ≢ 44 ∷ rest) → ((rest : List ℕ) → trimmed_start text ≢ 93 ∷ rest) → ReadsNothing Closed text
+closed_none text comma bracket options = closed_trimmed text options ∙ closed_breaks (trimmed_start text) (no_blank_first text) comma bracket options
+
+-- ---- an option at the front of a text
+
+abbrev pub FrontOption : Place → (text key : List ℕ) → Given → Type 0
+FrontOption place text key given = ReadsOption place text key given.value (behind given.is_last) given.rest
+
+-- nothing comes of a value in quotes without an end
+pub quoted_none : (quote end : ℕ) (key text value rest : List ℕ) → text ≡ value ++ end ∷ rest → HasNone (quote ∷ []) value → is_among_bytes (quote ∷ []) end ≡ true →
+    ReadsNothing Closed rest → ReadsNothing (Quoted quote key []) text
+quoted_none quote end key text value rest whole none among closed options =
+    ap (options_from (Quoted quote key []) options) whole ∙ (quoted_ends quote end key value rest none among options ∙ closed _)
+
+pub quoted_some : (quote end : ℕ) (key text value rest : List ℕ) (next : Place) (left : List ℕ) → text ≡ value ++ end ∷ rest → HasNone (quote ∷ []) value →
+    is_among_bytes (quote ∷ []) end ≡ true → ReadsAs Closed rest next left → ReadsOption (Quoted quote key []) text key value next left
+quoted_some quote end key text value rest next left whole none among closed options =
+    ap (options_from (Quoted quote key []) options) whole ∙ (quoted_ends quote end key value rest none among options ∙ closed _)
+
+pub part_shorter : (text value rest left : List ℕ) (end : ℕ) → text ≡ value ++ end ∷ rest → length left < length rest → length left < length text
+part_shorter text value rest left end whole less =
+    let long : length text ≡ length value + length (end ∷ rest) = ap length whole ∙ length-append value (end ∷ rest) in
+    omega (arith, long)
+
+-- a value behind blanks
+pub value_quoted : (quote : ℕ) (key text rest : List ℕ) → is_quote quote ≡ true → trimmed_start text ≡ quote ∷ rest → ReadsAs (Value key) text (Quoted quote key []) rest
+value_quoted quote key text rest is begins options =
+    value_trimmed key text options ∙ (ap (options_from (Value key) options) begins ∙ quote_opens quote key rest is options)
+
+pub begins_plain_is : (text : List ℕ) → begins_with is_blank text ≡ false → ((rest : List ℕ) → text ≢ 34 ∷ rest) → ((rest : List ℕ) → text ≢ 39 ∷ rest) → IsPlain text
+begins_plain_is [] blank double single = refl
+begins_plain_is (byte ∷ text) blank double single =
+    let first : (byte == 34) ≡ false = ne_eqb byte 34 (λ same. double text (ap (λ b. b ∷ text) same)) in
+    let second : (byte == 39) ≡ false = ne_eqb byte 39 (λ same. single text (ap (λ b. b ∷ text) same)) in
+    rw (blank, first, second) refl
 
 -- ---- percent signs
 

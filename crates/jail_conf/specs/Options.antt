@@ -74,9 +74,13 @@ whole reading place = None
 abbrev pub whole_of : Reading → Option Items
 whole_of reading = whole reading reading.place
 
--- what comes of a text where the reading stands at this place, with these options read before
+-- what comes of a text that is read from here on
+abbrev pub outcome : Reading → List ℕ → Option Items
+outcome reading text = whole_of (fold (λ reading byte. read_byte reading.place byte reading) reading text)
+
+-- where the reading stands at this place, with these options read before
 abbrev pub options_from : Place → Items → List ℕ → Option Items
-options_from place options text = whole_of (fold (λ reading byte. read_byte reading.place byte reading) (record { place = place; options = options }) text)
+options_from place options text = outcome (record { place = place; options = options }) text
 
 -- the options of some groups
 abbrev pub groups : List ℕ → Option Items
