@@ -1,13 +1,15 @@
 -- How a name's options are read, part by part.
-use Rattle.std.proofs.Common.{◌≡◌, ◌≢◌, ℕ, suc, ◌+◌, ◌<◌, Bool, true, false, cond, not, ◌==◌, ◌&&◌, ◌||◌, List, [], ◌∷◌, ◌++◌, length, drop, codes, subst, length-drop, length-append, ◌≤◌, Option, None, Some, IfNone, IfSome, refl, sym, ap, ◌∙◌, append_assoc, ne_eqb, arith}
-use Rattle.std.specs.List.{list_all, prefix_len}
+use Rattle.std.proofs.Common.{◌≡◌, ◌≢◌, ℕ, suc, ◌+◌, ◌<◌, Bool, true, false, cond, not, ◌==◌, ◌&&◌, ◌||◌, List, [], ◌∷◌, ◌++◌, length, drop, codes, subst, length-drop, get_or, slice_index, unwrap_or, ◌-◌, length-append, ◌≤◌, Option, None, Some, IfNone, IfSome, refl, sym, ap, ◌∙◌, append_assoc, ne_eqb, arith}
+use Rattle.std.specs.List.{list_all, prefix_len, position_or_len}
+use Rattle.std.specs.Option.{MatchOption}
+use Rattle.std.proofs.lemmas.List.Sums.{position_or_len_is}
 use Rattle.std.specs.Str.{str_to_ascii_lowercase}
 use Rattle.std.proofs.lemmas.List.{append-nil}
 use Rattle.std.proofs.lemmas.Bool.{and_parts}
 use Rattle.std.proofs.lemmas.Bool.Decides.{nat_tests}
 use Rattle.ini_interp.specs.Lines.{is_blank, trimmed_start, trimmed_end, trimmed}
 use Rattle.ini_interp.specs.Sections.{Items}
-use Rattle.jail_conf.specs.Options.{Place, Outside, Key, Value, Plain, Quoted, Closed, Nowhere, Reading, read_byte, outcome, options_from, is_quote, ends_value, behind_key, behind_value, behind, begins_plain, IsPlain, ReadsNothing, ReadsAs, ReadsOption}
+use Rattle.jail_conf.specs.Options.{Place, Outside, Key, Value, Plain, Quoted, Closed, Nowhere, Reading, read_byte, outcome, options_from, is_quote, ends_value, behind_key, behind_value, behind, begins_plain, IsPlain, opens, ReadsNothing, ReadsAs, ReadsOption}
 use Rattle.jail_conf.specs.declared.options.Given.{Given}
 use Rattle.jail_conf.specs.Sources.{percents_doubled}
 use Rattle.jail_conf.specs.Times.{begins_with}
@@ -207,10 +209,10 @@ plain_first byte key options plain among =
     rw (blank, quote, ends) refl
 
 -- an empty one
-plain_none : (end : ℕ) (key : List ℕ) (options : Items) → ends_value end ≡ true →
+plain_empty : (end : ℕ) (key : List ℕ) (options : Items) → ends_value end ≡ true →
     read_byte (Value key) end (record { place = Value key; options = options })
     ≡ record { place = behind_value end; options = options ++ (str_to_ascii_lowercase key, []) ∷ [] }
-plain_none end key options ends =
+plain_empty end key options ends =
     let blank : is_blank end ≡ false = grind (arith, nat_tests, ends) in
     let quote : is_quote end ≡ false = grind (arith, nat_tests, ends) in
     rw (blank, quote, ends) refl
@@ -219,7 +221,7 @@ plain_none end key options ends =
 pub plain_ends : (end : ℕ) (key value rest : List ℕ) → begins_plain (value ++ end ∷ rest) ≡ true → HasNone plain_stops value → ends_value end ≡ true →
     ReadsOption (Value key) (value ++ end ∷ rest) key (trimmed value) (behind_value end) rest
 plain_ends end key [] rest plain none ends options =
-    step (Value key) end rest options (behind_value end) (options ++ (str_to_ascii_lowercase key, []) ∷ []) (plain_none end key options ends)
+    step (Value key) end rest options (behind_value end) (options ++ (str_to_ascii_lowercase key, []) ∷ []) (plain_empty end key options ends)
     ∙ ap (λ value. options_from (behind_value end) (options ++ (str_to_ascii_lowercase key, value) ∷ []) rest) (sym trimmed-nil)
 plain_ends end key (byte ∷ value) rest plain none ends options =
     step (Value key) byte (value ++ end ∷ rest) options (Plain key (byte ∷ [])) options (plain_first byte key options plain (none_first plain_stops byte value none))
@@ -278,22 +280,57 @@ closed_none text comma bracket options = closed_trimmed text options ∙ closed_
 
 -- ---- an option at the front of a text
 
-abbrev pub FrontOption : Place → (text key : List ℕ) → Given → Type 0
-FrontOption place text key given = ReadsOption place text key given.value (behind given.is_last) given.rest
+key_whole : (text key rest : List ℕ) (divider : ℕ) → text ≡ key ++ divider ∷ rest → divider ≡ 61 → text ≡ key ++ 61 ∷ rest
+key_whole text key rest divider whole is = whole ∙ ap (λ byte. key ++ byte ∷ rest) is
 
--- nothing comes of a value in quotes without an end
-pub quoted_none : (quote end : ℕ) (key text value rest : List ℕ) → text ≡ value ++ end ∷ rest → HasNone (quote ∷ []) value → is_among_bytes (quote ∷ []) end ≡ true →
-    ReadsNothing Closed rest → ReadsNothing (Quoted quote key []) text
-quoted_none quote end key text value rest whole none among closed options =
-    ap (options_from (Quoted quote key []) options) whole ∙ (quoted_ends quote end key value rest none among options ∙ closed _)
+pub key_stops_at : (text key rest : List ℕ) (divider : ℕ) → text ≡ key ++ divider ∷ rest → HasNone key_stops key → is_among_bytes key_stops divider ≡ true → divider ≢ 61 →
+    ReadsNothing (Key []) text
+key_stops_at text key rest divider whole none among other options = ap (options_from (Key []) options) whole ∙ key_breaks key rest divider none among other options
 
-pub quoted_some : (quote end : ℕ) (key text value rest : List ℕ) (next : Place) (left : List ℕ) → text ≡ value ++ end ∷ rest → HasNone (quote ∷ []) value →
-    is_among_bytes (quote ∷ []) end ≡ true → ReadsAs Closed rest next left → ReadsOption (Quoted quote key []) text key value next left
-quoted_some quote end key text value rest next left whole none among closed options =
-    ap (options_from (Quoted quote key []) options) whole ∙ (quoted_ends quote end key value rest none among options ∙ closed _)
+pub key_is_empty : (text key rest short : List ℕ) (divider : ℕ) → text ≡ key ++ divider ∷ rest → divider ≡ 61 → HasNone key_stops key → short ≡ trimmed key → is_empty short ≡ true →
+    ReadsNothing (Key []) text
+key_is_empty text key rest short divider whole is none trim empty options =
+    ap (options_from (Key []) options) (key_whole text key rest divider whole is) ∙ key_empty key rest none (ap is_empty (sym trim) ∙ empty) options
 
-pub part_shorter : (text value rest left : List ℕ) (end : ℕ) → text ≡ value ++ end ∷ rest → length left < length rest → length left < length text
-part_shorter text value rest left end whole less =
+pub key_is_read : (text key rest short : List ℕ) (divider : ℕ) → text ≡ key ++ divider ∷ rest → divider ≡ 61 → HasNone key_stops key → short ≡ trimmed key → is_empty short ≡ false →
+    ReadsAs (Key []) text (Value short) rest
+key_is_read text key rest short divider whole is none trim some options =
+    ap (options_from (Key []) options) (key_whole text key rest divider whole is)
+    ∙ (key_ends key rest none (ap is_empty (sym trim) ∙ some) options ∙ ap (λ key. options_from (Value key) options rest) (sym trim))
+
+-- a text of one quote
+one_quote : (quotes : List ℕ) → length quotes ≡ 1 → quotes ≡ slice_index quotes 0 ∷ []
+one_quote [] one = absurd (omega arith)
+one_quote (quote ∷ []) one = refl
+one_quote (quote ∷ other ∷ more) one = absurd (omega arith)
+
+pub quote_is_open : (quotes text : List ℕ) → length quotes ≡ 1 → HasNone quotes text → (key : List ℕ) → ReadsNothing (Quoted (slice_index quotes 0) key []) text
+quote_is_open quotes text one none key = quoted_open (slice_index quotes 0) key text (subst (λ bytes. HasNone bytes text) (one_quote quotes one) none)
+
+quote_is_closed : (quotes : List ℕ) (end : ℕ) (text value rest : List ℕ) → length quotes ≡ 1 → text ≡ value ++ end ∷ rest → HasNone quotes value → is_among_bytes quotes end ≡ true →
+    (key : List ℕ) → ReadsOption (Quoted (slice_index quotes 0) key []) text key value Closed rest
+quote_is_closed quotes end text value rest one whole none among key options =
+    let alone = one_quote quotes one in
+    ap (options_from (Quoted (slice_index quotes 0) key []) options) whole
+    ∙ quoted_ends (slice_index quotes 0) end key value rest (subst (λ bytes. HasNone bytes value) alone none) (subst (λ bytes. is_among_bytes bytes end ≡ true) alone among) options
+
+pub quoted_none : (quotes : List ℕ) (end : ℕ) (text value rest : List ℕ) (o : Option Given) → length quotes ≡ 1 → text ≡ value ++ end ∷ rest → HasNone quotes value →
+    is_among_bytes quotes end ≡ true → IfNone o (ReadsNothing Closed rest) → IfNone o ((key : List ℕ) → ReadsNothing (Quoted (slice_index quotes 0) key []) text)
+quoted_none quotes end text value rest None one whole none among nothing = λ key options. quote_is_closed quotes end text value rest one whole none among key options ∙ nothing _
+quoted_none quotes end text value rest (Some given) one whole none among nothing = tt
+
+pub quoted_some : (quotes : List ℕ) (end : ℕ) (text value rest : List ℕ) (o : Option Given) → length quotes ≡ 1 → text ≡ value ++ end ∷ rest → HasNone quotes value →
+    is_among_bytes quotes end ≡ true → IfSome o (λ given. given.value.now ≡ value) → IfSome o (λ given. ReadsAs Closed rest (behind given.is_last) given.rest.now) →
+    IfSome o (λ given. (key : List ℕ) → ReadsOption (Quoted (slice_index quotes 0) key []) text key given.value.now (behind given.is_last) given.rest.now)
+quoted_some quotes end text value rest None one whole none among same reads = tt
+quoted_some quotes end text value rest (Some given) one whole none among same reads = λ key options.
+    quote_is_closed quotes end text value rest one whole none among key options
+    ∙ (reads _ ∙ ap (λ (value : List ℕ). options_from (behind given.is_last) (options ++ (str_to_ascii_lowercase key, value) ∷ []) given.rest.now) (sym same))
+
+pub quoted_shorter : (end : ℕ) (text value rest : List ℕ) (o : Option Given) → text ≡ value ++ end ∷ rest → IfSome o (λ given. length given.rest.now < length rest) →
+    IfSome o (λ given. length given.rest.now < length text)
+quoted_shorter end text value rest None whole less = tt
+quoted_shorter end text value rest (Some given) whole less =
     let long : length text ≡ length value + length (end ∷ rest) = ap length whole ∙ length-append value (end ∷ rest) in
     omega (arith, long)
 
@@ -308,6 +345,70 @@ begins_plain_is (byte ∷ text) blank double single =
     let first : (byte == 34) ≡ false = ne_eqb byte 34 (λ same. double text (ap (λ b. b ∷ text) same)) in
     let second : (byte == 39) ≡ false = ne_eqb byte 39 (λ same. single text (ap (λ b. b ∷ text) same)) in
     rw (blank, first, second) refl
+
+pub quote_none : (quote : ℕ) (text rest : List ℕ) (o : Option Given) → is_quote quote ≡ true → trimmed_start text ≡ quote ∷ rest →
+    IfNone o ((key : List ℕ) → ReadsNothing (Quoted quote key []) rest) → IfNone o ((key : List ℕ) → ReadsNothing (Value key) text)
+quote_none quote text rest None is begins nothing = λ key options. value_quoted quote key text rest is begins options ∙ nothing key options
+quote_none quote text rest (Some given) is begins nothing = tt
+
+pub quote_some : (quote : ℕ) (text rest : List ℕ) (o : Option Given) → is_quote quote ≡ true → trimmed_start text ≡ quote ∷ rest →
+    IfSome o (λ given. (key : List ℕ) → ReadsOption (Quoted quote key []) rest key given.value.now (behind given.is_last) given.rest.now) →
+    IfSome o (λ given. (key : List ℕ) → ReadsOption (Value key) text key given.value.now (behind given.is_last) given.rest.now)
+quote_some quote text rest None is begins reads = tt
+quote_some quote text rest (Some given) is begins reads = λ key options. value_quoted quote key text rest is begins options ∙ reads key options
+
+pub quote_shorter : (byte : ℕ) (text rest : List ℕ) (o : Option Given) → trimmed_start text ≡ byte ∷ rest → IfSome o (λ given. length given.rest.now < length rest) →
+    IfSome o (λ given. length given.rest.now < length text)
+quote_shorter byte text rest None begins less = tt
+quote_shorter byte text rest (Some given) begins less = let more = trimmed_shorter text rest byte begins in omega (arith, more)
+
+-- a value without quotes
+pub begins_plain_at : (text start : List ℕ) → start ≡ trimmed_start text → ((rest : List ℕ) → start ≢ 34 ∷ rest) → ((rest : List ℕ) → start ≢ 39 ∷ rest) → IsPlain start
+begins_plain_at text start is double single = begins_plain_is start (ap (begins_with is_blank) is ∙ no_blank_first text) double single
+
+pub plain_none : (text start : List ℕ) (o : Option Given) → start ≡ trimmed_start text → IfNone o ((key : List ℕ) → ReadsNothing (Value key) start) →
+    IfNone o ((key : List ℕ) → ReadsNothing (Value key) text)
+plain_none text start None is nothing = λ key options. value_trimmed key text options ∙ (ap (options_from (Value key) options) (sym is) ∙ nothing key options)
+plain_none text start (Some given) is nothing = tt
+
+pub plain_some : (text start : List ℕ) (o : Option Given) → start ≡ trimmed_start text →
+    IfSome o (λ given. (key : List ℕ) → ReadsOption (Value key) start key given.value.now (behind given.is_last) given.rest.now) →
+    IfSome o (λ given. (key : List ℕ) → ReadsOption (Value key) text key given.value.now (behind given.is_last) given.rest.now)
+plain_some text start None is reads = tt
+plain_some text start (Some given) is reads = λ key options. value_trimmed key text options ∙ (ap (options_from (Value key) options) (sym is) ∙ reads key options)
+
+pub plain_shorter : (text start : List ℕ) (o : Option Given) → start ≡ trimmed_start text → IfSome o (λ given. length given.rest.now < length start) →
+    IfSome o (λ given. length given.rest.now < length text)
+plain_shorter text start None is less = tt
+plain_shorter text start (Some given) is less = let short : length start ≤ length text = rw is (trimmed_no_longer text) in omega (arith, short)
+
+pub plain_is_read : (text key value rest short : List ℕ) (end last : ℕ) → text ≡ value ++ end ∷ rest → end ≡ last → IsPlain text → HasNone plain_stops value → ends_value last ≡ true →
+    short ≡ trimmed value → ReadsOption (Value key) text key short (behind_value last) rest
+plain_is_read text key value rest short end last whole is plain none ends trim options =
+    let all : text ≡ value ++ last ∷ rest = whole ∙ ap (λ byte. value ++ byte ∷ rest) is in
+    ap (options_from (Value key) options) all
+    ∙ (plain_ends last key value rest (subst IsPlain all plain) none ends options
+    ∙ ap (λ (value : List ℕ). options_from (behind_value last) (options ++ (str_to_ascii_lowercase key, value) ∷ []) rest) (sym trim))
+
+plain_stop : (end : ℕ) → is_among_bytes plain_stops end ≡ true → end ≢ 44 → end ≢ 93 → is_quote end ≡ true
+plain_stop end among comma bracket = grind (arith, nat_tests, among, comma, bracket)
+
+pub plain_stops_at : (text value rest : List ℕ) (end : ℕ) → text ≡ value ++ end ∷ rest → IsPlain text → HasNone plain_stops value → is_among_bytes plain_stops end ≡ true →
+    end ≢ 44 → end ≢ 93 → (key : List ℕ) → ReadsNothing (Value key) text
+plain_stops_at text value rest end whole plain none among comma bracket key options =
+    ap (options_from (Value key) options) whole ∙ plain_breaks end key value rest (subst IsPlain whole plain) none (plain_stop end among comma bracket) options
+
+-- ---- the name
+
+-- what stands before the first `[`
+pub name_place : (text : List ℕ) (found : Option ℕ) (place : ℕ) →
+    MatchOption found ((k : ℕ) → k < length text → get_or text k 0 ≢ 91)
+    (λ k. (k < length text) × (get_or text k 0 ≡ 91) × ((i : ℕ) → i < k → get_or text i 0 ≢ 91)) →
+    place ≡ unwrap_or found (length text) → place ≡ position_or_len opens text
+name_place text None place searched is =
+    is ∙ sym (position_or_len_is opens text (length text) 0 (omega arith) (λ k below. ne_eqb (get_or text k 0) 91 (searched k below)) (λ below. absurd (omega arith)))
+name_place text (Some k) place searched is =
+    is ∙ sym (position_or_len_is opens text k 0 (omega (arith, searched.0)) (λ i below. ne_eqb (get_or text i 0) 91 (searched.2 i below)) (λ below. rw searched.1 refl))
 
 -- ---- percent signs
 

@@ -58,7 +58,7 @@ abbrev pub content_mark : List ℕ → Option Bool
 content_mark name = if is_content name then Some true else if bytes_eq name (codes "/F-CONTENT") then Some false else None
 
 abbrev pub is_one_pair : List Bool → Bool
-is_one_pair (true ∷ false ∷ []) = true
+is_one_pair (first ∷ second ∷ []) = first && not second
 is_one_pair marks = false
 
 -- the content begins once, and behind that ends once

@@ -180,12 +180,8 @@ fn cut_name(text: &str) -> (&str, &str)
     ensures name { result.0.now ≡ before_first opens text.now }
     ensures groups { result.1.now ≡ from_first text.now }
 {
-    for (place, &byte) in text.as_bytes().iter().enumerate() {
-        if byte == b'[' {
-            return (&text[..place], &text[place..]);
-        }
-    }
-    (text, "")
+    let place = text.find('[').unwrap_or(text.len());
+    (&text[..place], &text[place..])
 }
 
 /// The name with options that a text is, if it is one.

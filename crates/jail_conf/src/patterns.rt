@@ -1,8 +1,9 @@
 //! Patterns of failures and of lines that are ignored, as an item lists them.
 ghost use Rattle.std.specs.Prelude.{◌≡◌, option_copied, codes, IfOk};
+ghost use Rattle.std.specs.List.{list_all, filter_map};
 ghost use Rattle.host_ident.specs.Expanded.{begins_group};
 ghost use Rattle.host_ident.specs.Tags.{is_name_byte, is_mark_name};
-ghost use Rattle.jail_conf.specs.Patterns.{name_of, tag_names, is_refused, has_bad_tag, content_mark, has_one_content, has_bad_prefix_tag, pattern};
+ghost use Rattle.jail_conf.specs.Patterns.{name_of, tag_names, is_refused, has_bad_tag, content_mark, is_one_pair, has_one_content, has_bad_prefix_tag, pattern};
 ghost use Rattle.jail_conf.specs.Then.{Gives};
 
 use crate::conf_error::ConfKind;
@@ -65,11 +66,18 @@ fn is_name_byte(byte: u8) -> bool
         || byte == b'-'
 }
 
+/// Whether a name of a tag may have each of the bytes.
+fn is_name(name: &str) -> bool
+    ensures { result ≡ list_all is_name_byte name.now }
+{
+    name.as_bytes().iter().all(|byte| is_name_byte(*byte))
+}
+
 /// Whether the name is one of those that mark lines which go together.
-fn is_line_mark(name: &[u8]) -> bool
+fn is_line_mark(name: &str) -> bool
     ensures { result ≡ is_mark_name (codes "F-MLF") name.now }
 {
-    name.starts_with(b"F-MLF") && name.iter().all(|byte| is_name_byte(*byte))
+    name.starts_with("F-MLF") && is_name(name)
 }
 
 /// Whether a tag of this name stands for nothing here.
@@ -81,7 +89,7 @@ fn is_refused(name: &str) -> bool
         || name == "CIDR"
         || name == "F-ID"
         || name == "F-NOFAIL"
-        || is_line_mark(name.as_bytes())
+        || is_line_mark(name)
 }
 
 /// Whether a pattern has a tag that it may not have.
@@ -108,15 +116,35 @@ fn content_mark(name: &str) -> Option<bool>
     }
 }
 
+/// Where the content begins and where it ends, in order.
+fn content_marks(alloc: Global, names: &[Text]) -> Result<Seq<bool>, NoMemory>
+    ensures { IfOk result (λ marks. marks ≡ filter_map content_mark names.now) }
+{
+    let mut marks = Seq::new(alloc);
+    for name in names {
+        if let Some(begins) = content_mark(name.as_str()) {
+            marks.push(begins)?;
+        }
+    }
+    Ok(marks)
+}
+
+/// Whether these are a beginning and then an end.
+fn is_one_pair(marks: &[bool]) -> bool
+    ensures { result ≡ is_one_pair marks.now }
+{
+    match marks {
+        [first, second] => *first && !*second,
+        _ => false,
+    }
+}
+
 /// Whether the content begins once, and behind that ends once.
 fn has_one_content(alloc: Global, names: &[Text]) -> Result<bool, NoMemory>
     ensures { IfOk result (λ one. one ≡ has_one_content names.now) }
 {
-    let marks: Vec<bool> = names
-        .iter()
-        .filter_map(|name| content_mark(name.as_str()))
-        .collect(alloc)?;
-    Ok(matches!(marks.as_slice(), [true, false]))
+    let marks = content_marks(alloc, names)?;
+    Ok(is_one_pair(marks.as_slice()))
 }
 
 /// Whether the pattern of what a line has to match first has a tag that it may not have, or not the one that it has to have.

@@ -1,20 +1,24 @@
-use Rattle.std.proofs.Common.{rules, ◌≡◌, ◌<◌, ℕ, List, [], length, slice_index, None, IfOk, IfNone, IfSome, ◌+◌, ◌-◌, ◌*◌, ◌≤◌, ◌/◌, ◌%◌, Bool, true, false, nat_eq, nat_lt, ◌∷◌, ◌++◌, slice_index_or, slice_set, bit_and, bit_or, Fits, w8, w32, w64, Bor, MutBor}
-use Rattle.std.specs.List.{before_first}
-use Rattle.jail_conf.specs.Options.{Key, Value, Quoted, Closed, Outside, IsPlain, options_from, ReadsNothing, ReadsAs, ReadsOption, behind, opens, from_first, groups, named}
+use Rattle.std.proofs.Common.{◌≡◌, true, false, sym, ◌∙◌}
+use Rattle.jail_conf.specs.Words.{is_empty}
+use Rattle.jail_conf.proofs.OptionLemmas.{key_alone, key_stops_at, key_is_empty, key_is_read, if_none}
 use Rattle.jail_conf.proofs.options.key_at.Goals as goal
 
--- src/options.rt:33:32
 pub returns-in_err-key-clause-none : goal.returns-in_err-key-clause-none
-returns-in_err-key-clause-none c = ?
+returns-in_err-key-clause-none c = if_none c.from_residual.result (key_alone c.args.text.now c.in_err-key.ensures.none)
 
--- src/options.rt:35:9
 pub returns-then-divider-ne61-clause-none : goal.returns-then-divider-ne61-clause-none
-returns-then-divider-ne61-clause-none c = ?
+returns-then-divider-ne61-clause-none c =
+    let cut = c.in_ok-key in
+    key_stops_at c.args.text.now cut.key.now cut.rest.now cut.divider cut.ensures.whole cut.ensures.before cut.ensures.divider c.if-divider-ne61.true
 
--- src/options.rt:39:9
 pub returns-then-is_empty-clause-none : goal.returns-then-is_empty-clause-none
-returns-then-is_empty-clause-none c = ?
+returns-then-is_empty-clause-none c =
+    let cut = c.in_ok-key in
+    key_is_empty c.args.text.now cut.key.now cut.rest.now c.trim-key.result.now cut.divider cut.ensures.whole c.if-divider-ne61.false cut.ensures.before c.trim-key.ensures
+    (sym c.is_empty.ensures ∙ c.if-is_empty.true)
 
--- src/options.rt:28:1
 pub returns-clause-some : goal.returns-clause-some
-returns-clause-some c = ?
+returns-clause-some c =
+    let cut = c.in_ok-key in
+    key_is_read c.args.text.now cut.key.now cut.rest.now c.trim-key.result.now cut.divider cut.ensures.whole c.if-divider-ne61.false cut.ensures.before c.trim-key.ensures
+    (sym c.is_empty.ensures ∙ c.if-is_empty.false)

@@ -1,20 +1,21 @@
-use Rattle.std.proofs.Common.{rules, ◌≡◌, ◌<◌, ℕ, List, [], length, slice_index, None, IfOk, IfNone, IfSome, ◌+◌, ◌-◌, ◌*◌, ◌≤◌, ◌/◌, ◌%◌, Bool, true, false, nat_eq, nat_lt, ◌∷◌, ◌++◌, slice_index_or, slice_set, bit_and, bit_or, Fits, w8, w32, w64, Bor, MutBor}
-use Rattle.std.specs.List.{before_first}
-use Rattle.jail_conf.specs.Options.{Key, Value, Quoted, Closed, Outside, IsPlain, options_from, ReadsNothing, ReadsAs, ReadsOption, behind, opens, from_first, groups, named}
+use Rattle.std.proofs.Common.{refl}
+use Rattle.jail_conf.proofs.OptionLemmas.{plain_alone, plain_is_read, plain_stops_at, if_none}
 use Rattle.jail_conf.proofs.options.plain.Goals as goal
 
--- src/options.rt:87:30
 pub returns-in_err-value-clause-none : goal.returns-in_err-value-clause-none
-returns-in_err-value-clause-none c = ?
+returns-in_err-value-clause-none c = if_none c.from_residual.result (λ key. plain_alone key c.args.text.now c.requires c.in_err-value.ensures.none)
 
--- src/options.rt:81:1
 pub returns-in-44-clause-some : goal.returns-in-44-clause-some
-returns-in-44-clause-some c = ?
+returns-in-44-clause-some c = λ key.
+    let cut = c.in_ok-value in
+    plain_is_read c.args.text.now key cut.value.now cut.rest.now c.trim.result.now cut.end 44 cut.ensures.whole c.in-44.is c.requires cut.ensures.before refl c.trim.ensures
 
--- src/options.rt:81:1
 pub returns-in-93-clause-some : goal.returns-in-93-clause-some
-returns-in-93-clause-some c = ?
+returns-in-93-clause-some c = λ key.
+    let cut = c.in_ok-value in
+    plain_is_read c.args.text.now key cut.value.now cut.rest.now c.trim-in-93.result.now cut.end 93 cut.ensures.whole c.in-93.is c.requires cut.ensures.before refl c.trim-in-93.ensures
 
--- src/options.rt:81:1
 pub returns-in_default-clause-none : goal.returns-in_default-clause-none
-returns-in_default-clause-none c = ?
+returns-in_default-clause-none c =
+    let cut = c.in_ok-value in
+    let h = c.in_default in ?

@@ -1,16 +1,22 @@
-use Rattle.std.proofs.Common.{rules, ◌≡◌, ◌<◌, ℕ, List, [], length, slice_index, None, IfOk, IfNone, IfSome, ◌+◌, ◌-◌, ◌*◌, ◌≤◌, ◌/◌, ◌%◌, Bool, true, false, nat_eq, nat_lt, ◌∷◌, ◌++◌, slice_index_or, slice_set, bit_and, bit_or, Fits, w8, w32, w64, Bor, MutBor}
-use Rattle.std.specs.List.{before_first}
-use Rattle.jail_conf.specs.Options.{Key, Value, Quoted, Closed, Outside, IsPlain, options_from, ReadsNothing, ReadsAs, ReadsOption, behind, opens, from_first, groups, named}
+use Rattle.jail_conf.proofs.OptionLemmas.{quote_is_open, quoted_none, quoted_some, quoted_shorter, if_none}
 use Rattle.jail_conf.proofs.options.quoted.Goals as goal
 
--- src/options.rt:76:28
 pub returns-in_err-value-clause-none : goal.returns-in_err-value-clause-none
-returns-in_err-value-clause-none c = ?
+returns-in_err-value-clause-none c = if_none c.from_residual.result (quote_is_open c.args.quote.now c.args.text.now c.requires.one c.in_err-value.ensures.none)
 
--- src/options.rt:68:1
 pub returns-clause-none : goal.returns-clause-none
-returns-clause-none c = ?
+returns-clause-none c =
+    let cut = c.in_ok-value in
+    quoted_none c.args.quote.now cut.field-0-1 c.args.text.now cut.value.now cut.rest.now c.ended.result c.requires.one cut.ensures.whole cut.ensures.before cut.ensures.divider
+    c.ended.ensures.none
 
--- src/options.rt:68:1
 pub returns-clause-some : goal.returns-clause-some
-returns-clause-some c = ?
+returns-clause-some c =
+    let cut = c.in_ok-value in
+    quoted_some c.args.quote.now cut.field-0-1 c.args.text.now cut.value.now cut.rest.now c.ended.result c.requires.one cut.ensures.whole cut.ensures.before cut.ensures.divider
+    c.ended.ensures.value c.ended.ensures.some
+
+pub returns-clause-shorter : goal.returns-clause-shorter
+returns-clause-shorter c =
+    let cut = c.in_ok-value in
+    quoted_shorter cut.field-0-1 c.args.text.now cut.value.now cut.rest.now c.ended.result cut.ensures.whole c.ended.ensures.shorter
