@@ -1,4 +1,4 @@
-use Rattle.std.proofs.Common.{◌≡◌, ◌<◌, ◌-◌, ◌∙◌, ap, sym, get_or, take, drop, arith, rules, true}
+use Rattle.std.proofs.Common.{◌≡◌, ◌<◌, ◌-◌, ◌∙◌, ap, sym, length, get_or, take, drop, arith, rules, true}
 use Rattle.std.specs.Str.{IsCharBoundary}
 use Rattle.std.proofs.lemmas.Grind.{common_steps}
 use Rattle.ini_interp.specs.Lines.{is_blank, trimmed}
@@ -24,7 +24,8 @@ returns-clause-before c =
     let stop : 0 < c.loop-start.start → is_blank (get_or c.args.line.now (c.loop-start.start - 1) 0) ≡ true =
     λ some. elim c.loop-start-test.branch [ then-loop-start-test+else-not-is_blank w ↦ search rules | else-loop-start-test w ↦ absurd (omega arith) ] in
     let place = word_place c.args.line.now c.loop-start.start c.loop-start.invariant.within c.loop-start.invariant.word stop in
-    c.trim.ensures ∙ (ap trimmed c.range.ensures.value ∙ ap (λ n. trimmed (take n c.args.line.now)) ?)
+    let long : c.loop-start.start - 0 ≡ length c.args.line.now - last_word_len c.args.line.now = omega (arith, place) in
+    c.trim.ensures ∙ (ap trimmed c.range.ensures.value ∙ ap (λ n. trimmed (take n c.args.line.now)) long)
 
 pub returns-clause-word : goal.returns-clause-word
 returns-clause-word c =

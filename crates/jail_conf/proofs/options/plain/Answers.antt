@@ -1,4 +1,4 @@
-use Rattle.std.proofs.Common.{refl}
+use Rattle.std.proofs.Common.{◌≢◌, refl, arith}
 use Rattle.jail_conf.proofs.OptionLemmas.{plain_alone, plain_is_read, plain_stops_at, if_none}
 use Rattle.jail_conf.proofs.options.plain.Goals as goal
 
@@ -18,4 +18,6 @@ returns-in-93-clause-some c = λ key.
 pub returns-in_default-clause-none : goal.returns-in_default-clause-none
 returns-in_default-clause-none c =
     let cut = c.in_ok-value in
-    let h = c.in_default in ?
+    let comma : cut.end ≢ 44 = λ is. omega arith in
+    let bracket : cut.end ≢ 93 = λ is. omega arith in
+    plain_stops_at c.args.text.now cut.value.now cut.rest.now cut.end cut.ensures.whole c.requires cut.ensures.before cut.ensures.divider comma bracket
