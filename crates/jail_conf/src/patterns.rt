@@ -1,6 +1,6 @@
 //! Patterns of failures and of lines that are ignored, as an item lists them.
 ghost use Rattle.std.specs.Prelude.{◌≡◌, option_copied, codes, IfOk};
-ghost use Rattle.std.specs.List.{list_all, filter_map};
+ghost use Rattle.std.specs.List.{list_all, list_any, filter_map};
 ghost use Rattle.host_ident.specs.Expanded.{begins_group};
 ghost use Rattle.host_ident.specs.Tags.{is_name_byte, is_mark_name};
 ghost use Rattle.jail_conf.specs.Patterns.{name_of, tag_names, is_refused, has_bad_tag, content_mark, is_one_pair, has_one_content, has_bad_prefix_tag, pattern};
@@ -147,21 +147,20 @@ fn has_one_content(alloc: Global, names: &[Text]) -> Result<bool, NoMemory>
     Ok(is_one_pair(marks.as_slice()))
 }
 
+/// Whether one of the tags stands for nothing here.
+fn has_refused(names: &[Text]) -> bool
+    ensures { result ≡ list_any is_refused names.now }
+{
+    names.iter().any(|name| is_refused(name.as_str()))
+}
+
 /// Whether the pattern of what a line has to match first has a tag that it may not have, or not the one that it has to have.
 fn has_bad_prefix_tag(alloc: Global, pattern: &str) -> Result<bool, NoMemory>
     ensures { IfOk result (λ bad. bad ≡ has_bad_prefix_tag pattern.now) }
 {
     let names = tag_names(alloc, pattern)?;
-    if hosts(pattern) > 0
-        || names
-            .as_slice()
-            .iter()
-            .any(|name| is_refused(name.as_str()))
-    {
-        return Ok(true);
-    }
     let one = has_one_content(alloc, names.as_slice())?;
-    Ok(!one)
+    Ok(hosts(pattern) > 0 || has_refused(names.as_slice()) || !one)
 }
 
 /// All jails have at most so many patterns.
