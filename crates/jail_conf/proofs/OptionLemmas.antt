@@ -1,6 +1,7 @@
 -- How a name's options are read, part by part.
 use Rattle.std.proofs.Common.{◌≡◌, ◌≢◌, ℕ, suc, ◌+◌, ◌<◌, Bool, true, false, cond, not, ◌==◌, ◌&&◌, ◌||◌, List, [], ◌∷◌, ◌++◌, length, drop, codes, subst, length-drop, get_or, slice_index, unwrap_or, ◌-◌, length-append, ◌≤◌, Option, None, Some, IfNone, IfSome, refl, sym, ap, ◌∙◌, append_assoc, ne_eqb, arith}
 use Rattle.std.specs.List.{list_all, prefix_len, position_or_len}
+use denote.Bor.{Bor}
 use Rattle.std.specs.Option.{MatchOption}
 use Rattle.std.proofs.lemmas.List.Sums.{position_or_len_is}
 use Rattle.std.specs.Str.{str_to_ascii_lowercase}
@@ -9,7 +10,7 @@ use Rattle.std.proofs.lemmas.Bool.{and_parts}
 use Rattle.std.proofs.lemmas.Bool.Decides.{nat_tests}
 use Rattle.ini_interp.specs.Lines.{is_blank, trimmed_start, trimmed_end, trimmed}
 use Rattle.ini_interp.specs.Sections.{Items}
-use Rattle.jail_conf.specs.Options.{Place, Outside, Key, Value, Plain, Quoted, Closed, Nowhere, Reading, read_byte, outcome, options_from, is_quote, ends_value, behind_key, behind_value, behind, begins_plain, IsPlain, opens, ReadsNothing, ReadsAs, ReadsOption}
+use Rattle.jail_conf.specs.Options.{Place, Outside, Key, Value, Plain, Quoted, Closed, Nowhere, Reading, read_byte, outcome, options_from, is_quote, ends_value, behind_key, behind_value, behind, begins_plain, IsPlain, opens, groups, ReadsNothing, ReadsAs, ReadsOption}
 use Rattle.jail_conf.specs.declared.options.Given.{Given}
 use Rattle.jail_conf.specs.Sources.{percents_doubled}
 use Rattle.jail_conf.specs.Times.{begins_with}
@@ -397,6 +398,44 @@ pub plain_stops_at : (text value rest : List ℕ) (end : ℕ) → text ≡ value
     end ≢ 44 → end ≢ 93 → (key : List ℕ) → ReadsNothing (Value key) text
 plain_stops_at text value rest end whole plain none among comma bracket key options =
     ap (options_from (Value key) options) whole ∙ plain_breaks end key value rest (subst IsPlain whole plain) none (plain_stop end among comma bracket) options
+
+-- ---- groups
+
+outside_broken : (byte : ℕ) (options : Items) → is_blank byte ≡ false → (byte == 91) ≡ false →
+    read_byte Outside byte (record { place = Outside; options = options }) ≡ record { place = Nowhere; options = options }
+outside_broken byte options blank other = rw (other, blank) refl
+
+-- what no group begins
+pub outside_stops : (text : List ℕ) (options : Items) → begins_with is_blank text ≡ false → is_empty text ≡ false → ((rest : List ℕ) → text ≢ 91 ∷ rest) →
+    options_from Outside options text ≡ None
+outside_stops [] options blank some opens = absurd (cc)
+outside_stops (byte ∷ text) options blank some opens =
+    let other : (byte == 91) ≡ false = ne_eqb byte 91 (λ same. opens text (ap (λ b. b ∷ text) same)) in
+    step Outside byte text options Nowhere options (outside_broken byte options blank other) ∙ nowhere text options
+
+pub groups_begin : (options : Items) (text start : List ℕ) → options ≡ [] → start ≡ trimmed_start text → options_from Outside options start ≡ groups text
+groups_begin options text start none trim = rw (none, trim) (sym (outside_trimmed text []))
+
+-- what is known of a value, where there is one
+at_some : {A : Type 0} (o : Option A) (x : A) (P : A → Type 0) → o ≡ Some x → IfSome o P → P x
+at_some None x P is holds = absurd (cc)
+at_some (Some y) x P is holds = let same : y ≡ x = cc in subst P same holds
+
+-- one group more
+pub group_is_read : (options more : Items) (left inside next text : List ℕ) (read : Option (Bor (List ℕ))) (rest : Bor (List ℕ)) → read ≡ Some rest → left ≡ 91 ∷ inside →
+    IfSome read (λ rest. options_from (Key []) options inside ≡ options_from Outside more rest.now) → next ≡ trimmed_start rest.now →
+    options_from Outside options left ≡ groups text → options_from Outside more next ≡ groups text
+group_is_read options more left inside next text read rest is begins reads trim here =
+    let group = at_some read rest (λ rest. options_from (Key []) options inside ≡ options_from Outside more rest.now) is reads in
+    ap (options_from Outside more) trim ∙ (sym (outside_trimmed rest.now more) ∙ (sym group ∙ (sym (ap (options_from Outside options) begins) ∙ here)))
+
+pub group_shorter : (left inside next : List ℕ) (read : Option (Bor (List ℕ))) (rest : Bor (List ℕ)) → read ≡ Some rest → left ≡ 91 ∷ inside →
+    IfSome read (λ rest. length rest.now < length inside) → next ≡ trimmed_start rest.now → length next < length left
+group_shorter left inside next read rest is begins less trim =
+    let long : length left ≡ length (91 ∷ inside) = ap length begins in
+    let fewer : length rest.now < length inside = at_some read rest (λ rest. length rest.now < length inside) is less in
+    let short : length next ≤ length rest.now = rw trim (trimmed_no_longer rest.now) in
+    omega (arith, long, fewer, short)
 
 -- ---- the name
 
