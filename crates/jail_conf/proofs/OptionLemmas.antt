@@ -130,7 +130,7 @@ quoted_run : (quote : ℕ) (key value done rest : List ℕ) → HasNone (quote �
 quoted_run quote key [] done rest none options = ap (λ value. options_from (Quoted quote key value) options rest) (sym (append-nil done))
 quoted_run quote key (byte ∷ value) done rest none options =
     step (Quoted quote key done) byte (value ++ rest) options (Quoted quote key (done ++ byte ∷ [])) options
-      (quoted_byte quote byte key done options (none_first (quote ∷ []) byte value none))
+    (quoted_byte quote byte key done options (none_first (quote ∷ []) byte value none))
     ∙ (quoted_run quote key value (done ++ byte ∷ []) rest (none_rest (quote ∷ []) byte value none) options
     ∙ ap (λ value. options_from (Quoted quote key value) options rest) (append_assoc done (byte ∷ []) value))
 
@@ -228,7 +228,7 @@ plain_ends end key (byte ∷ value) rest plain none ends options =
     step (Value key) byte (value ++ end ∷ rest) options (Plain key (byte ∷ [])) options (plain_first byte key options plain (none_first plain_stops byte value none))
     ∙ (plain_run key value (byte ∷ []) (end ∷ rest) (none_rest plain_stops byte value none) options
     ∙ step (Plain key (byte ∷ value)) end rest options (behind_value end) (options ++ (str_to_ascii_lowercase key, trimmed (byte ∷ value)) ∷ [])
-      (plain_closed end key (byte ∷ value) options ends))
+    (plain_closed end key (byte ∷ value) options ends))
 
 -- at a quote, or nowhere
 pub plain_breaks : (quote : ℕ) (key value rest : List ℕ) → begins_plain (value ++ quote ∷ rest) ≡ true → HasNone plain_stops value → is_quote quote ≡ true →

@@ -19,11 +19,14 @@ fn tree(alloc: Global, files: &[(&str, &str)]) -> Result<Tree, Fail> {
     Ok(Tree { files: listed })
 }
 
-const NOTE: &str = "[Definition]\nactionstart = echo start <name>\nactionban = echo ban <ip> <port> <failures> <bantime>\n";
+const NOTE: &str =
+    "[Definition]\nactionstart = echo start <name>\nactionban = echo ban <ip> <port> <failures> <bantime>\n";
 
-const SSHD: &str = "[Definition]\nfailregex = ^Failed \\S+ from <HOST>$\n    ^Invalid user from <HOST>$\nignoreregex =\n";
+const SSHD: &str =
+    "[Definition]\nfailregex = ^Failed \\S+ from <HOST>$\n    ^Invalid user from <HOST>$\nignoreregex =\n";
 
-const JAIL: &str = "[DEFAULT]\nignoreip = 127.0.0.1/8 ::1\nbantime = 10m\nfilter = %(__name__)s\naction = note[port=\"%(port)s\"]\n[sshd]\nport = ssh\nlogpath = /var/log/auth.log\n";
+const JAIL: &str =
+    "[DEFAULT]\nignoreip = 127.0.0.1/8 ::1\nbantime = 10m\nfilter = %(__name__)s\naction = note[port=\"%(port)s\"]\n[sshd]\nport = ssh\nlogpath = /var/log/auth.log\n";
 
 #[test]
 fn reads_a_configuration(rt: HostRuntime) -> Result<(), Fail> {
@@ -46,7 +49,10 @@ fn reads_a_configuration(rt: HostRuntime) -> Result<(), Fail> {
     assert_eq!(rt; jail.actions.len(), 1);
     let action = &jail.actions.as_slice()[0];
     assert_eq!(rt; action.start.as_str(), "echo start sshd");
-    assert_eq!(rt; action.ban.as_str(), "echo ban <ip> ssh <failures> <bantime>");
+    assert_eq!(rt;
+        action.ban.as_str(),
+        "echo ban <ip> ssh <failures> <bantime>"
+    );
     Ok(())
 }
 
@@ -72,7 +78,11 @@ fn assert_refused(
 fn tells_the_first_refusal(rt: HostRuntime) -> Result<(), Fail> {
     assert_refused(
         &rt,
-        [("jail.conf", "[j]\nenabled = true\nbantime = 0\nfindtime = x\n")].as_slice(),
+        [(
+            "jail.conf",
+            "[j]\nenabled = true\nbantime = 0\nfindtime = x\n",
+        )]
+        .as_slice(),
         ("jail.conf", "j", "findtime", ConfKind::BadTime),
     )?;
     assert_refused(
@@ -88,6 +98,11 @@ fn tells_the_first_refusal(rt: HostRuntime) -> Result<(), Fail> {
     assert_refused(
         &rt,
         [("fail2ban.conf", "[Definition]\ndbpurgeage = -1\n")].as_slice(),
-        ("fail2ban.conf", "Definition", "dbpurgeage", ConfKind::BadTime),
+        (
+            "fail2ban.conf",
+            "Definition",
+            "dbpurgeage",
+            ConfKind::BadTime,
+        ),
     )
 }

@@ -6,7 +6,7 @@ ghost use Rattle.jail_conf.specs.Then.{Gives};
 
 use crate::conf_error::{ConfFail, ConfKind};
 use crate::options::read_named;
-use crate::sections::{sections_of};
+use crate::sections::sections_of;
 use crate::source::Source;
 use crate::sources::of_definition;
 use crate::words::trim;
@@ -73,7 +73,12 @@ fn known_of(alloc: Global, sections: &Sections) -> Result<Seq<(Text, Text)>, NoM
 }
 
 /// The filter that a text names, with options.
-fn named_filter(alloc: Global, files: &FileTable<'_>, jail: &Source, text: &str) -> Result<Filter, ConfFail>
+fn named_filter(
+    alloc: Global,
+    files: &FileTable<'_>,
+    jail: &Source,
+    text: &str,
+) -> Result<Filter, ConfFail>
     ensures { Gives (named_filter (bases_of files.now) jail.now text.now) result }
 {
     let Some(given) = read_named(alloc, text)? else {
@@ -97,7 +102,11 @@ fn named_filter(alloc: Global, files: &FileTable<'_>, jail: &Source, text: &str)
 }
 
 /// What a jail takes from its filter.
-pub(crate) fn filter_of(alloc: Global, files: &FileTable<'_>, jail: &Source) -> Result<Filter, ConfFail>
+pub(crate) fn filter_of(
+    alloc: Global,
+    files: &FileTable<'_>,
+    jail: &Source,
+) -> Result<Filter, ConfFail>
     ensures { Gives (filter_of (bases_of files.now) jail.now) result }
 {
     let text = jail.written(alloc, "filter")?;

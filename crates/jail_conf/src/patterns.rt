@@ -3,7 +3,7 @@ ghost use Rattle.std.specs.Prelude.{◌≡◌, option_copied, codes, IfOk};
 ghost use Rattle.std.specs.List.{list_all, list_any, filter_map};
 ghost use Rattle.host_ident.specs.Expanded.{begins_group};
 ghost use Rattle.host_ident.specs.Tags.{is_name_byte, is_mark_name};
-ghost use Rattle.jail_conf.specs.Patterns.{name_of, tag_names, is_refused, has_bad_tag, content_mark, is_one_pair, has_one_content, has_bad_prefix_tag, pattern};
+ghost use Rattle.jail_conf.specs.Patterns.{name_of, tag_names, is_refused, has_bad_tag, content_mark, is_one_pair, has_one_content, has_bad_prefix_tag, pattern, in_order};
 ghost use Rattle.jail_conf.specs.Then.{Gives};
 
 use crate::conf_error::ConfKind;
@@ -189,6 +189,25 @@ fn pattern(alloc: Global, needs_host: bool, before: u64, text: &str) -> Result<T
     Ok(Text::from_str(alloc, text)?)
 }
 
+/// The patterns of some lines, where so many stand before them.
+fn in_order(
+    alloc: Global,
+    needs_host: bool,
+    before: u64,
+    lines: &[Text],
+) -> Result<Seq<Text>, Fail<ConfKind>>
+    ensures { Gives (in_order needs_host before lines.now) result }
+{
+    let mut patterns = Seq::new(alloc);
+    let mut so_far = before;
+    for line in lines {
+        let one = pattern(alloc, needs_host, so_far, line.as_str())?;
+        so_far += 1;
+        patterns.push(one)?;
+    }
+    Ok(patterns)
+}
+
 /// Patterns, one a line.
 #[derive(Drop)]
 pub(crate) struct Patterns {
@@ -205,14 +224,7 @@ impl Reading<Seq<Text>> for Patterns {
 
     fn read(&self, alloc: Global, text: &str) -> Result<Seq<Text>, Fail<ConfKind>> {
         let lines = full_lines(alloc, text)?;
-        let mut patterns = Seq::new(alloc);
-        let mut before = self.before;
-        for line in lines.as_slice() {
-            let one = pattern(alloc, self.needs_host, before, line.as_str())?;
-            before += 1;
-            patterns.push(one)?;
-        }
-        Ok(patterns)
+        in_order(alloc, self.needs_host, self.before, lines.as_slice())
     }
 }
 

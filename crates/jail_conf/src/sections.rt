@@ -29,7 +29,11 @@ fn merge_fail(alloc: Global, fault: MergeError) -> ConfFail
 }
 
 /// What the files of a base come to.
-pub(crate) fn sections_of(alloc: Global, files: &FileTable<'_>, base: &str) -> Result<Sections, ConfFail>
+pub(crate) fn sections_of(
+    alloc: Global,
+    files: &FileTable<'_>,
+    base: &str,
+) -> Result<Sections, ConfFail>
     ensures { Gives (sections_of (bases_of files.now) base.now) result }
 {
     match merge_in(alloc, files, base) {

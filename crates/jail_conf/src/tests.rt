@@ -98,7 +98,10 @@ fn reads_times(rt: HostRuntime) {
     );
     assert_eq!(rt; Span.read(rt.alloc(), "-1"), Ok(-1));
     assert_eq!(rt; Span.read(rt.alloc(), "0s"), refused(ConfKind::BadTime));
-    assert_eq!(rt; Jitter.read(rt.alloc(), "12d"), refused(ConfKind::BadNumber));
+    assert_eq!(rt;
+        Jitter.read(rt.alloc(), "12d"),
+        refused(ConfKind::BadNumber)
+    );
     assert_eq!(rt; Jitter.read(rt.alloc(), "x"), refused(ConfKind::BadTime));
 }
 

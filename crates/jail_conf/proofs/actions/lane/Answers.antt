@@ -62,4 +62,3 @@ returns-in_err-timeout c =
     let unban : own c.args.source.now (table.command (codes "actionunban")) ≡ Ok c.in_ok-unban.unban = c.in_ok-unban.ensures in
     let check : own c.args.source.now (table.command (codes "actioncheck")) ≡ Ok c.in_ok-check.check = c.in_ok-check.ensures in
     rw (start, stop, ban, unban, check) (rw (p.1, p.2) (first_fails _ _ c.in_err-timeout.field-0.0 c.in_err-timeout.ensures))
-

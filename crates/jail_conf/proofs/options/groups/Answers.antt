@@ -7,9 +7,9 @@ use Rattle.jail_conf.proofs.options.groups.Goals as goal
 
 pub groups-init : goal.groups-init
 groups-init c = (
-    c.trim_start-left.utf8,
-    groups_begin _ c.args.text.now c.trim_start-left.result.now c.new-options.ensures c.trim_start-left.ensures,
-    rw c.trim_start-left.ensures (no_blank_first c.args.text.now)
+  c.trim_start-left.utf8,
+  groups_begin _ c.args.text.now c.trim_start-left.result.now c.new-options.ensures c.trim_start-left.ensures,
+  rw c.trim_start-left.ensures (no_blank_first c.args.text.now),
 )
 
 pub returns-in_default : goal.returns-in_default
@@ -26,10 +26,9 @@ groups-smaller c =
 
 pub groups-preserved : goal.groups-preserved
 groups-preserved c =
-    let begins = strip_prefix_char 91 c.groups.left.now (Some c.in-Some.inside) c.in-Some.ensures.cases (lit< tt) in
-    (
+    let begins = strip_prefix_char 91 c.groups.left.now (Some c.in-Some.inside) c.in-Some.ensures.cases (lit< tt) in (
       c.trim_start-left-in-groups.utf8,
       group_is_read c.groups.options c.push_group.new.options c.groups.left.now c.in-Some.inside.now c.trim_start-left-in-groups.result.now c.args.text.now c.in_ok-rest.field-0
-        c.in-Some-2.rest c.in-Some-2.is begins c.in_ok-rest.ensures.some c.trim_start-left-in-groups.ensures c.groups.invariant.1,
-      rw c.trim_start-left-in-groups.ensures (no_blank_first c.in-Some-2.rest.now)
+          c.in-Some-2.rest c.in-Some-2.is begins c.in_ok-rest.ensures.some c.trim_start-left-in-groups.ensures c.groups.invariant.1,
+      rw c.trim_start-left-in-groups.ensures (no_blank_first c.in-Some-2.rest.now),
     )
