@@ -22,6 +22,8 @@ mod lines;
 mod logs;
 mod numbers;
 mod options;
+#[cfg(test)]
+mod options_tests;
 mod patterns;
 mod reading;
 mod rule;
