@@ -13,3 +13,4 @@ pub mod SecondLemmas
 pub mod TermLemmas
 pub mod TrimLemmas
 mod TreeRows
+pub mod WrittenLemmas

@@ -21,7 +21,7 @@ if_none None p = p
 if_none (Some x) p = tt
 
 -- one byte
-step : (place : Place) (byte : ℕ) (rest : List ℕ) (options : Items) (next : Place) (more : Items) →
+pub step : (place : Place) (byte : ℕ) (rest : List ℕ) (options : Items) (next : Place) (more : Items) →
     read_byte place byte (record { place = place; options = options }) ≡ record { place = next; options = more } →
     options_from place options (byte ∷ rest) ≡ options_from next more rest
 step place byte rest options next more reads = ap (λ reading. outcome reading rest) reads
@@ -54,13 +54,13 @@ module _ (place : Place) (stays : (byte : ℕ) (options : Items) → is_blank by
           let more : suc (prefix_len is_blank text) ≡ 1 + prefix_len is_blank text = omega arith in
           step place byte text options place options (stays byte options is) ∙ (rest ∙ ap (λ n. options_from place options (drop n (byte ∷ text))) more)
 
-outside_stays : (byte : ℕ) (options : Items) → is_blank byte ≡ true → read_byte Outside byte (record { place = Outside; options = options }) ≡ record { place = Outside; options = options }
+pub outside_stays : (byte : ℕ) (options : Items) → is_blank byte ≡ true → read_byte Outside byte (record { place = Outside; options = options }) ≡ record { place = Outside; options = options }
 outside_stays byte options blank = let other : (byte == 91) ≡ false = grind (arith, nat_tests, blank) in rw (other, blank) refl
 
-value_stays : (key : List ℕ) (byte : ℕ) (options : Items) → is_blank byte ≡ true → read_byte (Value key) byte (record { place = Value key; options = options }) ≡ record { place = Value key; options = options }
+pub value_stays : (key : List ℕ) (byte : ℕ) (options : Items) → is_blank byte ≡ true → read_byte (Value key) byte (record { place = Value key; options = options }) ≡ record { place = Value key; options = options }
 value_stays key byte options blank = rw blank refl
 
-closed_stays : (byte : ℕ) (options : Items) → is_blank byte ≡ true → read_byte Closed byte (record { place = Closed; options = options }) ≡ record { place = Closed; options = options }
+pub closed_stays : (byte : ℕ) (options : Items) → is_blank byte ≡ true → read_byte Closed byte (record { place = Closed; options = options }) ≡ record { place = Closed; options = options }
 closed_stays byte options blank = rw blank refl
 
 pub outside_trimmed : (text : List ℕ) → ReadsAs Outside text Outside (trimmed_start text)

@@ -19,3 +19,4 @@ pub mod Times
 pub mod Told
 pub mod Words
 pub mod Zones
+pub mod WrittenOptions

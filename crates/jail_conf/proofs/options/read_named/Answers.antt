@@ -1,0 +1,16 @@
+use Rattle.std.proofs.Common.{◌≡◌, None, sym, rules}
+use Rattle.jail_conf.specs.Options.{named}
+use Rattle.jail_conf.proofs.WrittenLemmas.{names_nothing}
+use Rattle.jail_conf.proofs.options.read_named.Goals as goal
+
+pub returns-in_default-clause-refused : goal.returns-in_default-clause-refused
+unfolding named
+returns-in_default-clause-refused c =
+    let is : None ≡ named c.args.text.now = search rules in
+    names_nothing c.args.text.now (sym is)
+
+pub returns-then-is_empty-clause-refused : goal.returns-then-is_empty-clause-refused
+unfolding named
+returns-then-is_empty-clause-refused c =
+    let is : None ≡ named c.args.text.now = search rules in
+    names_nothing c.args.text.now (sym is)
