@@ -14,3 +14,4 @@ pub mod TermLemmas
 pub mod TrimLemmas
 mod TreeRows
 pub mod WrittenLemmas
+pub mod ReadLemmas

@@ -153,7 +153,7 @@ quote_read quote key options is = let blank : is_blank quote ≡ false = grind (
 pub quote_opens : (quote : ℕ) (key rest : List ℕ) → is_quote quote ≡ true → ReadsAs (Value key) (quote ∷ rest) (Quoted quote key []) rest
 quote_opens quote key rest is options = step (Value key) quote rest options (Quoted quote key []) options (quote_read quote key options is)
 
-closed_broken : (byte : ℕ) (options : Items) → is_blank byte ≡ false → (byte == 44) ≡ false → (byte == 93) ≡ false →
+pub closed_broken : (byte : ℕ) (options : Items) → is_blank byte ≡ false → (byte == 44) ≡ false → (byte == 93) ≡ false →
     read_byte Closed byte (record { place = Closed; options = options }) ≡ record { place = Nowhere; options = options }
 closed_broken byte options blank first second = rw (blank, first, second) refl
 
@@ -260,7 +260,7 @@ no_blank_first (byte ∷ text) = by (is_blank byte) refl (no_blank_first text)
         let more : suc (prefix_len is_blank text) ≡ 1 + prefix_len is_blank text = omega arith in
         subst (λ n. begins_with is_blank (drop n (byte ∷ text)) ≡ false) more rest
 
-trimmed_no_longer : (text : List ℕ) → length (trimmed_start text) ≤ length text
+pub trimmed_no_longer : (text : List ℕ) → length (trimmed_start text) ≤ length text
 unfolding trimmed_start
 trimmed_no_longer text = rw (length-drop (prefix_len is_blank text) text) (omega arith)
 
@@ -401,7 +401,7 @@ plain_stops_at text value rest end whole plain none among comma bracket key opti
 
 -- ---- groups
 
-outside_broken : (byte : ℕ) (options : Items) → is_blank byte ≡ false → (byte == 91) ≡ false →
+pub outside_broken : (byte : ℕ) (options : Items) → is_blank byte ≡ false → (byte == 91) ≡ false →
     read_byte Outside byte (record { place = Outside; options = options }) ≡ record { place = Nowhere; options = options }
 outside_broken byte options blank other = rw (other, blank) refl
 

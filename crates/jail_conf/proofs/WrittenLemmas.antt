@@ -28,7 +28,7 @@ ends_plain : (end : ℕ) (text rest : List ℕ) → IsPlain text → ends_value 
 ends_plain end [] rest is ends = grind (arith, nat_tests, ends)
 ends_plain end (byte ∷ text) rest is ends = is
 
-closed_ends : (end : ℕ) (options : Items) → ends_value end ≡ true →
+pub closed_ends : (end : ℕ) (options : Items) → ends_value end ≡ true →
     read_byte Closed end (record { place = Closed; options = options }) ≡ record { place = behind_value end; options = options }
 closed_ends end options ends = let blank : is_blank end ≡ false = grind (arith, nat_tests, ends) in rw blank refl
 
