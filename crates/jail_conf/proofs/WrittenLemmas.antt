@@ -79,11 +79,11 @@ other_byte : (byte : ℕ) → not (is_among_bytes (codes "[") byte) ≡ true →
 other_byte byte alone = grind (arith, nat_tests, alone)
 
 -- how many bytes stand before the first `[`
-abbrev before_open : List ℕ → ℕ
+abbrev pub before_open : List ℕ → ℕ
 before_open [] = 0
 before_open (byte ∷ text) = cond (opens byte) 0 (1 + before_open text)
 
-before_open_is : (text : List ℕ) → before_open text ≡ position_or_len opens text
+pub before_open_is : (text : List ℕ) → before_open text ≡ position_or_len opens text
 before_open_is text = is_position_or_len before_open opens refl (λ byte rest. refl) text
 
 name_length : (items : Items) (front rest : List ℕ) → HasNone (codes "[") front → AreGroups items rest → before_open (front ++ rest) ≡ length front

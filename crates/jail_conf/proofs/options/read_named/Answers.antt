@@ -1,7 +1,7 @@
 use Rattle.std.proofs.Common.{◌≡◌, None, sym, rules}
 use Rattle.jail_conf.specs.Options.{named}
 use Rattle.jail_conf.proofs.WrittenLemmas.{names_nothing}
-use Rattle.jail_conf.proofs.ReadLemmas.{listed}
+use Rattle.jail_conf.proofs.ReadLemmas.{read_is_written}
 use Rattle.jail_conf.proofs.options.read_named.Goals as goal
 
 pub returns-in_default-clause-refused : goal.returns-in_default-clause-refused
