@@ -1,7 +1,7 @@
 //! Names with options: `NAME[key=value, key="value"]`.
 ghost use Rattle.std.specs.Prelude.{◌≡◌, ◌<◌, ℕ, List, [], length, slice_index, None, IfOk, IfNone, IfSome};
 ghost use Rattle.std.specs.List.{before_first};
-ghost use Rattle.jail_conf.specs.WrittenOptions.{NamesNothing};
+ghost use Rattle.jail_conf.specs.WrittenOptions.{IsNamed, NamesNothing};
 ghost use Rattle.jail_conf.specs.Options.{Key, Value, Quoted, Closed, Outside, IsPlain, options_from, ReadsNothing, ReadsAs, ReadsOption, behind, opens, from_first, groups, named};
 
 use crate::words::{split, trim, trim_start};
@@ -189,6 +189,7 @@ fn cut_name(text: &str) -> (&str, &str)
 #[tactic(auto, unfolding(crate::specs::Options::named))]
 pub(crate) fn read_named(alloc: Global, text: &str) -> Result<Option<Named>, NoMemory>
     ensures value { IfOk result (λ found. found ≡ named text.now) }
+    ensures written { IfOk result (λ found. IfSome found (λ one. IsNamed one text.now)) }
     ensures refused { IfOk result (λ found. IfNone found (NamesNothing text.now)) }
 {
     let (front, behind) = cut_name(text);
