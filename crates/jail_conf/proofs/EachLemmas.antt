@@ -29,6 +29,6 @@ pub behind-refused : {X A E : Type 0} (read : X → Result A E) (values : List A
 behind-refused read values text texts refusal is = rw is refl
 
 -- a refusal stays one behind what was read
-pub behind_fails : {A E : Type 0} {values : List A} (rest : Result (List A) E) (fail : Fail E) → Gives rest (Err fail) → Gives (behind values rest) (Err fail)
-behind_fails rest (Refused refusal) is = rw is refl
-behind_fails rest NoMemory is = tt
+pub behind_fails : {A E : Type 0} (values : List A) (rest : Result (List A) E) (fail : Fail E) → Gives rest (Err fail) → Gives (behind values rest) (Err fail)
+behind_fails values rest (Refused refusal) is = rw is refl
+behind_fails values rest NoMemory is = tt

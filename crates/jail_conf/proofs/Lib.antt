@@ -1,4 +1,5 @@
 pub mod EachLemmas
+pub mod EnabledLemmas
 pub mod FaultLemmas
 pub mod FewLemmas
 pub mod GoodLemmas
@@ -10,6 +11,8 @@ pub mod PartLemmas
 pub mod PlaceLemmas
 pub mod RunLemmas
 pub mod SecondLemmas
+pub mod SettingsLemmas
+pub mod SourceLemmas
 pub mod TermLemmas
 pub mod TrimLemmas
 mod TreeRows

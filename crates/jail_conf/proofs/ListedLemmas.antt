@@ -28,7 +28,7 @@ actions_behind-more bases jail names lanes line lines action is = rw is (by (act
 pub actions_behind-fails : (bases : Bases) (jail : Source) (names : List (List ℕ)) (lanes : List ActionDef) (line : List ℕ) (lines : List (List ℕ)) (fail : Fail ConfError) →
     Gives (action_of bases jail names line) (Err fail) → Gives (behind lanes (actions_behind bases jail names (line ∷ lines))) (Err fail)
 actions_behind-fails bases jail names lanes line lines fail given =
-    behind_fails (actions_behind bases jail names (line ∷ lines)) fail (first_fails (action_of bases jail names line) _ fail given)
+    behind_fails lanes (actions_behind bases jail names (line ∷ lines)) fail (first_fails (action_of bases jail names line) _ fail given)
 
 -- one jail more
 pub jails_behind-more : (bases : Bases) (sections : Sections) (before : List JailDef) (name : List ℕ) (names : List (List ℕ)) (next : Option JailDef) →

@@ -1,6 +1,7 @@
 -- What stands at a place of a list, and behind it.
 use Rattle.std.proofs.Common.{◌≡◌, ℕ, zero, suc, ◌+◌, List, [], ◌∷◌, ◌++◌, drop, map, Option, None, Some, option_map, refl, sym, ap, ◌∙◌, append_assoc, arith}
-use Rattle.std.specs.Prelude.{slice_get, option_and_then, unwrap_or, codes}
+use Rattle.std.specs.Prelude.{slice_get, option_and_then, option_copied, unwrap_or, codes}
+use denote.Bor.{Bor}
 use Rattle.std.proofs.lemmas.List.{append-nil}
 use Rattle.ini_interp.specs.Sections.{Sections, Items, value_of, items_or_none, items_of, item_at, raw, section_at}
 use Rattle.jail_conf.specs.Sources.{section_names}
@@ -26,6 +27,11 @@ slice_get-map f [] place = refl
 slice_get-map f (x ∷ xs) zero = refl
 slice_get-map f (x ∷ xs) (suc place) = slice_get-map f xs place
 
+-- what a reference gives, or else that default
+pub copied_or : (found : Option (Bor (List ℕ))) (default : Bor (List ℕ)) → (unwrap_or found default).now ≡ unwrap_or (option_copied found) default.now
+copied_or None default = refl
+copied_or (Some text) default = refl
+
 -- ---- names of sections
 
 pub name_more : (sections : Sections) (names : List (List ℕ)) (place : ℕ) (name : List ℕ) → names ++ drop place (section_names sections) ≡ section_names sections →
@@ -42,7 +48,7 @@ name_none sections names place before is =
 -- ---- items of a section
 
 item_at_is : (sections : Sections) (section : List ℕ) (place : ℕ) → item_at sections section place ≡ option_map (λ item. item.0) (slice_get (items_of section sections) place)
-unfolding items_of
+unfolding items_of item_at
 item_at_is sections section place = by (value_of section sections)
   where
     by : (items : Option Items) → option_and_then (λ items. option_map (λ e. e.0) (slice_get items place)) items ≡ option_map (λ item. item.0) (slice_get (items_or_none items) place)

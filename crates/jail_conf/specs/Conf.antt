@@ -14,9 +14,12 @@ use Rattle.jail_conf.specs.declared.source.Source.{Source}
 use Rattle.jail_conf.specs.Table as table
 use Rattle.jail_conf.specs.Then.{◌>>=◌, ◌>>◌, refuse_if}
 
+abbrev pub but_default : List (List ℕ) → List (List ℕ)
+but_default names = filter (λ name. not (bytes_eq name (codes "DEFAULT"))) names
+
 -- each section but [DEFAULT] is a jail, in the order in which they are named first
 abbrev pub jail_names : Sections → List (List ℕ)
-jail_names sections = filter (λ name. not (bytes_eq name (codes "DEFAULT"))) (section_names sections)
+jail_names sections = but_default (section_names sections)
 
 abbrev pub most_jails : ℕ
 most_jails = 256

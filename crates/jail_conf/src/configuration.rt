@@ -1,7 +1,8 @@
 //! What a configuration comes to: the definitions of its enabled jails, or the first refusal.
 ghost use Rattle.std.specs.Prelude.{◌≡◌, ◌≤◌, [], length, sum_by, Ok, codes, IfOk};
 ghost use Rattle.std.specs.Char.{is_ascii_alphanumeric};
-ghost use Rattle.jail_conf.specs.Conf.{jail_names, is_enabled, patterns_in, next_jail, jails_behind, conf};
+ghost use Rattle.std.specs.List.{list_all};
+ghost use Rattle.jail_conf.specs.Conf.{but_default, jail_names, is_enabled, patterns_in, next_jail, jails_behind, conf};
 ghost use Rattle.jail_conf.specs.Jails.{is_name_byte, is_jail_name};
 ghost use Rattle.jail_conf.specs.Sources.{bases_of, sections_of};
 ghost use Rattle.jail_conf.specs.Then.{Gives};
@@ -26,11 +27,31 @@ fn is_name_byte(byte: u8) -> bool
     byte.is_ascii_alphanumeric() || byte == b'_' || byte == b'.' || byte == b'-'
 }
 
+/// Whether the name of a jail may have each of the bytes.
+fn are_name_bytes(bytes: &[u8]) -> bool
+    ensures { result ≡ list_all is_name_byte bytes.now }
+{
+    bytes.iter().all(|byte| is_name_byte(*byte))
+}
+
 /// Whether a jail may have this name.
 fn is_jail_name(name: &[u8]) -> bool
     ensures { result ≡ is_jail_name name.now }
 {
-    1 <= name.len() && name.len() <= 64 && name.iter().all(|byte| is_name_byte(*byte))
+    1 <= name.len() && name.len() <= 64 && are_name_bytes(name)
+}
+
+/// Those of the names that are names of jails, in order.
+fn but_default(alloc: Global, all: &[Text]) -> Result<Seq<Text>, NoMemory>
+    ensures { IfOk result (λ names. names ≡ but_default all.now) }
+{
+    let mut names = Seq::new(alloc);
+    for name in all {
+        if name.as_str() != "DEFAULT" {
+            names.push(name.copy()?)?;
+        }
+    }
+    Ok(names)
 }
 
 /// The names of the jails, in order.
@@ -38,13 +59,7 @@ fn jail_names(alloc: Global, sections: &Sections) -> Result<Seq<Text>, NoMemory>
     ensures { IfOk result (λ names. names ≡ jail_names sections.now) }
 {
     let all = section_names(alloc, sections)?;
-    let mut names = Seq::new(alloc);
-    for name in all.as_slice() {
-        if name.as_str() != "DEFAULT" {
-            names.push(name.copy()?)?;
-        }
-    }
-    Ok(names)
+    but_default(alloc, all.as_slice())
 }
 
 /// At most so many jails are enabled.

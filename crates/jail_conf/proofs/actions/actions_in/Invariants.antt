@@ -6,4 +6,4 @@ use Rattle.jail_conf.proofs.actions.actions_in.Given as goal
 
 abbrev pub invariant-loop-line : goal.invariant-loop-line
 invariant-loop-line l =
-    behind l.lanes (actions_behind (bases_of l.tree) l.jail l.names (drop l.line-index l.lines)) ≡ actions_behind (bases_of l.tree) l.jail [] l.lines
+    behind l.lanes (actions_behind (bases_of l.files) l.jail l.names (drop l.line-index l.lines)) ≡ actions_behind (bases_of l.files) l.jail [] l.lines

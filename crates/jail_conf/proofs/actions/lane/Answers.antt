@@ -1,5 +1,5 @@
 use Rattle.std.proofs.lemmas.Result.{err_from_is_err_and}
-use Rattle.std.proofs.Common.{◌≡◌, Ok, Err, codes}
+use Rattle.std.proofs.Common.{◌≡◌, Ok, Err, codes, refl}
 use Rattle.jail_conf.specs.Actions.{lane}
 use Rattle.jail_conf.specs.Sources.{own}
 use Rattle.jail_conf.specs.Table as table
@@ -62,3 +62,13 @@ returns-in_err-timeout c =
     let unban : own c.args.source.now (table.command (codes "actionunban")) ≡ Ok c.in_ok-unban.unban = c.in_ok-unban.ensures in
     let check : own c.args.source.now (table.command (codes "actioncheck")) ≡ Ok c.in_ok-check.check = c.in_ok-check.ensures in
     rw (start, stop, ban, unban, check) (rw (p.1, p.2) (first_fails _ _ c.in_err-timeout.field-0.0 c.in_err-timeout.ensures))
+
+pub returns : goal.returns
+unfolding lane
+returns c =
+    let start : own c.args.source.now (table.command (codes "actionstart")) ≡ Ok c.in_ok-start.start = c.in_ok-start.ensures in
+    let stop : own c.args.source.now (table.command (codes "actionstop")) ≡ Ok c.in_ok-stop.stop = c.in_ok-stop.ensures in
+    let ban : own c.args.source.now (table.command (codes "actionban")) ≡ Ok c.in_ok-ban.ban = c.in_ok-ban.ensures in
+    let unban : own c.args.source.now (table.command (codes "actionunban")) ≡ Ok c.in_ok-unban.unban = c.in_ok-unban.ensures in
+    let check : own c.args.source.now (table.command (codes "actioncheck")) ≡ Ok c.in_ok-check.check = c.in_ok-check.ensures in
+    rw (start, stop, ban, unban, check, c.in_ok-timeout.ensures) (rw c.in_ok-from_str.ensures refl)

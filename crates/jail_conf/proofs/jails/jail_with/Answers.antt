@@ -92,5 +92,5 @@ returns-in_err-actions c =
     let ignore : ignored_of c.args.jail.now ≡ Ok c.in_ok-ignore.ignore = c.in_ok-ignore.ensures in
     let counts : counts_of c.args.jail.now ≡ Ok c.in_ok-counts.counts = c.in_ok-counts.ensures in
     let rule : rule_of c.args.jail.now ≡ Ok c.in_ok-rule.rule = c.in_ok-rule.ensures in
-    let failed : Gives (actions_of (bases_of c.args.tree.now) c.args.jail.now) (Err c.in_err-actions.field-0.0) = c.in_err-actions.ensures in
+    let failed : Gives (actions_of (bases_of c.args.files.now) c.args.jail.now) (Err c.in_err-actions.field-0.0) = c.in_err-actions.ensures in
     rw (watches, c.in_ok-zone.ensures, date, lines, ignore, c.in_ok-refuse_unsupported.ensures, counts, rule) (rw (p.1, p.2) (first_fails _ _ _ failed))
