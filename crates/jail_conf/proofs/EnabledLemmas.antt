@@ -1,5 +1,5 @@
 -- Whether a jail is enabled.
-use Rattle.std.proofs.Common.{◌≡◌, ℕ, ◌≤◌, not, nat_lt, ◌&&◌, Bool, true, false, Result, Ok, Err, refl, sym, ap, ◌∙◌, subst, arith}
+use Rattle.std.proofs.Common.{◌≡◌, ℕ, ◌<◌, ◌≤◌, not, nat_lt, ◌&&◌, Bool, true, false, [], Result, Ok, Err, refl, sym, ap, ◌∙◌, subst, arith}
 use Rattle.std.proofs.lemmas.Bool.Decides.{nat_tests}
 use Rattle.jail_conf.specs.declared.conf_error.ConfError.{ConfError}
 use Rattle.jail_conf.specs.declared.conf_error.ConfKind.TheVariants.{BadName, TooMany}
@@ -14,10 +14,10 @@ use Rattle.jail_conf.specs.Told.{IsRefusal}
 use Rattle.jail_conf.proofs.FaultLemmas.{first_fails, first_is_there, first_is, refusal_gives}
 
 -- what is not refused leaves it to the rest
-not_refused : {A : Type 0} (holds : Bool) (error : ConfError) (next : Result A ConfError) → holds ≡ false → (refuse_if holds error >> next) ≡ next
+pub not_refused : {A : Type 0} (holds : Bool) (error : ConfError) (next : Result A ConfError) → holds ≡ false → (refuse_if holds error >> next) ≡ next
 not_refused holds error next is = rw is refl
 
-refused : {A : Type 0} (holds : Bool) (error : ConfError) (next : Result A ConfError) → holds ≡ true → (refuse_if holds error >> next) ≡ Err error
+pub refused : {A : Type 0} (holds : Bool) (error : ConfError) (next : Result A ConfError) → holds ≡ true → (refuse_if holds error >> next) ≡ Err error
 refused holds error next is = rw is refl
 
 pub bad_name : (jail : Source) (before : ℕ) (fail : Fail ConfError) → is_jail_name jail.section ≡ false → IsRefusal (told jail [] BadName) fail →
@@ -47,3 +47,11 @@ unfolding is_enabled
 is_enabled_is jail before enabled good is few =
     not_refused (not (is_jail_name jail.section)) (told jail [] BadName) _ (ap not good)
     ∙ first_is (own jail table.enabled) _ enabled (Ok enabled) is (not_refused (enabled && not (nat_lt before most_jails)) _ _ few)
+
+-- where there is room, or no want of it, nothing is refused
+pub has_room : (enabled : Bool) (before : ℕ) → before < most_jails → (enabled && not (nat_lt before most_jails)) ≡ false
+has_room true before few = grind (arith, nat_tests)
+has_room false before few = refl
+
+pub needs_no_room : (enabled : Bool) (before : ℕ) → enabled ≡ false → (enabled && not (nat_lt before most_jails)) ≡ false
+needs_no_room enabled before off = rw off refl

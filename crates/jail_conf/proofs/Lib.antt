@@ -1,7 +1,9 @@
+pub mod ActionLemmas
 pub mod EachLemmas
 pub mod EnabledLemmas
 pub mod FaultLemmas
 pub mod FewLemmas
+pub mod FilterLemmas
 pub mod GoodLemmas
 mod ItemRows
 pub mod ListedLemmas

@@ -22,9 +22,9 @@ use Rattle.ini_interp.specs.Values.{replaced}
 use Rattle.tag_subst.specs.Tags.{read}
 use Rattle.jail_conf.specs.declared.conf_error.ConfError.{ConfError}
 use Rattle.jail_conf.specs.declared.settings.Settings.{Settings}
-use Rattle.jail_conf.specs.Actions.{lane, lane_of_both, lane_of_each, action_of, actions_of}
+use Rattle.jail_conf.specs.Actions.{lane, lane_of_both, lane_of_each, named_action, action_of, actions_of}
 use Rattle.jail_conf.specs.Conf.{is_enabled, next_jail, settings_in, conf}
-use Rattle.jail_conf.specs.Jails.{named_filter, filter_of, ignored_of, rule_of, unsupported_in, jail_with, jail_of}
+use Rattle.jail_conf.specs.Jails.{named_filter, filter_of, ignored_of, lines_of, counts_of, rule_of, unsupported_in, jail_with, jail_of}
 use Rattle.jail_conf.specs.Options.{named}
 use Rattle.jail_conf.specs.Sources.{text_in, own, own_or}
 use Rattle.jail_conf.specs.Times.{time_word}
@@ -97,25 +97,25 @@ of_jails field (Ok settings) = Ok (map field settings.defs.jails)
 of_jails field (Err refusal) = Err refusal
 
 pub three_failures : of_jails (λ jail. jail.maxretry) (conf worked_tree) ≡ Ok (3 ∷ [])
-unfolding trimmed_start trimmed_end opened_by item_of content_form form_of items_of raw opened with_raw referred percent_piece piece_at pieces_from replaced read hosts_in read_cidr read_bits written_addr read_addr octets_number groups_number read_ipv4 read_octet read_number read_ipv6 read_segments read_segment digits files_of file_of meaning_of read_with all_read merged_in joined known_replaced is_utf8 chars encode_utf8 time_word named is_date_pattern times text_in own own_or named_filter filter_of ignored_of rule_of unsupported_in jail_with jail_of lane lane_of_both lane_of_each action_of actions_of is_enabled next_jail settings_in
+unfolding trimmed_start trimmed_end opened_by item_of content_form form_of items_of raw opened with_raw referred percent_piece piece_at pieces_from replaced read hosts_in read_cidr read_bits written_addr read_addr octets_number groups_number read_ipv4 read_octet read_number read_ipv6 read_segments read_segment digits files_of file_of meaning_of read_with all_read merged_in joined known_replaced is_utf8 chars encode_utf8 time_word named is_date_pattern times text_in own own_or named_filter filter_of ignored_of lines_of counts_of rule_of unsupported_in jail_with jail_of lane lane_of_both lane_of_each named_action action_of actions_of is_enabled next_jail settings_in
 three_failures = refl
 
 pub one_log : of_jails (λ jail. map (λ watch. watch.path) jail.watches) (conf worked_tree) ≡ Ok ((codes "/var/log/auth.log" ∷ []) ∷ [])
-unfolding trimmed_start trimmed_end opened_by item_of content_form form_of items_of raw opened with_raw referred percent_piece piece_at pieces_from replaced read hosts_in read_cidr read_bits written_addr read_addr octets_number groups_number read_ipv4 read_octet read_number read_ipv6 read_segments read_segment digits files_of file_of meaning_of read_with all_read merged_in joined known_replaced is_utf8 chars encode_utf8 time_word named is_date_pattern times text_in own own_or named_filter filter_of ignored_of rule_of unsupported_in jail_with jail_of lane lane_of_both lane_of_each action_of actions_of is_enabled next_jail settings_in
+unfolding trimmed_start trimmed_end opened_by item_of content_form form_of items_of raw opened with_raw referred percent_piece piece_at pieces_from replaced read hosts_in read_cidr read_bits written_addr read_addr octets_number groups_number read_ipv4 read_octet read_number read_ipv6 read_segments read_segment digits files_of file_of meaning_of read_with all_read merged_in joined known_replaced is_utf8 chars encode_utf8 time_word named is_date_pattern times text_in own own_or named_filter filter_of ignored_of lines_of counts_of rule_of unsupported_in jail_with jail_of lane lane_of_both lane_of_each named_action action_of actions_of is_enabled next_jail settings_in
 one_log = refl
 
 pub command_of_a_ban : of_jails (λ jail. map (λ action. action.ban) jail.actions) (conf worked_tree) ≡ Ok ((codes "echo ban <ip> ssh <failures> <bantime>" ∷ []) ∷ [])
-unfolding trimmed_start trimmed_end opened_by item_of content_form form_of items_of raw opened with_raw referred percent_piece piece_at pieces_from replaced read hosts_in read_cidr read_bits written_addr read_addr octets_number groups_number read_ipv4 read_octet read_number read_ipv6 read_segments read_segment digits files_of file_of meaning_of read_with all_read merged_in joined known_replaced is_utf8 chars encode_utf8 time_word named is_date_pattern times text_in own own_or named_filter filter_of ignored_of rule_of unsupported_in jail_with jail_of lane lane_of_both lane_of_each action_of actions_of is_enabled next_jail settings_in
+unfolding trimmed_start trimmed_end opened_by item_of content_form form_of items_of raw opened with_raw referred percent_piece piece_at pieces_from replaced read hosts_in read_cidr read_bits written_addr read_addr octets_number groups_number read_ipv4 read_octet read_number read_ipv6 read_segments read_segment digits files_of file_of meaning_of read_with all_read merged_in joined known_replaced is_utf8 chars encode_utf8 time_word named is_date_pattern times text_in own own_or named_filter filter_of ignored_of lines_of counts_of rule_of unsupported_in jail_with jail_of lane lane_of_both lane_of_each named_action action_of actions_of is_enabled next_jail settings_in
 command_of_a_ban = refl
 
 pub command_of_a_start : of_jails (λ jail. map (λ action. action.start) jail.actions) (conf worked_tree) ≡ Ok ((codes "echo start sshd" ∷ []) ∷ [])
-unfolding trimmed_start trimmed_end opened_by item_of content_form form_of items_of raw opened with_raw referred percent_piece piece_at pieces_from replaced read hosts_in read_cidr read_bits written_addr read_addr octets_number groups_number read_ipv4 read_octet read_number read_ipv6 read_segments read_segment digits files_of file_of meaning_of read_with all_read merged_in joined known_replaced is_utf8 chars encode_utf8 time_word named is_date_pattern times text_in own own_or named_filter filter_of ignored_of rule_of unsupported_in jail_with jail_of lane lane_of_both lane_of_each action_of actions_of is_enabled next_jail settings_in
+unfolding trimmed_start trimmed_end opened_by item_of content_form form_of items_of raw opened with_raw referred percent_piece piece_at pieces_from replaced read hosts_in read_cidr read_bits written_addr read_addr octets_number groups_number read_ipv4 read_octet read_number read_ipv6 read_segments read_segment digits files_of file_of meaning_of read_with all_read merged_in joined known_replaced is_utf8 chars encode_utf8 time_word named is_date_pattern times text_in own own_or named_filter filter_of ignored_of lines_of counts_of rule_of unsupported_in jail_with jail_of lane lane_of_both lane_of_each named_action action_of actions_of is_enabled next_jail settings_in
 command_of_a_start = refl
 
 pub three_patterns : of_jails (λ jail. length jail.fail) (conf worked_tree) ≡ Ok (3 ∷ [])
-unfolding trimmed_start trimmed_end opened_by item_of content_form form_of items_of raw opened with_raw referred percent_piece piece_at pieces_from replaced read hosts_in read_cidr read_bits written_addr read_addr octets_number groups_number read_ipv4 read_octet read_number read_ipv6 read_segments read_segment digits files_of file_of meaning_of read_with all_read merged_in joined known_replaced is_utf8 chars encode_utf8 time_word named is_date_pattern times text_in own own_or named_filter filter_of ignored_of rule_of unsupported_in jail_with jail_of lane lane_of_both lane_of_each action_of actions_of is_enabled next_jail settings_in
+unfolding trimmed_start trimmed_end opened_by item_of content_form form_of items_of raw opened with_raw referred percent_piece piece_at pieces_from replaced read hosts_in read_cidr read_bits written_addr read_addr octets_number groups_number read_ipv4 read_octet read_number read_ipv6 read_segments read_segment digits files_of file_of meaning_of read_with all_read merged_in joined known_replaced is_utf8 chars encode_utf8 time_word named is_date_pattern times text_in own own_or named_filter filter_of ignored_of lines_of counts_of rule_of unsupported_in jail_with jail_of lane lane_of_both lane_of_each named_action action_of actions_of is_enabled next_jail settings_in
 three_patterns = refl
 
 pub never_banned : of_jails (λ jail. map (λ mask. mask.bits) jail.ignore) (conf worked_tree) ≡ Ok ((8 ∷ 128 ∷ 8 ∷ 128 ∷ []) ∷ [])
-unfolding trimmed_start trimmed_end opened_by item_of content_form form_of items_of raw opened with_raw referred percent_piece piece_at pieces_from replaced read hosts_in read_cidr read_bits written_addr read_addr octets_number groups_number read_ipv4 read_octet read_number read_ipv6 read_segments read_segment digits files_of file_of meaning_of read_with all_read merged_in joined known_replaced is_utf8 chars encode_utf8 time_word named is_date_pattern times text_in own own_or named_filter filter_of ignored_of rule_of unsupported_in jail_with jail_of lane lane_of_both lane_of_each action_of actions_of is_enabled next_jail settings_in
+unfolding trimmed_start trimmed_end opened_by item_of content_form form_of items_of raw opened with_raw referred percent_piece piece_at pieces_from replaced read hosts_in read_cidr read_bits written_addr read_addr octets_number groups_number read_ipv4 read_octet read_number read_ipv6 read_segments read_segment digits files_of file_of meaning_of read_with all_read merged_in joined known_replaced is_utf8 chars encode_utf8 time_word named is_date_pattern times text_in own own_or named_filter filter_of ignored_of lines_of counts_of rule_of unsupported_in jail_with jail_of lane lane_of_both lane_of_each named_action action_of actions_of is_enabled next_jail settings_in
 never_banned = refl

@@ -18,6 +18,8 @@ mod fail;
 mod filter;
 mod ignored;
 mod jails;
+#[cfg(test)]
+mod limit_tests;
 mod lines;
 mod logs;
 mod numbers;

@@ -1,0 +1,93 @@
+//! Configurations at their limits, and faults of files.
+
+use crate::conf_tests::told;
+use std::alloc::Global;
+use std::test::Fail;
+
+#[test]
+fn tells_faults_of_files(rt: HostRuntime) -> Result<(), Fail> {
+    for (jail, want) in [
+        ("x = 1\n", "jail.conf|||Ini(NoSection(1))"),
+        ("[j]\nx\n", "jail.conf|||Ini(NoDelimiter(2))"),
+        (
+            "[INCLUDES]\nbefore = ../jail.conf\n",
+            "jail.conf|||MissingInclude(\"../jail.conf\")",
+        ),
+        ("[INCLUDES]\nbefore = jail.conf\n", "jail.conf|||IncludeLoop"),
+        (
+            "[j]\nenabled = %(x)s\n",
+            "jail.conf|j|enabled|Missing(\"x\")",
+        ),
+        (
+            "[j]\nenabled = on%\n",
+            "jail.conf|j|enabled|BadPercent(2)",
+        ),
+        (
+            "[j]\nenabled = %(x)s\nx = %(y)s\ny = %(x)s\n",
+            "jail.conf|j|enabled|TooDeep(\"x\")",
+        ),
+    ] {
+        let files = [("jail.conf", jail)];
+        let got = told(rt.alloc(), files.as_slice())?;
+        assert_eq!(rt; got.as_str(), want);
+    }
+    Ok(())
+}
+
+/// A jail whose first item refers to so many others, one to the next.
+fn deep_jail(alloc: Global, depth: u32) -> Result<String, Fail> {
+    let mut jail = String::from_str(alloc, "[j]\nenabled = %(x1)s\n")?;
+    for place in 1..depth {
+        let next = place + 1;
+        let item = format!(in alloc; "x{place} = %(x{next})s\n")?;
+        jail.push_str(item.as_str())?;
+    }
+    let last = format!(in alloc; "x{depth} = on\n")?;
+    jail.push_str(last.as_str())?;
+    Ok(jail)
+}
+
+#[test]
+fn refers_ten_deep(rt: HostRuntime) -> Result<(), Fail> {
+    for (depth, want) in [(10, "read"), (11, "jail.conf|j|enabled|TooDeep(\"x11\")")] {
+        let jail = deep_jail(rt.alloc(), depth)?;
+        let files = [("jail.conf", jail.as_str())];
+        let got = told(rt.alloc(), files.as_slice())?;
+        assert_eq!(rt; got.as_str(), want);
+    }
+    Ok(())
+}
+
+#[test]
+fn takes_256_jails(rt: HostRuntime) -> Result<(), Fail> {
+    let mut jails = String::from_str(rt.alloc(), "[DEFAULT]\nenabled = on\n[off]\nenabled = off\n")?;
+    for number in 1..257_u32 {
+        let jail = format!(in rt.alloc(); "[j{number}]\n")?;
+        jails.push_str(jail.as_str())?;
+    }
+    let full = [("jail.conf", jails.as_str())];
+    let got = told(rt.alloc(), full.as_slice())?;
+    assert_eq!(rt; got.as_str(), "read");
+    let files = [("jail.conf", jails.as_str()), ("jail.local", "[last]\n")];
+    let got = told(rt.alloc(), files.as_slice())?;
+    assert_eq!(rt; got.as_str(), "jail.conf|last|enabled|TooMany");
+    Ok(())
+}
+
+#[test]
+fn takes_512_patterns(rt: HostRuntime) -> Result<(), Fail> {
+    let mut jail = String::from_str(rt.alloc(), "[j]\nenabled = on\nfailregex = <HOST>\n")?;
+    for _ in 1..512_u32 {
+        jail.push_str(" <HOST>\n")?;
+    }
+    let full = [("jail.conf", jail.as_str())];
+    let got = told(rt.alloc(), full.as_slice())?;
+    assert_eq!(rt; got.as_str(), "read");
+    let more = [
+        ("jail.conf", jail.as_str()),
+        ("jail.local", "[k]\nenabled = on\nignoreregex = x\n"),
+    ];
+    let got = told(rt.alloc(), more.as_slice())?;
+    assert_eq!(rt; got.as_str(), "jail.conf|k|ignoreregex|TooMany");
+    Ok(())
+}
