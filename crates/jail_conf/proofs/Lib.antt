@@ -7,6 +7,7 @@ pub mod FilterLemmas
 pub mod GoodLemmas
 mod ItemRows
 pub mod ListedLemmas
+pub mod NextLemmas
 pub mod NumberLemmas
 pub mod OptionLemmas
 pub mod PartLemmas

@@ -1,5 +1,5 @@
 use Rattle.std.proofs.lemmas.Result.{err_from_is_err_and}
-use Rattle.std.proofs.Common.{◌≡◌, Ok, Err}
+use Rattle.std.proofs.Common.{◌≡◌, Ok, Err, FitsSigned, w64, to_z-of_z, refl, rules}
 use Rattle.jail_conf.specs.Actions.{actions_of}
 use Rattle.jail_conf.specs.Jails.{lines_of, ignored_of, counts_of, rule_of, jail_with}
 use Rattle.jail_conf.specs.Sources.{bases_of, own, own_or}
@@ -94,3 +94,16 @@ returns-in_err-actions c =
     let rule : rule_of c.args.jail.now ≡ Ok c.in_ok-rule.rule = c.in_ok-rule.ensures in
     let failed : Gives (actions_of (bases_of c.args.files.now) c.args.jail.now) (Err c.in_err-actions.field-0.0) = c.in_err-actions.ensures in
     rw (watches, c.in_ok-zone.ensures, date, lines, ignore, c.in_ok-refuse_unsupported.ensures, counts, rule) (rw (p.1, p.2) (first_fails _ _ _ failed))
+
+pub returns : goal.returns
+unfolding jail_with
+returns c =
+    let watches : own c.args.jail.now table.logpath ≡ Ok c.in_ok-watches.watches = c.in_ok-watches.ensures in
+    let date : own_or c.args.jail.now c.args.filter.now table.datepattern ≡ Ok c.in_ok-date.date = c.in_ok-date.ensures in
+    let lines : lines_of c.args.jail.now c.args.filter.now c.args.patterns ≡ Ok c.in_ok-lines.lines = c.in_ok-lines.ensures in
+    let ignore : ignored_of c.args.jail.now ≡ Ok c.in_ok-ignore.ignore = c.in_ok-ignore.ensures in
+    let counts : counts_of c.args.jail.now ≡ Ok c.in_ok-counts.counts = c.in_ok-counts.ensures in
+    let rule : rule_of c.args.jail.now ≡ Ok c.in_ok-rule.rule = c.in_ok-rule.ensures in
+    let actions : actions_of (bases_of c.args.files.now) c.args.jail.now ≡ Ok c.in_ok-actions.actions = c.in_ok-actions.ensures in
+    rw (watches, c.in_ok-zone.ensures, date, lines, ignore, c.in_ok-refuse_unsupported.ensures, counts, rule, actions)
+    (let fits : FitsSigned w64 c.in_ok-zone.zone = search rules in rw (to_z-of_z, c.in_ok-copy.ensures) refl)
