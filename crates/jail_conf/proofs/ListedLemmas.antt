@@ -1,5 +1,5 @@
 -- What is listed one after the other: actions, and jails.
-use Rattle.std.proofs.Common.{◌≡◌, ℕ, List, [], ◌∷◌, ◌++◌, Option, Result, Ok, Err, refl, sym, ap, append_assoc}
+use Rattle.std.proofs.Common.{◌≡◌, ◌∙◌, ℕ, suc, ◌+◌, ◌<◌, List, [], ◌∷◌, ◌++◌, length, get_or, drop, drop-cons, add-one, Option, Result, Ok, Err, refl, sym, ap, append_assoc}
 use Rattle.f2b_base.specs.declared.jail.ActionDef.{ActionDef}
 use Rattle.f2b_base.specs.declared.jail.JailDef.{JailDef}
 use Rattle.ini_interp.specs.Sections.{Sections}
@@ -39,3 +39,14 @@ jails_behind-more bases sections before name names next is = rw is refl
 pub jails_behind-fails : (bases : Bases) (sections : Sections) (before : List JailDef) (name : List ℕ) (names : List (List ℕ)) (fail : Fail ConfError) →
     Gives (next_jail bases (of_jail sections name) before) (Err fail) → Gives (jails_behind bases sections before (name ∷ names)) (Err fail)
 jails_behind-fails bases sections before name names fail given = first_fails (next_jail bases (of_jail sections name) before) _ fail given
+
+-- the name at a place, and those behind it
+pub name_at : (names : List (List ℕ)) (place : ℕ) (name : List ℕ) → place < length names → name ≡ get_or names place name → drop place names ≡ name ∷ drop (place + 1) names
+name_at names place name less is = rw (add-one, drop-cons names place name) (ap (λ first. first ∷ drop (suc place) names) (sym is))
+
+-- one step over the names
+pub jails_step : (bases : Bases) (sections : Sections) (before : List JailDef) (names : List (List ℕ)) (place : ℕ) (name : List ℕ) (next : Option JailDef)
+    (all : Result (List JailDef) ConfError) → jails_behind bases sections before (drop place names) ≡ all → drop place names ≡ name ∷ drop (place + 1) names →
+    next_jail bases (of_jail sections name) before ≡ Ok next → jails_behind bases sections (with_next before next) (drop (place + 1) names) ≡ all
+jails_step bases sections before names place name next all done at is =
+    sym (jails_behind-more bases sections before name (drop (place + 1) names) next is) ∙ (sym (ap (jails_behind bases sections before) at) ∙ done)

@@ -75,7 +75,10 @@ fn reads_the_worked_tree(rt: HostRuntime) -> Result<(), Fail> {
     let jail = &settings.defs.jails.as_slice()[0];
     assert_eq!(rt; jail.name.as_str(), "sshd");
     assert_eq!(rt; jail.watches.len(), 1);
-    assert_eq!(rt; jail.watches.as_slice()[0].path.as_str(), "/var/log/auth.log");
+    assert_eq!(rt;
+        jail.watches.as_slice()[0].path.as_str(),
+        "/var/log/auth.log"
+    );
     assert!(rt; jail.pref.is_some());
     assert_eq!(rt; jail.fail.len(), 3);
     assert_eq!(rt; jail.ignore_lines.len(), 0);
@@ -87,7 +90,10 @@ fn reads_the_worked_tree(rt: HostRuntime) -> Result<(), Fail> {
     assert_eq!(rt; jail.actions.len(), 1);
     let action = &jail.actions.as_slice()[0];
     assert_eq!(rt; action.start.as_str(), "echo start sshd");
-    assert_eq!(rt; action.ban.as_str(), "echo ban <ip> ssh <failures> <bantime>");
+    assert_eq!(rt;
+        action.ban.as_str(),
+        "echo ban <ip> ssh <failures> <bantime>"
+    );
     assert_eq!(rt; action.timeout, 60);
     Ok(())
 }
@@ -174,12 +180,32 @@ fn tells_the_first_of_two_faults(rt: HostRuntime) -> Result<(), Fail> {
             "x",
             "fail2ban.conf|Definition|dbpurgeage|BadTime",
         ),
-        ("", "[j]\nenabled = on\nbantime = 0\nfindtime = x\n", "jail.conf|j|findtime|BadTime"),
-        ("", "[j]\nenabled = on\naction = a\nfilter = f\n", "filter.d/f.conf|j|filter|MissingFile"),
+        (
+            "",
+            "[j]\nenabled = on\nbantime = 0\nfindtime = x\n",
+            "jail.conf|j|findtime|BadTime",
+        ),
+        (
+            "",
+            "[j]\nenabled = on\naction = a\nfilter = f\n",
+            "filter.d/f.conf|j|filter|MissingFile",
+        ),
         ("", "[a b]\nenabled = x\n", "jail.conf|a b||BadName"),
-        ("", "[j]\nenabled = x\nfilter = f\n", "jail.conf|j|enabled|BadBool"),
-        ("", "[j]\nbantime = 0\n[k]\nenabled = on\nmaxretry = x\n", "jail.conf|k|maxretry|BadNumber"),
-        ("", "[k]\nenabled = on\nmaxretry = x\n[j]\nenabled = x\n", "jail.conf|k|maxretry|BadNumber"),
+        (
+            "",
+            "[j]\nenabled = x\nfilter = f\n",
+            "jail.conf|j|enabled|BadBool",
+        ),
+        (
+            "",
+            "[j]\nbantime = 0\n[k]\nenabled = on\nmaxretry = x\n",
+            "jail.conf|k|maxretry|BadNumber",
+        ),
+        (
+            "",
+            "[k]\nenabled = on\nmaxretry = x\n[j]\nenabled = x\n",
+            "jail.conf|k|maxretry|BadNumber",
+        ),
     ] {
         let files = [("fail2ban.conf", server), ("jail.conf", jails)];
         let got = told(rt.alloc(), files.as_slice())?;

@@ -13,15 +13,15 @@ fn tells_faults_of_files(rt: HostRuntime) -> Result<(), Fail> {
             "[INCLUDES]\nbefore = ../jail.conf\n",
             "jail.conf|||MissingInclude(\"../jail.conf\")",
         ),
-        ("[INCLUDES]\nbefore = jail.conf\n", "jail.conf|||IncludeLoop"),
+        (
+            "[INCLUDES]\nbefore = jail.conf\n",
+            "jail.conf|||IncludeLoop",
+        ),
         (
             "[j]\nenabled = %(x)s\n",
             "jail.conf|j|enabled|Missing(\"x\")",
         ),
-        (
-            "[j]\nenabled = on%\n",
-            "jail.conf|j|enabled|BadPercent(2)",
-        ),
+        ("[j]\nenabled = on%\n", "jail.conf|j|enabled|BadPercent(2)"),
         (
             "[j]\nenabled = %(x)s\nx = %(y)s\ny = %(x)s\n",
             "jail.conf|j|enabled|TooDeep(\"x\")",
@@ -60,7 +60,10 @@ fn refers_ten_deep(rt: HostRuntime) -> Result<(), Fail> {
 
 #[test]
 fn takes_256_jails(rt: HostRuntime) -> Result<(), Fail> {
-    let mut jails = String::from_str(rt.alloc(), "[DEFAULT]\nenabled = on\n[off]\nenabled = off\n")?;
+    let mut jails = String::from_str(
+        rt.alloc(),
+        "[DEFAULT]\nenabled = on\n[off]\nenabled = off\n",
+    )?;
     for number in 1..257_u32 {
         let jail = format!(in rt.alloc(); "[j{number}]\n")?;
         jails.push_str(jail.as_str())?;

@@ -17,7 +17,7 @@ returns-in_err-sections c =
     let given : named_action (bases_of c.args.files.now) c.args.jail.now c.args.names.now c.args.line.now ≡ Ok c.in_ok-given.given = c.in_ok-given.ensures in
     let base : c.as_str-2.result.now ≡ base_of c.in_ok-given.given.name = c.as_str-2.ensures.value ∙ (c.in_ok-base.ensures ∙ ap base_of c.as_str.ensures.value) in
     let failed : Gives (sections_of (bases_of c.args.files.now) (base_of c.in_ok-given.given.name)) (Err c.in_err-sections.field-0.0) =
-        subst (λ base. Gives (sections_of (bases_of c.args.files.now) base) (Err c.in_err-sections.field-0.0)) base c.in_err-sections.ensures in
+    subst (λ base. Gives (sections_of (bases_of c.args.files.now) base) (Err c.in_err-sections.field-0.0)) base c.in_err-sections.ensures in
     rw (p.1, p.2) (action_files_fail (bases_of c.args.files.now) c.args.jail.now c.args.names.now c.args.line.now c.in_ok-given.given c.in_err-sections.field-0.0 given failed)
 
 pub returns-in_err-lanes : goal.returns-in_err-lanes
@@ -26,11 +26,11 @@ returns-in_err-lanes c =
     let given : named_action (bases_of c.args.files.now) c.args.jail.now c.args.names.now c.args.line.now ≡ Ok c.in_ok-given.given = c.in_ok-given.ensures in
     let base : c.as_str-2.result.now ≡ base_of c.in_ok-given.given.name = c.as_str-2.ensures.value ∙ (c.in_ok-base.ensures ∙ ap base_of c.as_str.ensures.value) in
     let sections : sections_of (bases_of c.args.files.now) (base_of c.in_ok-given.given.name) ≡ Ok c.in_ok-sections.sections =
-        subst (λ base. sections_of (bases_of c.args.files.now) base ≡ Ok c.in_ok-sections.sections) base c.in_ok-sections.ensures in
+    subst (λ base. sections_of (bases_of c.args.files.now) base ≡ Ok c.in_ok-sections.sections) base c.in_ok-sections.ensures in
     let name : c.as_str-3.result.now ≡ name_of c.in_ok-given.given = c.as_str-3.ensures.value ∙ c.in_ok-name.ensures in
     let failed : Gives (lanes_given c.args.jail.now c.in_ok-given.given c.in_ok-sections.sections) (Err c.in_err-lanes.field-0.0) =
-        subst (λ name. Gives (lanes_of c.in_ok-sections.sections (of_definition (file_of c.in_ok-given.given.name) c.args.jail.now.section c.in_ok-given.given.options c.in_ok-sections.sections) name) (Err c.in_err-lanes.field-0.0))
-        name c.in_err-lanes.ensures in
+    subst (λ name. Gives (lanes_of c.in_ok-sections.sections (of_definition (file_of c.in_ok-given.given.name) c.args.jail.now.section c.in_ok-given.given.options c.in_ok-sections.sections) name) (Err c.in_err-lanes.field-0.0))
+    name c.in_err-lanes.ensures in
     rw (p.1, p.2) (action_lanes_fail (bases_of c.args.files.now) c.args.jail.now c.args.names.now c.args.line.now c.in_ok-given.given c.in_ok-sections.sections c.in_err-lanes.field-0.0 given sections failed)
 
 pub returns-then-names-ge-MOST_ACTIONS : goal.returns-then-names-ge-MOST_ACTIONS
@@ -38,11 +38,11 @@ returns-then-names-ge-MOST_ACTIONS c =
     let given : named_action (bases_of c.args.files.now) c.args.jail.now c.args.names.now c.args.line.now ≡ Ok c.in_ok-given.given = c.in_ok-given.ensures in
     let base : c.as_str-2.result.now ≡ base_of c.in_ok-given.given.name = c.as_str-2.ensures.value ∙ (c.in_ok-base.ensures ∙ ap base_of c.as_str.ensures.value) in
     let sections : sections_of (bases_of c.args.files.now) (base_of c.in_ok-given.given.name) ≡ Ok c.in_ok-sections.sections =
-        subst (λ base. sections_of (bases_of c.args.files.now) base ≡ Ok c.in_ok-sections.sections) base c.in_ok-sections.ensures in
+    subst (λ base. sections_of (bases_of c.args.files.now) base ≡ Ok c.in_ok-sections.sections) base c.in_ok-sections.ensures in
     let name : c.as_str-3.result.now ≡ name_of c.in_ok-given.given = c.as_str-3.ensures.value ∙ c.in_ok-name.ensures in
     let lanes : lanes_given c.args.jail.now c.in_ok-given.given c.in_ok-sections.sections ≡ Ok c.in_ok-lanes.lanes =
-        subst (λ name. lanes_of c.in_ok-sections.sections (of_definition (file_of c.in_ok-given.given.name) c.args.jail.now.section c.in_ok-given.given.options c.in_ok-sections.sections) name ≡ Ok c.in_ok-lanes.lanes)
-        name c.in_ok-lanes.ensures in
+    subst (λ name. lanes_of c.in_ok-sections.sections (of_definition (file_of c.in_ok-given.given.name) c.args.jail.now.section c.in_ok-given.given.options c.in_ok-sections.sections) name ≡ Ok c.in_ok-lanes.lanes)
+    name c.in_ok-lanes.ensures in
     too_many_actions (bases_of c.args.files.now) c.args.jail.now c.args.names.now c.args.line.now c.in_ok-given.given c.in_ok-sections.sections c.in_ok-lanes.lanes c.refused.result given sections lanes c.if-names-ge-MOST_ACTIONS.true c.refused.ensures
 
 pub returns : goal.returns
@@ -50,10 +50,10 @@ returns c =
     let given : named_action (bases_of c.args.files.now) c.args.jail.now c.args.names.now c.args.line.now ≡ Ok c.in_ok-given.given = c.in_ok-given.ensures in
     let base : c.as_str-2.result.now ≡ base_of c.in_ok-given.given.name = c.as_str-2.ensures.value ∙ (c.in_ok-base.ensures ∙ ap base_of c.as_str.ensures.value) in
     let sections : sections_of (bases_of c.args.files.now) (base_of c.in_ok-given.given.name) ≡ Ok c.in_ok-sections.sections =
-        subst (λ base. sections_of (bases_of c.args.files.now) base ≡ Ok c.in_ok-sections.sections) base c.in_ok-sections.ensures in
+    subst (λ base. sections_of (bases_of c.args.files.now) base ≡ Ok c.in_ok-sections.sections) base c.in_ok-sections.ensures in
     let name : c.as_str-3.result.now ≡ name_of c.in_ok-given.given = c.as_str-3.ensures.value ∙ c.in_ok-name.ensures in
     let lanes : lanes_given c.args.jail.now c.in_ok-given.given c.in_ok-sections.sections ≡ Ok c.in_ok-lanes.lanes =
-        subst (λ name. lanes_of c.in_ok-sections.sections (of_definition (file_of c.in_ok-given.given.name) c.args.jail.now.section c.in_ok-given.given.options c.in_ok-sections.sections) name ≡ Ok c.in_ok-lanes.lanes)
-        name c.in_ok-lanes.ensures in
+    subst (λ name. lanes_of c.in_ok-sections.sections (of_definition (file_of c.in_ok-given.given.name) c.args.jail.now.section c.in_ok-given.given.options c.in_ok-sections.sections) name ≡ Ok c.in_ok-lanes.lanes)
+    name c.in_ok-lanes.ensures in
     action_is (bases_of c.args.files.now) c.args.jail.now c.args.names.now c.args.line.now c.in_ok-given.given c.in_ok-sections.sections c.in_ok-lanes.lanes given sections lanes c.if-names-ge-MOST_ACTIONS.false
     ∙ ap (λ name. Ok (record { name = name; lanes = c.in_ok-lanes.lanes })) (sym c.in_ok-name.ensures)

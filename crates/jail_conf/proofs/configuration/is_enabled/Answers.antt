@@ -33,8 +33,8 @@ returns c =
     let bytes : c.as_bytes.result.now ≡ c.args.jail.now.section = c.as_bytes.ensures.value ∙ c.as_str.ensures.value in
     let named : is_jail_name c.args.jail.now.section ≡ true = sym (ap is_jail_name bytes) ∙ (sym c.is_jail_name.ensures ∙ c.if-not-is_jail_name.false) in
     let room : (c.in_ok-enabled.enabled && not (nat_lt c.args.before most_jails)) ≡ false =
-        elim c.else-enabled.branch [
-          else-enabled-via-then-enabled+else-before-ge-MOST_JAILS w ↦ has_room c.in_ok-enabled.enabled c.args.before w.if-before-ge-MOST_JAILS.false
-        | else-enabled-via-else-enabled w ↦ needs_no_room c.in_ok-enabled.enabled c.args.before w.if-enabled.false
-        ] in
+    elim c.else-enabled.branch [
+      | else-enabled-via-then-enabled+else-before-ge-MOST_JAILS w ↦ has_room c.in_ok-enabled.enabled c.args.before w.if-before-ge-MOST_JAILS.false
+      | else-enabled-via-else-enabled w ↦ needs_no_room c.in_ok-enabled.enabled c.args.before w.if-enabled.false
+    ] in
     is_enabled_is c.args.jail.now c.args.before c.in_ok-enabled.enabled named c.in_ok-enabled.ensures room

@@ -23,12 +23,12 @@ returns-in_err-definition c =
     let p = err_from_is_err_and c.from_residual-in_err-definition.result c.from_residual-in_err-definition.ensures.1 in
     let on : is_enabled c.args.jail (length c.args.before.now) ≡ Ok true = c.in_ok-is_enabled.ensures ∙ ap Ok c.if-not-branch.false in
     let failed : Gives (jail_of (bases_of c.args.files.now) c.args.jail (sum_by patterns_in c.args.before.now)) (Err c.in_err-definition.field-0.0) =
-        subst (λ patterns. Gives (jail_of (bases_of c.args.files.now) c.args.jail patterns) (Err c.in_err-definition.field-0.0)) (sym c.requires.counted) c.in_err-definition.ensures in
+    subst (λ patterns. Gives (jail_of (bases_of c.args.files.now) c.args.jail patterns) (Err c.in_err-definition.field-0.0)) (sym c.requires.counted) c.in_err-definition.ensures in
     rw (p.1, p.2) (next_fails (bases_of c.args.files.now) c.args.jail c.args.before.now c.in_err-definition.field-0.0 on failed)
 
 pub returns : goal.returns
 returns c =
     let on : is_enabled c.args.jail (length c.args.before.now) ≡ Ok true = c.in_ok-is_enabled.ensures ∙ ap Ok c.if-not-branch.false in
     let definition : jail_of (bases_of c.args.files.now) c.args.jail (sum_by patterns_in c.args.before.now) ≡ Ok c.in_ok-definition.definition =
-        subst (λ patterns. jail_of (bases_of c.args.files.now) c.args.jail patterns ≡ Ok c.in_ok-definition.definition) (sym c.requires.counted) c.in_ok-definition.ensures in
+    subst (λ patterns. jail_of (bases_of c.args.files.now) c.args.jail patterns ≡ Ok c.in_ok-definition.definition) (sym c.requires.counted) c.in_ok-definition.ensures in
     next_is (bases_of c.args.files.now) c.args.jail c.args.before.now c.in_ok-definition.definition on definition

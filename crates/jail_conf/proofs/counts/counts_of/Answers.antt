@@ -26,12 +26,12 @@ unfolding counts_of
 returns-in_err-maxmatches c =
     let p = err_from_is_err_and c.from_residual-in_err-maxmatches.result c.from_residual-in_err-maxmatches.ensures.1 in
     let failed : Gives (own c.args.jail.now (table.maxmatches c.in_ok-maxretry.maxretry)) (Err c.in_err-maxmatches.field-0.0) =
-        subst (λ least. Gives (own c.args.jail.now (item (codes "maxmatches") (number_between 0 1_000) least)) (Err c.in_err-maxmatches.field-0.0)) c.min.ensures c.in_err-maxmatches.ensures in
+    subst (λ least. Gives (own c.args.jail.now (item (codes "maxmatches") (number_between 0 1_000) least)) (Err c.in_err-maxmatches.field-0.0)) c.min.ensures c.in_err-maxmatches.ensures in
     rw (c.in_ok-findtime.ensures, c.in_ok-maxretry.ensures) (rw (p.1, p.2) (first_fails _ _ _ failed))
 
 pub returns : goal.returns
 unfolding counts_of
 returns c =
     let kept : own c.args.jail.now (table.maxmatches c.in_ok-maxretry.maxretry) ≡ Ok c.in_ok-maxmatches.maxmatches =
-        subst (λ least. own c.args.jail.now (item (codes "maxmatches") (number_between 0 1_000) least) ≡ Ok c.in_ok-maxmatches.maxmatches) c.min.ensures c.in_ok-maxmatches.ensures in
+    subst (λ least. own c.args.jail.now (item (codes "maxmatches") (number_between 0 1_000) least) ≡ Ok c.in_ok-maxmatches.maxmatches) c.min.ensures c.in_ok-maxmatches.ensures in
     rw (c.in_ok-findtime.ensures, c.in_ok-maxretry.ensures, kept) refl

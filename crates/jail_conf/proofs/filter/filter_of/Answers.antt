@@ -18,13 +18,13 @@ pub returns-then-is_empty : goal.returns-then-is_empty
 returns-then-is_empty c =
     let text : own c.args.jail.now table.filter ≡ Ok c.in_ok-text.text = c.in_ok-text.ensures in
     let empty : is_empty (trimmed c.in_ok-text.text) ≡ true =
-        sym (ap is_empty (c.trim.ensures ∙ ap trimmed c.as_str.ensures.value)) ∙ (sym c.is_empty.ensures ∙ c.if-is_empty.true) in
+    sym (ap is_empty (c.trim.ensures ∙ ap trimmed c.as_str.ensures.value)) ∙ (sym c.is_empty.ensures ∙ c.if-is_empty.true) in
     filter_is_none (bases_of c.args.files.now) c.args.jail.now c.in_ok-text.text text empty ∙ sym (ap Ok (c.in_ok-filter.ensures ∙ ap no_filter c.as_str-then-is_empty.ensures.value))
 
 pub returns : goal.returns
 returns c =
     let text : own c.args.jail.now table.filter ≡ Ok c.in_ok-text.text = c.in_ok-text.ensures in
     let empty : is_empty (trimmed c.in_ok-text.text) ≡ false =
-        sym (ap is_empty (c.trim.ensures ∙ ap trimmed c.as_str.ensures.value)) ∙ (sym c.is_empty.ensures ∙ c.if-is_empty.false) in
+    sym (ap is_empty (c.trim.ensures ∙ ap trimmed c.as_str.ensures.value)) ∙ (sym c.is_empty.ensures ∙ c.if-is_empty.false) in
     filter_is_named (bases_of c.args.files.now) c.args.jail.now c.in_ok-text.text c.named_filter.result text empty
     (subst (λ text. Gives (named_filter (bases_of c.args.files.now) c.args.jail.now text) c.named_filter.result) c.as_str-2.ensures.value c.named_filter.ensures)

@@ -9,6 +9,6 @@ returns-in_default c = known_none c.args.sections.now c.places.known c.places.in
 pub places-preserved : goal.places-preserved
 places-preserved c =
     let value : c.in_ok-from_str-2.field-0 ≡ unwrap_or (raw c.args.sections.now (codes "Definition") c.in-Some.name.now) [] =
-        c.in_ok-from_str-2.ensures ∙ (ap (λ text. text.now) c.unwrap_or-raw.ensures ∙ (copied_or c.raw.result _ ∙ ap (λ found. unwrap_or found []) c.raw.ensures)) in
+    c.in_ok-from_str-2.ensures ∙ (ap (λ text. text.now) c.unwrap_or-raw.ensures ∙ (copied_or c.raw.result _ ∙ ap (λ found. unwrap_or found []) c.raw.ensures)) in
     rw c.in_ok-push.ensures.ok
     (rw (c.in_ok-from_str.ensures, value) (known_more c.args.sections.now c.places.known c.places.index c.in-Some.name.now c.places.invariant c.in-Some.ensures))

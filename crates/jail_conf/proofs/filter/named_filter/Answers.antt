@@ -19,7 +19,7 @@ returns-then-not-has c =
     let given : named c.args.text.now ≡ Some c.in-Some.given = sym c.in_ok-given.ensures.value ∙ c.in-Some.is in
     let file : c.in_ok-file.file ≡ file_of c.in-Some.given.name = c.in_ok-file.ensures ∙ ap file_of c.as_str.ensures.value in
     let there : (bases_of c.args.files.now).has_file (file_of c.in-Some.given.name) ≡ false =
-        sym (ap (bases_of c.args.files.now).has_file (c.as_str-2.ensures.value ∙ file)) ∙ (sym c.has.ensures ∙ c.if-not-has.true) in
+    sym (ap (bases_of c.args.files.now).has_file (c.as_str-2.ensures.value ∙ file)) ∙ (sym c.has.ensures ∙ c.if-not-has.true) in
     filter_has_no_file (bases_of c.args.files.now) c.args.jail.now c.args.text.now c.in-Some.given c.missing_file.result given there
     (subst (λ file. IsRefusal (without_file c.args.jail.now table.filter.name file) c.missing_file.result) file c.missing_file.ensures)
 
@@ -29,10 +29,10 @@ returns-in_err-sections c =
     let given : named c.args.text.now ≡ Some c.in-Some.given = sym c.in_ok-given.ensures.value ∙ c.in-Some.is in
     let file : c.in_ok-file.file ≡ file_of c.in-Some.given.name = c.in_ok-file.ensures ∙ ap file_of c.as_str.ensures.value in
     let there : (bases_of c.args.files.now).has_file (file_of c.in-Some.given.name) ≡ true =
-        sym (ap (bases_of c.args.files.now).has_file (c.as_str-2.ensures.value ∙ file)) ∙ (sym c.has.ensures ∙ c.if-not-has.false) in
+    sym (ap (bases_of c.args.files.now).has_file (c.as_str-2.ensures.value ∙ file)) ∙ (sym c.has.ensures ∙ c.if-not-has.false) in
     let base : c.as_str-4.result.now ≡ base_of c.in-Some.given.name = c.as_str-4.ensures.value ∙ (c.in_ok-base.ensures ∙ ap base_of c.as_str-3.ensures.value) in
     let failed : Gives (sections_of (bases_of c.args.files.now) (base_of c.in-Some.given.name)) (Err c.in_err-sections.field-0.0) =
-        subst (λ base. Gives (sections_of (bases_of c.args.files.now) base) (Err c.in_err-sections.field-0.0)) base c.in_err-sections.ensures in
+    subst (λ base. Gives (sections_of (bases_of c.args.files.now) base) (Err c.in_err-sections.field-0.0)) base c.in_err-sections.ensures in
     rw (p.1, p.2) (filter_files_fail (bases_of c.args.files.now) c.args.jail.now c.args.text.now c.in-Some.given c.in_err-sections.field-0.0 given there failed)
 
 pub returns : goal.returns
@@ -40,15 +40,15 @@ returns c =
     let given : named c.args.text.now ≡ Some c.in-Some.given = sym c.in_ok-given.ensures.value ∙ c.in-Some.is in
     let file : c.in_ok-file.file ≡ file_of c.in-Some.given.name = c.in_ok-file.ensures ∙ ap file_of c.as_str.ensures.value in
     let there : (bases_of c.args.files.now).has_file (file_of c.in-Some.given.name) ≡ true =
-        sym (ap (bases_of c.args.files.now).has_file (c.as_str-2.ensures.value ∙ file)) ∙ (sym c.has.ensures ∙ c.if-not-has.false) in
+    sym (ap (bases_of c.args.files.now).has_file (c.as_str-2.ensures.value ∙ file)) ∙ (sym c.has.ensures ∙ c.if-not-has.false) in
     let base : c.as_str-4.result.now ≡ base_of c.in-Some.given.name = c.as_str-4.ensures.value ∙ (c.in_ok-base.ensures ∙ ap base_of c.as_str-3.ensures.value) in
     let sections : sections_of (bases_of c.args.files.now) (base_of c.in-Some.given.name) ≡ Ok c.in_ok-sections.sections =
-        subst (λ base. sections_of (bases_of c.args.files.now) base ≡ Ok c.in_ok-sections.sections) base c.in_ok-sections.ensures in
+    subst (λ base. sections_of (bases_of c.args.files.now) base ≡ Ok c.in_ok-sections.sections) base c.in_ok-sections.ensures in
     let source : c.in_ok-source.source ≡ of_definition (file_of c.in-Some.given.name) c.args.jail.now.section c.in-Some.given.options c.in_ok-sections.sections =
-        c.in_ok-source.ensures
-        ∙ (ap (λ file. of_definition file c.as_str-6.result.now c.as_slice.result.now c.in_ok-sections.sections) (c.as_str-5.ensures.value ∙ file)
-        ∙ (ap (λ section. of_definition (file_of c.in-Some.given.name) section c.as_slice.result.now c.in_ok-sections.sections) c.as_str-6.ensures.value
-        ∙ ap (λ options. of_definition (file_of c.in-Some.given.name) c.args.jail.now.section options c.in_ok-sections.sections) c.as_slice.ensures)) in
+    c.in_ok-source.ensures
+    ∙ (ap (λ file. of_definition file c.as_str-6.result.now c.as_slice.result.now c.in_ok-sections.sections) (c.as_str-5.ensures.value ∙ file)
+    ∙ (ap (λ section. of_definition (file_of c.in-Some.given.name) section c.as_slice.result.now c.in_ok-sections.sections) c.as_str-6.ensures.value
+    ∙ ap (λ options. of_definition (file_of c.in-Some.given.name) c.args.jail.now.section options c.in_ok-sections.sections) c.as_slice.ensures)) in
     named_filter_is (bases_of c.args.files.now) c.args.jail.now c.args.text.now c.in-Some.given c.in_ok-sections.sections given there sections
     ∙ (ap (λ source. Ok (record { source = source; known = known_of c.in_ok-sections.sections })) (sym source)
     ∙ ap (λ known. Ok (record { source = c.in_ok-source.source; known = known })) (sym c.in_ok-known.ensures))

@@ -29,8 +29,8 @@ returns-in_err-ignore_lines c =
     let pref : own c.args.filter.now table.prefregex ≡ Ok c.in_ok-pref.pref = c.in_ok-pref.ensures in
     let fail : own_or c.args.jail.now c.args.filter.now (table.failregex c.args.patterns) ≡ Ok c.in_ok-fail.fail = c.in_ok-fail.ensures in
     let failed : Gives (own_or c.args.jail.now c.args.filter.now (table.ignoreregex (c.args.patterns + length c.in_ok-fail.fail))) (Err c.in_err-ignore_lines.field-0.0) =
-        subst (λ count. Gives (own_or c.args.jail.now c.args.filter.now (table.ignoreregex (c.args.patterns + count))) (Err c.in_err-ignore_lines.field-0.0)) c.len.ensures
-        c.in_err-ignore_lines.ensures in
+    subst (λ count. Gives (own_or c.args.jail.now c.args.filter.now (table.ignoreregex (c.args.patterns + count))) (Err c.in_err-ignore_lines.field-0.0)) c.len.ensures
+    c.in_err-ignore_lines.ensures in
     rw (pref, fail) (rw (p.1, p.2) (first_fails _ _ _ failed))
 
 pub returns : goal.returns
@@ -39,6 +39,6 @@ returns c =
     let pref : own c.args.filter.now table.prefregex ≡ Ok c.in_ok-pref.pref = c.in_ok-pref.ensures in
     let fail : own_or c.args.jail.now c.args.filter.now (table.failregex c.args.patterns) ≡ Ok c.in_ok-fail.fail = c.in_ok-fail.ensures in
     let ignored : own_or c.args.jail.now c.args.filter.now (table.ignoreregex (c.args.patterns + length c.in_ok-fail.fail)) ≡ Ok c.in_ok-ignore_lines.ignore_lines =
-        subst (λ count. own_or c.args.jail.now c.args.filter.now (table.ignoreregex (c.args.patterns + count)) ≡ Ok c.in_ok-ignore_lines.ignore_lines) c.len.ensures
-        c.in_ok-ignore_lines.ensures in
+    subst (λ count. own_or c.args.jail.now c.args.filter.now (table.ignoreregex (c.args.patterns + count)) ≡ Ok c.in_ok-ignore_lines.ignore_lines) c.len.ensures
+    c.in_ok-ignore_lines.ensures in
     rw (pref, fail, ignored) refl
