@@ -15,6 +15,7 @@ mod histories;
 mod inputs;
 mod lines;
 mod runs;
+mod shown;
 mod views;
 
 use crate::Core;
