@@ -5,7 +5,7 @@ ghost use Rattle.f2b_base.specs.declared.ban.Failure.{Failure};
 ghost use Rattle.f2b_model.specs.Full.{is_of};
 ghost use Rattle.f2b_model.specs.Lists.{AllOf};
 ghost use Rattle.fail_window.specs.Opened.{GoesOn, IsOpen, KeepsLimits, TellsFull};
-ghost use Rattle.fail_window.specs.Times.{is_recent};
+ghost use Rattle.fail_window.specs.Times.{is_within_findtime};
 
 use crate::runs::{drop_old, has_run_with, is_close, place_of};
 use f2b_base::{Failure, NoMemory, Plain, Seq};
@@ -76,8 +76,8 @@ impl Window {
 
     /// Whether some failure is later than `findtime` seconds before a moment, in seconds since 1970. Takes no memory, and looks at the
     /// last failure alone.
-    pub fn is_recent(&self, now: u64) -> bool
-        ensures { result ≡ list_any (is_recent now self.now.findtime) self.now.failures }
+    pub fn failed_lately(&self, now: u64) -> bool
+        ensures { result ≡ list_any (is_within_findtime now self.now.findtime) self.now.failures }
     {
         match self.kept.back() {
             Some(last) => is_close(last.time, now, self.findtime),

@@ -5,7 +5,7 @@ use Rattle.f2b_model.specs.Checks.{checked_lane, is_closing}
 use Rattle.f2b_model.specs.Lanes.{Lanes, books_now, lane_failed}
 use Rattle.lane_moves.specs.Held.{held_of}
 use Rattle.lane_moves.proofs.CheckLemmas.{closing_left, open_left}
-use Rattle.lane_moves.proofs.actions.Actions.lane_failed.Goals as goal
+use Rattle.lane_moves.proofs.lane_book.LaneBook.lane_failed.Goals as goal
 
 pub returns-then-closing-clause-lanes : goal.returns-then-closing-clause-lanes
 returns-then-closing-clause-lanes c =

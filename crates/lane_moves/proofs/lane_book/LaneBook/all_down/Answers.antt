@@ -1,7 +1,7 @@
 -- A lane more.
 use Rattle.lane_moves.specs.Held.{held_of}
 use Rattle.lane_moves.proofs.LaneLemmas.{all_down_step}
-use Rattle.lane_moves.proofs.actions.Actions.all_down.Goals as goal
+use Rattle.lane_moves.proofs.lane_book.LaneBook.all_down.Goals as goal
 
 pub loop-lane-preserved : goal.loop-lane-preserved
 loop-lane-preserved c =

@@ -1,4 +1,4 @@
-//! `Actions` and its calls.
+//! `LaneBook` and its calls.
 ghost use Rattle.std.specs.Prelude.{◌≡◌, ◌≤◌, ◌++◌, false, [], Some, option_copied, OnOk, IfOk};
 ghost use Rattle.f2b_base.specs.declared.input.What.TheVariants.{CheckFailed, Ended};
 ghost use Rattle.f2b_model.specs.Checks.{check_of, checked_lane, lane_of};
@@ -27,7 +27,7 @@ use std::marker::Model;
 /// The lanes that are up, whether a stop was asked for, and the jobs that are not settled. After an error of a call that changes them
 /// some of its jobs may be made and others not: let them go.
 #[derive(Drop)]
-pub struct Actions {
+pub struct LaneBook {
     alloc: Global,
     /// In order of coming up.
     up: Seq<UpLane>,
@@ -35,7 +35,7 @@ pub struct Actions {
     book: JobBook,
 }
 
-impl Model for Actions {
+impl Model for LaneBook {
     ghost use Rattle.std.specs.Prelude.{List};
     ghost use Rattle.f2b_base.specs.declared.job.Job.{Job};
     ghost use Rattle.f2b_model.specs.Lanes.{Lanes};
@@ -45,12 +45,12 @@ impl Model for Actions {
     ghost view = { λ a. record { up = a.up; stopping = a.stopping; jobs = a.book.jobs; next_job = a.book.next } };
 }
 
-impl Actions {
+impl LaneBook {
     /// No lane is up, and no job was made. Takes no memory.
-    pub fn new(alloc: Global) -> Actions
+    pub fn new(alloc: Global) -> LaneBook
         ensures { result ≡ record { up = []; stopping = false; jobs = []; next_job = 0 } }
     {
-        Actions {
+        LaneBook {
             alloc,
             up: Seq::new(alloc),
             stopping: false,
@@ -65,12 +65,12 @@ impl Actions {
         stopping: bool,
         jobs: &Seq<Job>,
         next_job: u64,
-    ) -> Result<Actions, NoMemory>
+    ) -> Result<LaneBook, NoMemory>
         requires ids { AreById 0 jobs.now next_job }
         requires few { next_job ≤ most_numbers }
         ensures { IfOk result (λ actions. actions ≡ record { up = up.now; stopping = stopping; jobs = jobs.now; next_job = next_job }) }
     {
-        Ok(Actions {
+        Ok(LaneBook {
             alloc,
             up: up.copy()?,
             stopping,

@@ -1,7 +1,7 @@
 -- A lane more.
 use Rattle.lane_moves.specs.Held.{held_of}
 use Rattle.lane_moves.proofs.LaneLemmas.{all_up_step}
-use Rattle.lane_moves.proofs.actions.Actions.all_up.Goals as goal
+use Rattle.lane_moves.proofs.lane_book.LaneBook.all_up.Goals as goal
 
 pub loop-lane-preserved : goal.loop-lane-preserved
 loop-lane-preserved c =

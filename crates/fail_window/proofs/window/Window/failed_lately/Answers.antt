@@ -1,6 +1,6 @@
 use Rattle.std.proofs.Common.{◌≡◌, ◌-◌, ◌<◌, deque_len, length, suc, refl, sym, ◌∙◌, arith}
-use Rattle.fail_window.proofs.RecentLemmas.{recent_by_last}
-use Rattle.fail_window.proofs.window.Window.is_recent.Goals as goal
+use Rattle.fail_window.proofs.FindtimeLemmas.{recent_by_last}
+use Rattle.fail_window.proofs.window.Window.failed_lately.Goals as goal
 
 pub returns-in-Some : goal.returns-in-Some
 returns-in-Some c =
