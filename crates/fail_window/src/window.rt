@@ -7,7 +7,7 @@ ghost use Rattle.f2b_model.specs.Lists.{AllOf};
 ghost use Rattle.fail_window.specs.Opened.{GoesOn, IsOpen, KeepsLimits, TellsFull};
 ghost use Rattle.fail_window.specs.Times.{is_within_findtime};
 
-use crate::runs::{drop_old, has_run_with, is_close, place_of};
+use crate::runs::{drop_old, has_run_with, is_close, make_room, place_of};
 use f2b_base::{Failure, NoMemory, Plain, Seq};
 use std::alloc::Global;
 use std::collections::VecDeque;
@@ -59,7 +59,7 @@ impl Window {
         ensures full { IfOk result (TellsFull now self.old failure) }
         ensures err { OnErr result (self.new ≡ self.old) }
     {
-        self.kept.reserve(1)?;
+        make_room(&mut self.kept)?;
         drop_old(&mut self.kept, now, self.findtime);
         let place = place_of(&self.kept, &failure);
         self.kept.insert(place, failure)?;

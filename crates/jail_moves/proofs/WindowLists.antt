@@ -104,12 +104,12 @@ pub recent_with : (now findtime : ℕ) (f : Failure) (old new : List Failure) �
     → filter (is_of f.addr) new ≡ own_after now findtime f old → KeepsOthers f.addr old new
     → filter (is_recent now findtime) new ≡ placed comes_before f (filter (is_recent now findtime) old)
 recent_with now findtime f old new recent order after own others =
-    known_by_parts (filter recent new) (placed comes_before f (filter recent old)) (filter_in_order comes_before failures_order recent new after)
-    (placed_in_order comes_before failures_order f (filter recent old) (filter_in_order comes_before failures_order recent old order))
-    (λ addr. filter_swap recent (is_of addr) new ∙ by_test (same_addr f.addr addr) _ (same addr) (apart addr))
+    known_by_parts (filter is_new new) (placed comes_before f (filter is_new old)) (filter_in_order comes_before failures_order is_new new after)
+    (placed_in_order comes_before failures_order f (filter is_new old) (filter_in_order comes_before failures_order is_new old order))
+    (λ addr. filter_swap is_new (is_of addr) new ∙ by_test (same_addr f.addr addr) _ (same addr) (apart addr))
   where
-    recent : Failure → Bool
-    recent = is_recent now findtime
+    is_new : Failure → Bool
+    is_new = is_recent now findtime
 
     here : filter (is_recent now findtime) (filter (is_of f.addr) new) ≡ filter (is_of f.addr) (placed comes_before f (filter (is_recent now findtime) old))
     here =
