@@ -1,6 +1,6 @@
 //! Sections in order.
 ghost use Rattle.std.specs.Prelude.{◌≡◌, [], OnOk, OnErr, option_copied};
-ghost use Rattle.ini_interp.specs.Sections.{raw, with_raw, opened, section_at, item_at};
+ghost use Rattle.ini_interp.specs.Sections.{raw, with_raw, without, opened, section_at, item_at};
 
 mod entries;
 
@@ -99,6 +99,13 @@ impl Sections {
         items.set(name, value)?;
         self.map.insert(section, items)?;
         Ok(())
+    }
+
+    /// Takes the section out, with its items. The others keep their order. Takes no memory.
+    pub fn clear(&mut self, section: &str)
+        ensures { self.new ≡ without section.now self.old }
+    {
+        let _ = self.map.shift_remove(section);
     }
 }
 
