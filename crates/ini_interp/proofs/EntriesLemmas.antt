@@ -47,6 +47,7 @@ module _ {A V : Type 0} where
     where
       left : List (String A × V)
       left = remove_entry (λ k. bytes_eq name (string_bytes k)) es
+
       by : (b : Bool) → bytes_eq name (string_bytes e.0) ≡ b → lookup (λ k. bytes_eq name (string_bytes k)) (cond b es (e ∷ left)) ≡ None →
           (lookup (λ k. bytes_eq name (string_bytes k)) left ≡ None → by_bytes left ≡ without name (by_bytes es)) →
           by_bytes (cond b es (e ∷ left)) ≡ cond (not b) ((string_bytes e.0, e.1) ∷ without name (by_bytes es)) (without name (by_bytes es))

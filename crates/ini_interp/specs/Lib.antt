@@ -1,4 +1,5 @@
 pub mod Added
+pub mod AreSections
 pub mod Changes
 pub mod Entries
 pub mod Files
