@@ -1,7 +1,7 @@
 -- The names in sections that several files come to, and the faults that are told.
 use Rattle.std.proofs.Common.{◌≡◌, ◌≢◌, ℕ, zero, suc, ◌+◌, ◌==◌, not, Bool, true, false, cond, List, [], ◌∷◌, ◌++◌, map, filter, length, Option, None, Some, is_none, Result, Ok, Err, refl, sym, ap, subst, ◌∙◌}
 use Rattle.std.proofs.lemmas.List.Elements.{All-from_recursion, recursion_from_All}
-use Rattle.std.specs.List.{AllByRecursion as Each, fold, flat_map}
+use Rattle.std.specs.List.{All, AllByRecursion as Each, fold, flat_map}
 use Rattle.std.specs.Prelude.{codes, nat_eq}
 use Rattle.std.specs.List.{ends_with}
 use Rattle.std.specs.Result.{IfOk, IfErr}
@@ -48,7 +48,7 @@ items_of_are section sections are = by (value_of section sections) refl
     by (Some items) there = each-value_of AreItems section items sections (recursion_from_All _ sections are.items) there
 
 -- the section that a setting is of
-abbrev section_of : Setting → List ℕ
+abbrev pub section_of : Setting → List ℕ
 section_of (Opens section) = section
 section_of (Sets section name value) = section
 
@@ -61,7 +61,7 @@ setting-keeps sections (Sets section name value) are named =
 
 -- what the sections of a file have, the sections of its settings have
 module _ (P : List ℕ → Type 0) (before : Sections) where
-  section-each : (section : List ℕ × Items) → P section.0 → Each (λ setting. P (section_of setting)) (section_settings before section)
+  pub section-each : (section : List ℕ × Items) → P section.0 → Each (λ setting. P (section_of setting)) (section_settings before section)
   section-each section is = (is, by section.1)
     where
       by : (items : Items) → Each (λ setting. P (section_of setting)) (map (λ item. Sets section.0 item.0 (known_replaced before section.0 item.1)) items)
@@ -202,6 +202,13 @@ all_read_are files base =
     in_turn_are (base_file files)
     (λ path. if_there_are (read_with files (length files) [] path) (Ok []) (value_of path files) (read_with_are files (length files) [] path) tt)
     (base_files files base)
+
+pub files_are : (files : Files) (base : List ℕ) (all : List Sections) → all_read files base ≡ Ok all → All AreSections all
+files_are files base all comes = by (all_read files base) (all_read_are files base) comes
+  where
+    by : (read : FilesRead) → AreRead read → read ≡ Ok all → All AreSections all
+    by (Err fault) told is = cc
+    by (Ok files) each is = subst (All AreSections) (ok_is {E = MergeError} (Ok files) files all refl is) (All-from_recursion AreSections files each)
 
 -- what the files of a base come to
 pub merged_are : (files : Files) (base : List ℕ) (sections : Sections) → merged_in files base ≡ Ok sections → AreSections sections

@@ -9,6 +9,7 @@ pub mod Joins
 pub mod Kept
 pub mod Known
 pub mod Lines
+pub mod MergeLaws
 pub mod Merges
 pub mod Parts
 pub mod Paths
