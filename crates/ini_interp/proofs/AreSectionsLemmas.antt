@@ -5,7 +5,6 @@ use Rattle.std.proofs.lemmas.List.Elements.{All-from_recursion, recursion_from_A
 use Rattle.std.proofs.lemmas.Map.Keys.{IsDistinct-cons, IsDistinct-head, IsDistinct-tail}
 use Rattle.std.proofs.lemmas.Option.{none-some}
 use Rattle.std.proofs.lemmas.Slice.Eq.{bytes_eq-Decides}
-use Rattle.std.proofs.lemmas.Str.Ascii.{lowercase-lowercase}
 use Rattle.std.specs.List.{All, IsDistinct, AllByRecursion as Each, fold, list_any, position_or_len}
 use Rattle.std.specs.Map.{keys_of}
 use Rattle.std.specs.Str.{bytes_eq, is_utf8, str_to_ascii_lowercase}
@@ -17,6 +16,7 @@ use Rattle.ini_interp.specs.AreSections.{AreApart, IsLowercase, has_bracket, Are
 use Rattle.ini_interp.specs.Files.{blocks, with_block, gathered, lines_in, entries, items_in, sections_of, first_fault, unless_at_fault, meaning_of, file_of}
 use Rattle.ini_interp.specs.Lines.{Form, Nothing, Opens, Continues, Sets, Broken, is_empty_or_comment, begins_with_blank, trimmed_start, trimmed_end, without_comment, opened_by, named, divided_at, item_of, header_or_item, content_form, form_of}
 use Rattle.ini_interp.specs.Sections.{Items, Sections, value_of, with_value, items_of, items_or_none}
+use Rattle.ini_interp.proofs.CaseLemmas.{lowercase-again}
 use Rattle.ini_interp.proofs.Named.{some_value, valued}
 
 -- Entries under names.
@@ -27,10 +27,6 @@ bytes_eq-flip one other differ = by (bytes_eq other one) refl
     by : (b : Bool) → bytes_eq other one ≡ b → b ≡ false
     by true is = absurd (true≢false (sym ((bytes_eq-Decides one other).1 (sym ((bytes_eq-Decides other one).0 is))) ∙ differ))
     by false is = refl
-
-pub lowercase-again : (name : List ℕ) → str_to_ascii_lowercase (str_to_ascii_lowercase name) ≡ str_to_ascii_lowercase name
-lowercase-again [] = refl
-lowercase-again (n ∷ name) = ap₂ (λ (first : ℕ) (rest : List ℕ). first ∷ rest) (lowercase-lowercase n) (lowercase-again name)
 
 module _ {V : Type 0} where
   -- what each entry has, each has where a value is set

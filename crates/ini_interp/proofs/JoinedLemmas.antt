@@ -22,7 +22,8 @@ use Rattle.ini_interp.specs.Lines.{Form, form_of}
 use Rattle.ini_interp.specs.Lines as lines
 use Rattle.ini_interp.specs.Merges.{Files, FilesRead, includes, included, missing, if_there, if_well_formed, with_includes, read_with, base_file, base_files, all_read, joined_all, merged_in, is_outside, is_among, directory}
 use Rattle.ini_interp.specs.Sections.{Items, Sections, value_of, with_value, items_of, items_or_none, opened, with_raw}
-use Rattle.ini_interp.proofs.AreSectionsLemmas.{lowercase-again, each-with_value, apart-with_value, each-value_of, fold-keeps, each-append, items-with_value, no_items, no_sections, file_are, ok_is}
+use Rattle.ini_interp.proofs.CaseLemmas.{lowercase-again}
+use Rattle.ini_interp.proofs.AreSectionsLemmas.{each-with_value, apart-with_value, each-value_of, fold-keeps, each-append, items-with_value, no_items, no_sections, file_are, ok_is}
 
 -- Settings.
 
