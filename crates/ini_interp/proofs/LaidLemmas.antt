@@ -10,9 +10,12 @@ use Rattle.std.specs.Str.{bytes_eq, str_to_ascii_lowercase}
 use Rattle.ini_interp.specs.AreSections.{AreApart, AreItems, AreSections, IsLowercase}
 use Rattle.ini_interp.specs.Joins.{Setting, Opens, Sets, section_settings, settings, without_includes, with_setting, joined}
 use Rattle.ini_interp.specs.Known.{known_replaced}
+use Rattle.ini_interp.specs.declared.merge_error.MergeError.{MergeError}
+use Rattle.ini_interp.specs.Merges.{Files, FilesRead, all_read, joined_all, merged_in}
+use Rattle.std.specs.Result.{IfOk}
 use Rattle.ini_interp.specs.Sections.{Items, Sections, value_of, with_value, items_of, items_or_none, opened, raw, with_raw}
 use Rattle.ini_interp.specs.Values.{first_of}
-use Rattle.ini_interp.proofs.AreSectionsLemmas.{bytes_eq-flip, value_of-other, none_apart}
+use Rattle.ini_interp.proofs.AreSectionsLemmas.{bytes_eq-flip, value_of-other, none_apart, fold-keeps, ok_is}
 use Rattle.ini_interp.proofs.JoinedLemmas.{section_of, section-each, settings-each}
 use Rattle.ini_interp.proofs.Named.{own_name, value_of-with_value}
 
@@ -201,3 +204,24 @@ unfolding joined
 includes_stay before file =
     others_keep (codes "INCLUDES") (settings before file) before
     (settings-each (λ section. bytes_eq (codes "INCLUDES") section ≡ false) before file (not_includes file))
+
+always : (files : List Sections) → Each (λ file. Unit {0}) files
+always [] = tt
+always (file ∷ files) = (tt, always files)
+
+-- what the files of a base come to has no [INCLUDES]
+merged_includes : (files : Files) (base : List ℕ) (sections : Sections) → merged_in files base ≡ Ok sections → value_of (codes "INCLUDES") sections ≡ None
+unfolding merged_in
+merged_includes files base sections comes = by (all_read files base) comes
+  where
+    by : (read : FilesRead) → joined_all read ≡ Ok sections → value_of (codes "INCLUDES") sections ≡ None
+    by (Err fault) is = cc
+    by (Ok all) is =
+        ap (value_of (codes "INCLUDES")) (sym (ok_is {E = MergeError} (joined_all (Ok all)) (fold joined [] all) sections refl is))
+        ∙ fold-keeps (λ (sections : Sections). value_of (codes "INCLUDES") sections ≡ None) (λ file. Unit {0}) joined
+        (λ before file none _. includes_stay before file ∙ none) all [] (always all) refl
+
+pub includes_answer : (base : List ℕ) (files : Files) (result : Result Sections MergeError) →
+    IfOk result (λ (sections : Sections). merged_in files base ≡ Ok sections) → IfOk result (λ (sections : Sections). value_of (codes "INCLUDES") sections ≡ None)
+includes_answer base files (Ok sections) comes = merged_includes files base sections comes
+includes_answer base files (Err fault) comes = tt

@@ -1,10 +1,11 @@
 //! The files of a base, merged.
-ghost use Rattle.std.specs.Prelude.{◌≡◌, ◌≢◌, ℕ, List, ◌++◌, [], Ok, Err, IfOk, IfErr, OnOk};
+ghost use Rattle.std.specs.Prelude.{◌≡◌, ◌≢◌, ℕ, List, ◌++◌, [], None, Ok, Err, IfOk, IfErr, OnOk, codes};
 ghost use Rattle.ini_interp.specs.declared.error.IniError.TheVariants as ini;
 ghost use Rattle.ini_interp.specs.AreSections.{AreSections};
 ghost use Rattle.ini_interp.specs.Frames.{IsKept};
 ghost use Rattle.ini_interp.specs.InTurn.{in_turn};
 ghost use Rattle.ini_interp.specs.Merges.{base_file, base_files, files_ending, merged, merged_in};
+ghost use Rattle.ini_interp.specs.Sections.{value_of};
 
 use crate::file_table::FileTable;
 use crate::frames::read_with_includes;
@@ -92,8 +93,9 @@ fn read_base(alloc: Global, files: &FileTable<'_>, base: &str) -> Result<Section
 pub fn merge_in(alloc: Global, files: &FileTable<'_>, base: &str) -> Result<Sections, MergeError>
     ensures ok { IfOk result (λ sections. merged_in files.now base.now ≡ Ok sections) }
 
-    // Of the names in it.
+    // Of the names in it. [INCLUDES] is not merged.
     ensures named { IfOk result AreSections }
+    ensures not_merged { IfOk result (λ sections. value_of (codes "INCLUDES") sections ≡ None) }
 
     // The first fault in the order of reading, or want of memory.
     ensures fault { IfErr result (λ fault. fault ≢ MergeError.NoMemory → merged_in files.now base.now ≡ Err fault) }
@@ -108,8 +110,9 @@ pub fn merge_in(alloc: Global, files: &FileTable<'_>, base: &str) -> Result<Sect
 pub fn merge(alloc: Global, tree: &Tree, base: &str) -> Result<Sections, MergeError>
     ensures ok { IfOk result (λ sections. merged tree.now base.now ≡ Ok sections) }
 
-    // Of the names in it.
+    // Of the names in it. [INCLUDES] is not merged.
     ensures named { IfOk result AreSections }
+    ensures not_merged { IfOk result (λ sections. value_of (codes "INCLUDES") sections ≡ None) }
 
     // The first fault in the order of reading, or want of memory.
     ensures fault { IfErr result (λ fault. fault ≢ MergeError.NoMemory → merged tree.now base.now ≡ Err fault) }

@@ -1,4 +1,5 @@
 use Rattle.ini_interp.proofs.JoinedLemmas.{named_answer, told_answer}
+use Rattle.ini_interp.proofs.LaidLemmas.{includes_answer}
 use Rattle.ini_interp.proofs.MergesLemmas.{merged_answer, merged_failure}
 use Rattle.ini_interp.proofs.merges.merge_in.Goals as goal
 
@@ -13,3 +14,6 @@ returns-clause-fault c = merged_failure c.args.base.now c.args.files.now c.read_
 
 pub returns-clause-told : goal.returns-clause-told
 returns-clause-told c = told_answer c.args.base.now c.args.files.now c.read_base.result (returns-clause-fault c)
+
+pub returns-clause-not_merged : goal.returns-clause-not_merged
+returns-clause-not_merged c = includes_answer c.args.base.now c.args.files.now c.read_base.result (returns-clause-ok c)
