@@ -1,5 +1,5 @@
 -- By which steps a text with tags is replaced.
-use Rattle.std.proofs.Common.{◌≡◌, ℕ, zero, suc, ◌+◌, ◌-◌, ◌<◌, ◌≤◌, inl, inr, ◌==◌, nat_lt, List, [], ◌∷◌, ◌++◌, length, take, append_assoc, append-nil, Option, Some, None, Result, Ok, Err, IsTrue, refl, sym, subst, ap, ap₂, ◌∙◌, arith}
+use Rattle.std.proofs.Common.{◌≡◌, ℕ, zero, suc, ◌+◌, ◌-◌, ◌<◌, ◌≤◌, ◌⊎◌, inl, inr, ◌==◌, nat_lt, List, [], ◌∷◌, ◌++◌, length, take, append_assoc, append-nil, Option, Some, None, Result, Ok, Err, IsTrue, refl, sym, subst, ap, ap₂, ◌∙◌, arith}
 use Rattle.std.specs.Prelude.{◌&&◌, not}
 use Rattle.std.proofs.lemmas.Bool.{cases_Bool, eqb-true}
 use Rattle.ini_interp.specs.declared.value_error.InterpError.{InterpError}
@@ -136,5 +136,48 @@ substituted_by_steps sections scope text done is =
     let both : List ℕ → List ℕ → Type 0 = λ (old new : List ℕ). (texts : List (List ℕ)) × AreSteps value old texts new in
     subst (λ (old : List ℕ). both old done) (append-nil text) (subst (both (text ++ [])) (append-nil kept.0.text ∙ kept.2) on)
 
+-- ---- one way
+
+-- two places of one byte in a text: the same, or one before the other
+places : (byte : ℕ) (one other behind rest : List ℕ) → one ++ byte ∷ behind ≡ other ++ byte ∷ rest →
+    ((one ≡ other) × (behind ≡ rest)) ⊎ (((more : List ℕ) × (other ≡ one ++ byte ∷ more)) ⊎ ((more : List ℕ) × (one ≡ other ++ byte ∷ more)))
+places byte [] [] behind rest is = inl (refl, (cc))
+places byte [] (y ∷ other) behind rest is = inr (inl (other, (cc)))
+places byte (x ∷ one) [] behind rest is = inr (inr (one, (cc)))
+places byte (x ∷ one) (y ∷ other) behind rest is =
+    let first : x ≡ y = cc in
+    elim (places byte one other behind rest (cc)) [
+      | inl same ↦ inl (ap₂ (λ (z : ℕ) (t : List ℕ). z ∷ t) first same.0, same.1)
+      | inr apart ↦ inr (elim apart [
+        | inl more ↦ inl (more.0, ap₂ (λ (z : ℕ) (t : List ℕ). z ∷ t) (sym first) more.1)
+        | inr more ↦ inr (more.0, ap₂ (λ (z : ℕ) (t : List ℕ). z ∷ t) first more.1)
+      ])
+    ]
+
+-- no tag with a value ends in a text that is done
+none_before : (value : Valuation) (before text done more : List ℕ) → IsTrue (is_open before && not (is_reserved (open_name before))) → value (open_name before) ≡ Ok (Some text) →
+    IsDone value done → done ≡ before ++ 62 ∷ more → ⊥
+none_before value before text done more tag has without is = differ (value (open_name before)) has (without before more is tag)
+  where
+    differ : (found : Result (Option (List ℕ)) InterpError) → found ≡ Ok (Some text) → found ≡ Ok None → ⊥
+    differ found one other = cc
+
+-- a name has one value
+value_same : (found : Result (Option (List ℕ)) InterpError) (one two : List ℕ) → found ≡ Ok (Some one) → found ≡ Ok (Some two) → one ≡ two
+value_same found one two first second = cc
+
+one_way : (value : Valuation) (old new other : List ℕ) → IsStep value old new → IsStep value old other → new ≡ other
+one_way value old new other step also = elim (places 62 step.before also.before step.behind also.behind (sym step.old_is ∙ also.old_is)) [
+  | inl same ↦
+      let text : step.text ≡ also.text = value_same (value (open_name step.before)) step.text also.text step.value_is (ap (λ (b : List ℕ). value (open_name b)) same.0 ∙ also.value_is) in
+      step.new_is
+      ∙ ap₂ (λ (b t : List ℕ). take (name_start b - 1) b ++ t ++ step.behind) same.0 text
+      ∙ ap (λ (t : List ℕ). take (name_start also.before - 1) also.before ++ also.text ++ t) same.1 ∙ sym also.new_is
+  | inr apart ↦ absurd (elim apart [
+    | inl more ↦ none_before value step.before step.text also.before more.0 step.is_tag step.value_is also.first more.1
+    | inr more ↦ none_before value also.before also.text step.before more.0 also.is_tag also.value_is step.first more.1
+  ])
+]
+
 pub tag_law : TagLaw
-tag_law = record { stays = done_stays; ends = ends_done; steps = substituted_by_steps }
+tag_law = record { stays = done_stays; ends = ends_done; steps = substituted_by_steps; one_way = one_way }

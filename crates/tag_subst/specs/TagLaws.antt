@@ -42,3 +42,5 @@ pub record TagLaw : Type 0 where
   pub steps :
       (sections : Sections) (scope : Scope) (text done : List ℕ) → substituted sections scope text ≡ Ok done →
       (texts : List (List ℕ)) × AreSteps (tag_value sections scope) text texts done
+  -- and there is one way
+  pub one_way : (value : Valuation) (old new other : List ℕ) → IsStep value old new → IsStep value old other → new ≡ other
