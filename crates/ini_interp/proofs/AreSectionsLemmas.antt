@@ -1,21 +1,21 @@
 -- The names in sections that are read from files.
-use Rattle.std.proofs.Common.{◌≡◌, ◌≢◌, ℕ, zero, suc, ◌+◌, ◌==◌, ◌||◌, not, nat_lt, Bool, true, false, true≢false, cond, List, [], ◌∷◌, ◌++◌, map, filter, length, take, position, Option, None, Some, option_map, Result, Ok, Err, refl, sym, ap, ap₂, subst, ◌∙◌}
+use Rattle.std.proofs.Common.{◌≡◌, ◌≢◌, ℕ, ◌+◌, ◌==◌, ◌||◌, not, nat_lt, Bool, true, false, true≢false, cond, List, [], ◌∷◌, ◌++◌, map, length, take, Option, None, Some, option_map, Result, Ok, Err, refl, sym, ap, subst, ◌∙◌}
 use Rattle.std.proofs.Math.Numerals.{one-add}
 use Rattle.std.proofs.lemmas.List.Elements.{All-from_recursion, recursion_from_All}
 use Rattle.std.proofs.lemmas.Map.Keys.{IsDistinct-cons, IsDistinct-head, IsDistinct-tail}
 use Rattle.std.proofs.lemmas.Option.{none-some}
 use Rattle.std.proofs.lemmas.Slice.Eq.{bytes_eq-Decides}
-use Rattle.std.specs.List.{All, IsDistinct, AllByRecursion as Each, fold, list_any, position_or_len}
+use Rattle.std.specs.List.{IsDistinct, AllByRecursion as Each, fold, position_or_len}
 use Rattle.std.specs.Map.{keys_of}
-use Rattle.std.specs.Str.{bytes_eq, is_utf8, str_to_ascii_lowercase}
+use Rattle.std.specs.Str.{bytes_eq, is_utf8}
 use Rattle.std.specs.Str.Lines.{lines}
 use Rattle.std.specs.Str.Lossy.{utf8_valid_len}
 use Rattle.ini_interp.specs.declared.error.IniError.{IniError}
-use Rattle.ini_interp.specs.declared.error.IniError.TheVariants.{NoSection, NoDelimiter, Indent, NotUtf8, NoMemory}
+use Rattle.ini_interp.specs.declared.error.IniError.TheVariants.{NotUtf8}
 use Rattle.ini_interp.specs.AreSections.{AreApart, IsLowercase, has_bracket, AreItems, AreSections}
-use Rattle.ini_interp.specs.Files.{blocks, with_block, gathered, lines_in, entries, items_in, sections_of, first_fault, unless_at_fault, meaning_of, file_of}
+use Rattle.ini_interp.specs.Files.{blocks, with_block, gathered, entries, items_in, sections_of, first_fault, unless_at_fault, meaning_of, file_of}
 use Rattle.ini_interp.specs.Lines.{Form, Nothing, Opens, Continues, Sets, Broken, is_empty_or_comment, begins_with_blank, trimmed_start, trimmed_end, without_comment, opened_by, named, divided_at, item_of, header_or_item, content_form, form_of}
-use Rattle.ini_interp.specs.Sections.{Items, Sections, value_of, with_value, items_of, items_or_none}
+use Rattle.ini_interp.specs.Sections.{Items, Sections, value_of, with_value}
 use Rattle.ini_interp.proofs.CaseLemmas.{lowercase-again}
 use Rattle.ini_interp.proofs.Named.{some_value, valued}
 

@@ -1,5 +1,5 @@
 -- The names in sections that several files come to, and the faults that are told.
-use Rattle.std.proofs.Common.{◌≡◌, ◌≢◌, ℕ, zero, suc, ◌+◌, ◌==◌, not, Bool, true, false, cond, List, [], ◌∷◌, ◌++◌, map, filter, length, Option, None, Some, is_none, Result, Ok, Err, refl, sym, ap, subst, ◌∙◌}
+use Rattle.std.proofs.Common.{◌≡◌, ◌≢◌, ℕ, zero, suc, ◌+◌, ◌==◌, not, Bool, true, false, cond, List, [], ◌∷◌, ◌++◌, map, length, Option, None, Some, is_none, Result, Ok, Err, refl, sym, ap, subst, ◌∙◌}
 use Rattle.std.proofs.lemmas.List.Elements.{All-from_recursion, recursion_from_All}
 use Rattle.std.specs.List.{All, AllByRecursion as Each, fold, flat_map}
 use Rattle.std.specs.Prelude.{codes, nat_eq}
@@ -9,12 +9,12 @@ use Rattle.std.specs.Str.{bytes_eq, is_utf8, str_to_ascii_lowercase}
 use Rattle.std.specs.Str.Lines.{lines}
 use Rattle.std.specs.Str.Lossy.{utf8_valid_len}
 use Rattle.ini_interp.specs.declared.error.IniError.{IniError}
-use Rattle.ini_interp.specs.declared.error.IniError.TheVariants.{NoSection, NoDelimiter, Indent, NotUtf8, NoMemory}
+use Rattle.ini_interp.specs.declared.error.IniError.TheVariants.{NoSection, Indent, NotUtf8, NoMemory}
 use Rattle.ini_interp.specs.declared.merge_error.MergeError.{MergeError}
-use Rattle.ini_interp.specs.declared.merge_error.MergeError.TheVariants.{Ini, MissingInclude, IncludeLoop}
+use Rattle.ini_interp.specs.declared.merge_error.MergeError.TheVariants.{Ini, MissingInclude}
 use Rattle.ini_interp.specs.declared.merge_error.MergeError.TheVariants as merge
 use Rattle.ini_interp.specs.AreSections.{has_bracket, AreItems, AreSections}
-use Rattle.ini_interp.specs.Files.{fault, first_fault, or_else, entries, open_lines, open_section, unless_at_fault, meaning_of, file_of, sections_of}
+use Rattle.ini_interp.specs.Files.{fault, first_fault, or_else, entries, open_lines, open_section, unless_at_fault, meaning_of, file_of}
 use Rattle.ini_interp.specs.InTurn.{followed, in_turn}
 use Rattle.ini_interp.specs.Joins.{Setting, Opens, Sets, section_settings, settings, without_includes, with_setting, joined}
 use Rattle.ini_interp.specs.Known.{known_replaced}

@@ -1,5 +1,5 @@
 -- Where a name is looked for.
-use Rattle.std.proofs.Common.{◌≡◌, ℕ, zero, suc, ◌+◌, ◌<◌, Bool, true, false, cond, not, ◌||◌, List, [], ◌∷◌, length, Option, Some, None, refl, sym, ap, ap₂, option_and_then, ◌∙◌, arith}
+use Rattle.std.proofs.Common.{◌≡◌, ℕ, suc, ◌+◌, Bool, true, false, cond, not, ◌||◌, List, [], ◌∷◌, length, Option, Some, None, refl, sym, ap, ap₂, option_and_then, arith}
 use Rattle.std.specs.List.{position_or_len, list_any, before_first, after_first}
 use Rattle.ini_interp.specs.Sections.{Sections, raw, value_of}
 use Rattle.std.specs.Str.{str_to_ascii_lowercase}

@@ -1,5 +1,5 @@
 -- What is proved of the files of a base, laid over one another.
-use Rattle.std.specs.Prelude.{◌≡◌, ℕ, List, Bool, false, Ok, option_map, codes}
+use Rattle.std.specs.Prelude.{◌≡◌, ℕ, List, false, Ok, option_map, codes}
 use Rattle.std.specs.List.{All}
 use Rattle.std.specs.Str.{bytes_eq}
 use Rattle.ini_interp.specs.AreSections.{AreSections}

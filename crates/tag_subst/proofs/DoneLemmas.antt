@@ -1,5 +1,5 @@
 -- When nothing is left to be replaced in a text, and which faults there are.
-use Rattle.std.proofs.Common.{◌≡◌, ℕ, zero, suc, ◌+◌, ◌-◌, ◌⊎◌, inl, inr, ◌==◌, nat_lt, max, List, [], ◌∷◌, ◌++◌, length, take, drop, replicate, append_assoc, append-nil, Option, Some, None, Result, Ok, Err, refl, sym, subst, ap, ap₂, ◌∙◌, take-append-drop}
+use Rattle.std.proofs.Common.{◌≡◌, ℕ, zero, suc, ◌-◌, ◌⊎◌, inl, inr, ◌==◌, nat_lt, max, List, [], ◌∷◌, ◌++◌, length, take, drop, replicate, append_assoc, append-nil, Option, Some, None, Result, Ok, Err, refl, sym, subst, ap, ap₂, ◌∙◌, take-append-drop}
 use Rattle.std.specs.Prelude.{fold, ◌&&◌, not}
 use Rattle.std.proofs.lemmas.Bool.{cases_Bool, eqb-true, both_ways}
 use Rattle.ini_interp.specs.declared.value_error.InterpError.{InterpError}

@@ -1,5 +1,5 @@
 -- By which steps a text with tags is replaced.
-use Rattle.std.proofs.Common.{◌≡◌, ℕ, zero, suc, ◌+◌, ◌-◌, ◌<◌, ◌≤◌, ◌⊎◌, inl, inr, ◌==◌, nat_lt, List, [], ◌∷◌, ◌++◌, length, take, append_assoc, append-nil, Option, Some, None, Result, Ok, Err, IsTrue, refl, sym, subst, ap, ap₂, ◌∙◌, arith}
+use Rattle.std.proofs.Common.{◌≡◌, ℕ, zero, suc, ◌+◌, ◌-◌, ◌≤◌, ◌⊎◌, inl, inr, ◌==◌, nat_lt, List, [], ◌∷◌, ◌++◌, take, append_assoc, append-nil, Option, Some, None, Result, Ok, Err, IsTrue, refl, sym, subst, ap, ap₂, ◌∙◌, arith}
 use Rattle.std.specs.Prelude.{◌&&◌, not}
 use Rattle.std.proofs.lemmas.Bool.{cases_Bool, eqb-true}
 use Rattle.ini_interp.specs.declared.value_error.InterpError.{InterpError}
@@ -10,7 +10,7 @@ use Rattle.tag_subst.specs.declared.tag_error.TagError.{TagError}
 use Rattle.tag_subst.specs.Marked.{Marked, no_text, added, cut}
 use Rattle.tag_subst.specs.Names.{name_start, is_open, open_name, is_reserved}
 use Rattle.tag_subst.specs.TagLaws.{IsDone, IsStep, AreSteps, TagLaw}
-use Rattle.tag_subst.specs.Tags.{Valuation, tag_depth, replacement, asked, closed, replaced_by, read_byte, read_bytes, read, substituted}
+use Rattle.tag_subst.specs.Tags.{Valuation, tag_depth, replacement, closed, replaced_by, read_byte, read_bytes, read, substituted}
 use Rattle.tag_subst.specs.Values.{tag_value}
 use Rattle.tag_subst.proofs.DoneLemmas.{done_taken, onward_ok, IsKeeping, done_byte, done_read, text_ok, done_stays, nothing_is_done, ends_done}
 use Rattle.tag_subst.proofs.ReadLemmas.{IsTag, closed-tag, deeper_in, read-bytes}

@@ -1,4 +1,4 @@
-use Rattle.std.proofs.Common.{◌≡◌, ◌∙◌, None, lit<}
+use Rattle.std.proofs.Common.{◌∙◌, None, lit<}
 use Rattle.std.proofs.lemmas.Result.{IfOk-weaker}
 use Rattle.std.proofs.lemmas.Str.Pattern.{split_once_first}
 use Rattle.ini_interp.proofs.ScopeLemmas.{raw_in-plain}

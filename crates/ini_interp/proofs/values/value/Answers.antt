@@ -1,4 +1,4 @@
-use Rattle.std.proofs.Common.{◌≡◌, ◌∙◌, ap, sym, option_copied}
+use Rattle.std.proofs.Common.{◌∙◌, ap, sym, option_copied}
 use Rattle.ini_interp.proofs.ValuesLemmas.{value-added}
 use Rattle.ini_interp.proofs.values.value.Goals as goal
 
