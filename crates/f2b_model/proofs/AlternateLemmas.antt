@@ -11,9 +11,9 @@ use Rattle.f2b_base.specs.declared.job.JobKind.{JobKind}
 use Rattle.f2b_base.specs.declared.job.JobKind.TheVariants.{Start, Stop, Ban, Unban, Reban}
 use Rattle.f2b_model.specs.Families.{same_lane}
 use Rattle.f2b_model.specs.Jobs.{Ending, endings_of, is_settled, due_after, stands, head}
-use Rattle.f2b_model.specs.Turns.{order_of, touches, concerns, turn, follow, kinds_of, Alternate, last_is_ban}
+use Rattle.f2b_model.specs.Turns.{order_of, touches, concerns, banned_after, follow, kinds_of, Alternate, last_is_ban}
 
-step_alternates : (kind : JobKind) (b c : Bool) (after : Bool → Option Bool) (kinds : List JobKind) → ((d : Bool) → after d ≡ Some c → Alternate d kinds) → option_and_then after (turn kind b) ≡ Some c
+step_alternates : (kind : JobKind) (b c : Bool) (after : Bool → Option Bool) (kinds : List JobKind) → ((d : Bool) → after d ≡ Some c → Alternate d kinds) → option_and_then after (banned_after kind b) ≡ Some c
     → Alternate b (kind ∷ kinds)
 step_alternates Ban false c after kinds each h = each true h
 step_alternates Ban true c after kinds each h = absurd (let e : None ≡ Some c = h in cc)
@@ -26,7 +26,7 @@ step_alternates Start true c after kinds each h = absurd (let e : None ≡ Some 
 step_alternates Stop false c after kinds each h = each false h
 step_alternates Stop true c after kinds each h = each false h
 
-step_last : (kind : JobKind) (b c : Bool) (after : Bool → Option Bool) (kinds : List JobKind) → ((d : Bool) → after d ≡ Some c → last_is_ban d kinds ≡ c) → option_and_then after (turn kind b) ≡ Some c
+step_last : (kind : JobKind) (b c : Bool) (after : Bool → Option Bool) (kinds : List JobKind) → ((d : Bool) → after d ≡ Some c → last_is_ban d kinds ≡ c) → option_and_then after (banned_after kind b) ≡ Some c
     → last_is_ban b (kind ∷ kinds) ≡ c
 step_last Ban false c after kinds each h = each true h
 step_last Ban true c after kinds each h = absurd (let e : None ≡ Some c = h in cc)
@@ -49,7 +49,7 @@ pub follow_alternates : (id : LaneId) (addr : Addr) (b c : Bool) (jobs : List Jo
 follow_alternates id addr b c [] h = tt
 follow_alternates id addr b c (job ∷ jobs) h = elim (cases_Bool (touches id addr (order_of job))) [
   | inl k ↦
-      let on : option_and_then (λ d. follow id addr d (map order_of jobs)) (turn job.kind b) ≡ Some c = rw k at h in
+      let on : option_and_then (λ d. follow id addr d (map order_of jobs)) (banned_after job.kind b) ≡ Some c = rw k at h in
       rw (kinds_touch id addr job jobs k) (step_alternates job.kind b c (λ d. follow id addr d (map order_of jobs)) (kinds_of id addr jobs) (λ d e. follow_alternates id addr d c jobs e) on)
   | inr k ↦
       let on : follow id addr b (map order_of jobs) ≡ Some c = rw k at h in
@@ -60,7 +60,7 @@ pub follow_last : (id : LaneId) (addr : Addr) (b c : Bool) (jobs : List Job) →
 follow_last id addr b c [] h = let e : Some b ≡ Some c = h in cc
 follow_last id addr b c (job ∷ jobs) h = elim (cases_Bool (touches id addr (order_of job))) [
   | inl k ↦
-      let on : option_and_then (λ d. follow id addr d (map order_of jobs)) (turn job.kind b) ≡ Some c = rw k at h in
+      let on : option_and_then (λ d. follow id addr d (map order_of jobs)) (banned_after job.kind b) ≡ Some c = rw k at h in
       rw (kinds_touch id addr job jobs k) (step_last job.kind b c (λ d. follow id addr d (map order_of jobs)) (kinds_of id addr jobs) (λ d e. follow_last id addr d c jobs e) on)
   | inr k ↦
       let on : follow id addr b (map order_of jobs) ≡ Some c = rw k at h in

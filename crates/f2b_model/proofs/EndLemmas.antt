@@ -13,7 +13,7 @@ use Rattle.f2b_base.specs.Addresses.{same_addr}
 use Rattle.f2b_model.specs.State.{Jail, open_of, active_of, kept_of}
 use Rattle.f2b_model.specs.Moves.{ban_of, is_banned, ended}
 use Rattle.f2b_model.specs.Steps.{moves, is_due, is_due_by, end_of, own_end, ends_before, end_all, ended_by_time}
-use Rattle.f2b_model.specs.Sound.{IsNotBefore, IsOver, IsOrderly, IsSoundJail}
+use Rattle.f2b_model.specs.Sound.{IsNotBefore, IsPastBan, IsOrderly, IsSoundJail}
 use Rattle.f2b_model.proofs.ListLemmas.{by_test, in_order_is}
 use Rattle.f2b_model.proofs.FullLemmas.{le_true, lt_true, true_lt, le_false, not_true_both}
 use Rattle.f2b_model.proofs.MarkLemmas.{active_of-stop, kept_of-push}
@@ -197,7 +197,7 @@ by_time_orderly at j o =
     let bs = active_of j.bans in
     let ps = kept_of j.endings in
     let dues = filter (is_due at) bs in
-    let over : AllOf (λ (p : Past). AllOf (λ (b : Ban). IsNotBefore p.end b.until) bs) ps = all_of-more (IsOver at bs) _ (λ p h. h.1) ps o.over in
+    let over : AllOf (λ (p : Past). AllOf (λ (b : Ban). IsNotBefore p.end b.until) bs) ps = all_of-more (IsPastBan at bs) _ (λ p h. h.1) ps o.over in
     let swapped : AllOf (λ (b : Ban). AllOf (λ (p : Past). IsNotBefore p.end b.until) ps) bs = all_swap (λ (p : Past) (b : Ban). IsNotBefore p.end b.until) ps bs over in
     let past : AllOf (λ (b : Ban). AllOf (λ (p : Past). p.end ≤ own_end b) ps) dues = due_past at ps bs swapped in
     by_time_all at (in_order ends_before dues) j (in_order_is ends_before ends_order dues)
@@ -221,7 +221,7 @@ unbanned_orderly at (d ∷ ds) j calm o =
     unbanned_orderly at ds (ended d.addr at j)
     (all_of-more (λ (b : Ban). (is_due at b ≡ false) × (same_addr b.addr d.addr ≡ false)) (λ (b : Ban). is_due at b ≡ false) (λ b h. h.0)
     (active_of (ended d.addr at j).bans) (ended_active (λ (b : Ban). is_due at b ≡ false) at d.addr j calm))
-    (ended_orderly at at d.addr j (omega arith) (all_of-more (IsOver at (active_of j.bans)) (λ (p : Past). p.end ≤ at) (λ p h. h.0) (kept_of j.endings) o.over)
+    (ended_orderly at at d.addr j (omega arith) (all_of-more (IsPastBan at (active_of j.bans)) (λ (p : Past). p.end ≤ at) (λ p h. h.0) (kept_of j.endings) o.over)
     (all_of-filter (λ (b : Ban). IsNotBefore at b.until) (λ b. not (ban_of d.addr b)) (active_of j.bans)
     (all_of-more (λ (b : Ban). is_due at b ≡ false) (λ (b : Ban). IsNotBefore at b.until) (λ b e. not_due_later at at b.until e (omega arith)) (active_of j.bans) calm))
     o)

@@ -5,7 +5,7 @@ use Rattle.std.proofs.lemmas.Bool.Decides.{nat_tests}
 use Rattle.f2b_base.specs.declared.addr.Addr.{Addr}
 use Rattle.f2b_base.specs.declared.ban.Failure.{Failure}
 use Rattle.f2b_model.specs.Lists.{in_order, IsOrder, IsIn}
-use Rattle.f2b_model.specs.Full.{is_of, in_span, how_many, IsFull, is_full, IsChoice, IsFullByChoice, is_late}
+use Rattle.f2b_model.specs.Full.{is_of, in_span, how_many, IsFull, is_full, IsChoice, IsFullByChoice, is_recent}
 use Rattle.f2b_model.specs.Full.IsChoice.{none, left, taken}
 use Rattle.f2b_model.proofs.ListLemmas.{by_test, filter-append, filter_both, in_order_filter, length_in_order, filter_swap}
 
@@ -78,23 +78,23 @@ pub how_many_push : (addr : Addr) (start findtime : ℕ) (fs : List Failure) (f 
 how_many_push addr start findtime fs f =
     ap length (filter-append (in_span addr start findtime) fs (f ∷ [])) ∙ length-append _ _
 
--- a span with a failure in it that is new shows only late failures
-pub span_is_late : (addr : Addr) (start at findtime : ℕ) (f g : Failure) → at < f.time + findtime
-    → in_span addr start findtime f ≡ true → in_span addr start findtime g ≡ true → is_late at findtime g ≡ true
-span_is_late addr start at findtime f g new hf hg =
+-- a span with a failure in it that is new shows only recent failures
+pub span_is_recent : (addr : Addr) (start at findtime : ℕ) (f g : Failure) → at < f.time + findtime
+    → in_span addr start findtime f ≡ true → in_span addr start findtime g ≡ true → is_recent at findtime g ≡ true
+span_is_recent addr start at findtime f g new hf hg =
     let a = stands addr start findtime f hf in
     let b = stands addr start findtime g hg in
     true_lt _ _ (omega arith)
 
--- of a list that was not full, with a new failure, only the late ones matter
-pub full_of_late : (findtime maxretry at : ℕ) (addr : Addr) (fs : List Failure) (f : Failure)
+-- of a list that was not full, with a new failure, only the recent ones matter
+pub full_of_recent : (findtime maxretry at : ℕ) (addr : Addr) (fs : List Failure) (f : Failure)
     → (IsFull findtime maxretry addr fs → ⊥) → at < f.time + findtime
-    → IsFull findtime maxretry addr (fs ++ f ∷ []) → IsFull findtime maxretry addr (filter (is_late at findtime) (fs ++ f ∷ []))
-full_of_late findtime maxretry at addr fs f not_full new full =
+    → IsFull findtime maxretry addr (fs ++ f ∷ []) → IsFull findtime maxretry addr (filter (is_recent at findtime) (fs ++ f ∷ []))
+full_of_recent findtime maxretry at addr fs f not_full new full =
     by_test (in_span addr full.start findtime f) _
     (λ e. record {
       start = full.start;
-      many = rw (filter_both (is_late at findtime) (in_span addr full.start findtime) (λ g h. span_is_late addr full.start at findtime f g new e h) (fs ++ f ∷ []))
+      many = rw (filter_both (is_recent at findtime) (in_span addr full.start findtime) (λ g h. span_is_recent addr full.start at findtime f g new e h) (fs ++ f ∷ []))
           full.many;
     })
     (λ e. absurd (not_full (record {

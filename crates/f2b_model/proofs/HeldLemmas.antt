@@ -19,7 +19,7 @@ use Rattle.f2b_model.specs.Active.{held_in, held_by, held}
 use Rattle.f2b_base.specs.Addresses.{same_addr}
 use Rattle.f2b_model.specs.LaneSound.{AtMostOne, IsBanStep, Follows, AreAlike, NonePasses, follow_told, led_to}
 use Rattle.f2b_model.specs.Lists.{AllOf, AreDistinct, in_order}
-use Rattle.f2b_model.specs.Moves.{Out, is_banned}
+use Rattle.f2b_model.specs.Moves.{JailAndSerial, is_banned}
 use Rattle.f2b_model.specs.NowMoves.{dropped_now, found_now, banned_now}
 use Rattle.f2b_model.specs.Nows.{JailsNow}
 use Rattle.f2b_model.specs.Orders.{is_held_of, is_active}
@@ -133,7 +133,7 @@ each_follows t f keeps js a d = record {
 
 -- ---- a move on the jail of a name
 
-module _ (at : List ℕ) (t : JailNow → List Happening) (g : ℕ → JailNow → Out JailNow) (n : ℕ) (keeps : (m : ℕ) (j : JailNow) → named moves_now (g m j).jail ≡ named moves_now j)
+module _ (at : List ℕ) (t : JailNow → List Happening) (g : ℕ → JailNow → JailAndSerial JailNow) (n : ℕ) (keeps : (m : ℕ) (j : JailNow) → named moves_now (g m j).jail ≡ named moves_now j)
     (leads : (j : JailNow) → Leads j.definition.name (t j) j.bans (g n j).jail.bans) where
   told_in_other : (name : List ℕ) (addr : Addr) (b : Bool) (js : List JailNow) → bytes_eq at name ≡ false → follow_told name addr b (told_in moves_now at t js) ≡ Some b
   told_in_other name addr b [] h = refl
@@ -177,7 +177,7 @@ found_follows : (word : ℕ) (name : List ℕ) (fs : List Failure) (w : JailsNow
     → Follows (told_all_found moves_now word name fs w) (held moves_now w) (held moves_now (found_all moves_now word name fs w))
 found_follows word name [] w d = follows_nothing _ _ (λ jail addr. refl)
 found_follows word name (f ∷ fs) w d =
-    let g : ℕ → JailNow → Out JailNow = λ n j. found_now w.at word n f j in
+    let g : ℕ → JailNow → JailAndSerial JailNow = λ n j. found_now w.at word n f j in
     let keeps : (n : ℕ) (j : JailNow) → named moves_now (g n j).jail ≡ named moves_now j = λ n j. moves_now_names.found w.at word n f j in
     let next = at_jail moves_now name g w in
     follows_both (told_in moves_now name (told_found moves_now w.at word f w.next_ban) w.jails) (told_all_found moves_now word name fs next) (held moves_now w) (held moves_now next)
@@ -189,7 +189,7 @@ banned_follows : (word : ℕ) (name : List ℕ) (addrs : List Addr) (w : JailsNo
     → Follows (told_all_banned moves_now word name addrs w) (held moves_now w) (held moves_now (ban_all moves_now word name addrs w))
 banned_follows word name [] w d = follows_nothing _ _ (λ jail addr. refl)
 banned_follows word name (a ∷ addrs) w d =
-    let g : ℕ → JailNow → Out JailNow = λ n j. banned_now w.at word n a j in
+    let g : ℕ → JailNow → JailAndSerial JailNow = λ n j. banned_now w.at word n a j in
     let keeps : (n : ℕ) (j : JailNow) → named moves_now (g n j).jail ≡ named moves_now j = λ n j. moves_now_names.banned w.at word n a j in
     let next = at_jail moves_now name g w in
     follows_both (told_in moves_now name (told_banned moves_now w.at word a w.next_ban) w.jails) (told_all_banned moves_now word name addrs next) (held moves_now w) (held moves_now next)
@@ -362,17 +362,17 @@ now_ban_step w input unspent fit d once d2 once2 =
     let mid = at_reading moves_now input.secs w in
     let at = max w.at input.secs in
     let mid_d : AreDistinct bytes_eq (names moves_now mid.jails) = subst (AreDistinct bytes_eq) (sym (at_reading_names moves_now moves_now_names input.secs w)) d in
-    let mid_once : AllOf (λ (j : JailNow). IsOnceEach j.bans) mid.jails = once_by_time at w.jails once in
+    let once_at_reading : AllOf (λ (j : JailNow). IsOnceEach j.bans) mid.jails = once_by_time at w.jails once in
     let after = done moves_now input.word input.what mid in
     let last : held moves_now (jails_step_now w input) ≡ held moves_now after = rw unspent (held_dropped after.at after.purge after.jails) in
     let told_is : jails_told moves_now w input ≡ told_each (told_ends moves_now at) w.jails ++ told_done moves_now input.word input.what mid = rw unspent refl in
     let leads : Follows (told_each (told_ends moves_now at) w.jails ++ told_done moves_now input.word input.what mid) (held moves_now w) (led_to input.what (held moves_now mid) (held moves_now after)) =
     follows_both (told_each (told_ends moves_now at) w.jails) (told_done moves_now input.word input.what mid) (held moves_now w) (held moves_now mid) (led_to input.what (held moves_now mid) (held moves_now after))
-    (ends_follow at w.jails d once) (done_follows input.word input.what mid mid_d mid_once) in
+    (ends_follow at w.jails d once) (done_follows input.word input.what mid mid_d once_at_reading) in
     record {
       leads = subst (λ hs. Follows (jails_told moves_now w input) (held moves_now w) (led_to input.what (held moves_now mid) hs)) (sym last)
           (subst (λ ts. Follows ts (held moves_now w) (led_to input.what (held moves_now mid) (held moves_now after))) (sym told_is) leads);
       alike = subst (AreAlike input.what (held moves_now mid)) (sym last) (done_alike input.word input.what mid fit.what mid_d);
-      mid_once = record { one = λ jail addr. held_once jail addr mid.jails mid_d mid_once };
+      once_at_reading = record { one = λ jail addr. held_once jail addr mid.jails mid_d once_at_reading };
       after_once = record { one = λ jail addr. held_once jail addr (jails_step_now w input).jails d2 once2 };
     }

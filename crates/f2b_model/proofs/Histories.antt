@@ -213,13 +213,13 @@ out_of_time : after (configures 1000 (plain ∷ []) ∷ reads 1700 (fails seven 
 out_of_time = refl
 
 -- 5. a failure is kept for less than 1200 seconds: that of 1100 is there at 2299, and gone when one counts at 2300. Failures stand by address
-kept_late : after (configures 1000 (plain ∷ []) ∷ reads 1100 (fails eight 1100 ∷ []) ∷ reads 2299 (fails seven 2299 ∷ []) ∷ [])
+kept_recent : after (configures 1000 (plain ∷ []) ∷ reads 1100 (fails eight 1100 ∷ []) ∷ reads 2299 (fails seven 2299 ∷ []) ∷ [])
     ≡ shows 2299 plain (record followed { total_failed = 2; moment = 2299; failures = fails seven 2299 ∷ fails eight 1100 ∷ [] })
-kept_late = refl
+kept_recent = refl
 
-gone_late : after (configures 1000 (plain ∷ []) ∷ reads 1100 (fails eight 1100 ∷ []) ∷ reads 2300 (fails seven 2300 ∷ []) ∷ [])
+gone_recent : after (configures 1000 (plain ∷ []) ∷ reads 1100 (fails eight 1100 ∷ []) ∷ reads 2300 (fails seven 2300 ∷ []) ∷ [])
     ≡ shows 2300 plain (record followed { total_failed = 2; moment = 2300; failures = fails seven 2300 ∷ [] })
-gone_late = refl
+gone_recent = refl
 
 -- 6. a ban forgets the failures of its address alone
 forgets_its_own : after (configures 1000 (plain ∷ []) ∷ reads 1500 (fails eight 1490 ∷ fails seven 1500 ∷ fails seven 1500 ∷ fails seven 1500 ∷ []) ∷ [])

@@ -13,7 +13,7 @@ use Rattle.f2b_model.specs.Jobs.{Ending, Ledger, stands, pending, as_made, ArePe
 use Rattle.f2b_model.specs.LaneSound.{AllStand, AreInOrder, IsOrdered, AreSoundLanes, is_banned_in}
 use Rattle.f2b_model.specs.Lanes.{Lanes, books, books_now, lanes_step, lanes_now, lanes_from}
 use Rattle.f2b_model.specs.Orders.{Held}
-use Rattle.f2b_model.specs.Turns.{Order, order_of, touches, turn, follow}
+use Rattle.f2b_model.specs.Turns.{Order, order_of, touches, banned_after, follow}
 use Rattle.f2b_base.specs.Limits.{last_moment}
 use Rattle.f2b_model.proofs.AlternateLemmas.{order_stands}
 use Rattle.f2b_model.proofs.BackLemmas.{pending-back_from, back_ordered}
@@ -43,7 +43,7 @@ follow_some id addr xs ys same (Some c) = same c
 
 follow_cons : (id : LaneId) (addr : Addr) (b : Bool) (o : Order) (xs ys : List Order) → ((c : Bool) → follow id addr c xs ≡ follow id addr c ys) → follow id addr b (o ∷ xs) ≡ follow id addr b (o ∷ ys)
 follow_cons id addr b o xs ys same = elim (cases_Bool (touches id addr o)) [
-  | inl h ↦ rw h (follow_some id addr xs ys same (turn o.kind b))
+  | inl h ↦ rw h (follow_some id addr xs ys same (banned_after o.kind b))
   | inr h ↦ rw h (same b)
 ]
 
@@ -76,7 +76,7 @@ follow_open_one : (id : LaneId) (addr : Addr) (es : List Ending) (job : Job) (jo
     → ((x : Bool) → follow id addr x (map order_of jobs) ≡ Some c → (d : Bool) × (follow id addr d (map order_of (filter_map (stands es) jobs)) ≡ Some c))
     → follow id addr b (map order_of (job ∷ jobs)) ≡ Some c → (d : Bool) × (follow id addr d (map order_of (cons_option o (filter_map (stands es) jobs))) ≡ Some c)
 follow_open_one id addr es job jobs None is b c all later h = elim (cases_Bool (touches id addr (order_of job))) [
-  | inl k ↦ follow_turn id addr es jobs c (turn job.kind b) later (rw k at h)
+  | inl k ↦ follow_turn id addr es jobs c (banned_after job.kind b) later (rw k at h)
   | inr k ↦ later b (rw k at h)
 ]
 follow_open_one id addr es job jobs (Some j) is b c all later h = elim (cases_Bool (same_lane job.lane id)) [

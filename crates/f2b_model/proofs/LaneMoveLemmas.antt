@@ -17,7 +17,7 @@ use Rattle.f2b_model.specs.Jobs.{Ledger}
 use Rattle.f2b_model.specs.LaneSound.{AtMostOne, IsHeldOnce, IsInTurn, is_banned_in}
 use Rattle.f2b_model.specs.Lanes.{Lanes, books, issue, lane_down, lane_up}
 use Rattle.f2b_model.specs.Orders.{Held, is_held_of, is_active, lane_id, is_lane, is_up, takes, order, order_showing, ban_orders, lane_orders, down_orders, up_orders, restart_orders}
-use Rattle.f2b_model.specs.Turns.{Order, order_of, numbered, touches, turn, follow}
+use Rattle.f2b_model.specs.Turns.{Order, order_of, numbered, touches, banned_after, follow}
 use Rattle.f2b_model.proofs.PassLemmas.{any_map_filter, any_filter, any_agree, any_and, one_implied, one_map_filter, one_filter, one_push}
 use Rattle.f2b_model.proofs.SameLemmas.{same_addr-true, same_lane-true, lane_swap}
 use Rattle.f2b_model.proofs.TurnLemmas.{orders_numbered, follow-append, follow_none, AllKind, follow_of_one}
@@ -133,7 +133,7 @@ unbanned lane held id addr u here up one = elim (cases_Bool (is_active held id.j
   | inl h ↦
       let was : (u && (in_family id.family addr && is_active held id.jail addr)) ≡ true = and_from u _ up (and_swap (in_family id.family addr) _ ∙ h) in
       follow_of_one id addr Unban _ false (lane_orders Unban lane held) (all_of_kind Unban (λ x. order Unban (Some x) lane) (λ x. refl) _) (one_lane_orders Unban lane held id addr one)
-      (any_lane_orders Unban lane held id addr ∙ and_from (is_lane id lane) _ here h) (ap (turn Unban) was)
+      (any_lane_orders Unban lane held id addr ∙ and_from (is_lane id lane) _ here h) (ap (banned_after Unban) was)
   | inr h ↦
       let was : (u && (in_family id.family addr && is_active held id.jail addr)) ≡ false = and_right u _ (and_swap (in_family id.family addr) _ ∙ h) in
       follow_none id addr _ (lane_orders Unban lane held) (any_lane_orders Unban lane held id addr ∙ and_right (is_lane id lane) _ h) ∙ ap (λ x. Some x) was
@@ -165,7 +165,7 @@ lane_down_keeps base at held lane l once is on = record {
 -- ---- a lane comes up
 
 -- the bans of a lane where nobody is banned, given by Ban or Reban
-banned_now : (kind : JobKind) → turn kind false ≡ Some true → (lane : UpLane) (held : List Held) (id : LaneId) (addr : Addr) → is_lane id lane ≡ true → AtMostOne (is_held_of id.jail addr) held
+banned_now : (kind : JobKind) → banned_after kind false ≡ Some true → (lane : UpLane) (held : List Held) (id : LaneId) (addr : Addr) → is_lane id lane ≡ true → AtMostOne (is_held_of id.jail addr) held
     → follow id addr false (lane_orders kind lane held) ≡ Some (in_family id.family addr && is_active held id.jail addr)
 banned_now kind bans lane held id addr here one = elim (cases_Bool (is_active held id.jail addr && in_family id.family addr)) [
   | inl h ↦

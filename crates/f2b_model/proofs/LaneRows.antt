@@ -190,12 +190,12 @@ once = record { one = λ jail addr. ((λ h. refl), tt) }
 one_sound : AreSoundLanes never [] one_lane
 one_sound =
     sound_kept never 1000 (configured (action 1 [] ∷ [])) [] [] [] [] first_lanes (omega arith) apart
-    (record { leads = follows_nothing [] [] (λ jail addr. refl); alike = λ jail addr h. refl; mid_once = none_held; after_once = none_held }) first_sound
+    (record { leads = follows_nothing [] [] (λ jail addr. refl); alike = λ jail addr h. refl; once_at_reading = none_held; after_once = none_held }) first_sound
 
 banned_sound : AreSoundLanes never held banned
 banned_sound =
     sound_kept never 1001 Tick [] held held (Begins (codes "s") ban [] ∷ []) one_lane (omega arith) tt
-    (record { leads = follows_begin (codes "s") ban [] [] held refl (λ jail addr. or_false (is_held_of jail addr (record { jail = codes "s"; ban = ban }))); alike = tt; mid_once = once; after_once = once })
+    (record { leads = follows_begin (codes "s") ban [] [] held refl (λ jail addr. or_false (is_held_of jail addr (record { jail = codes "s"; ban = ban }))); alike = tt; once_at_reading = once; after_once = once })
     one_sound
   where
     or_false : (b : Bool) → (b || false) ≡ b

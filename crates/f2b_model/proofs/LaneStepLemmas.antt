@@ -155,11 +155,11 @@ turn_kept base at Stop before mid after told l fit step is =
     let told_too : Lanes Ledger = issue books at (told_orders l.up told) l in
     let now : IsInTurn base after told_too = told_keeps base at before after told l step.leads is in
     let down : IsInTurn base mid (all_down books at mid l.up told_too) =
-    stop_keeps base at mid told_too step.mid_once (turn_alike base after mid told_too (λ id addr u. sym (step.alike id.jail addr)) now) in
+    stop_keeps base at mid told_too step.once_at_reading (turn_alike base after mid told_too (λ id addr u. sym (step.alike id.jail addr)) now) in
     let again : IsInTurn base after (all_down books at mid l.up told_too) = turn_alike base mid after (all_down books at mid l.up told_too) (λ id addr u. step.alike id.jail addr) down in
     record { turns = again.turns; apart = again.apart }
 turn_kept base at (Config defs) before mid after told l fit step is =
-    config_keeps base at mid after defs (issue books at (told_orders l.up told) l) fit step.mid_once step.after_once step.alike (told_keeps base at before mid told l step.leads is)
+    config_keeps base at mid after defs (issue books at (told_orders l.up told) l) fit step.once_at_reading step.after_once step.alike (told_keeps base at before mid told l step.leads is)
 turn_kept base at (CheckFailed job outcome) before mid after told l fit step is =
     check_turn base at after job (issue books at (told_orders l.up told) l) step.after_once (told_keeps base at before after told l step.leads is)
 turn_kept base at _ before mid after told l fit step is = told_keeps base at before after told l step.leads is

@@ -166,7 +166,7 @@ first_stays n input id ids heads there =
     (λ t.
     let m = step_now n input in
     let on : GoOn n.lanes m.lanes =
-    rw t (step_carries GoOn go_on_carries (step_by moves_now n.world input).at input.what (held moves_now (at_reading moves_now input.secs n.world)) (held moves_now (step_by moves_now n.world input))
-    (jails_told moves_now n.world input) n.lanes) in
+    rw t (step_carries GoOn go_on_carries (step_by moves_now n.jails input).at input.what (held moves_now (at_reading moves_now input.secs n.jails)) (held moves_now (step_by moves_now n.jails input))
+    (jails_told moves_now n.jails input) n.lanes) in
     let of = head_of id n.lanes.jobs (job_by_id id n.lanes.jobs) heads in
     first_is_head id of.0 0 m.lanes.jobs m.lanes.next_job (ids_rise n input ids) (first_later id of.0 0 n.lanes.jobs m.lanes.jobs n.lanes.next_job ids on.0 of.1 there))

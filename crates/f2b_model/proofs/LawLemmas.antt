@@ -9,7 +9,7 @@ use Rattle.f2b_base.specs.declared.ban.Past.{Past}
 use Rattle.f2b_base.specs.declared.jail.Defs.{Defs}
 use Rattle.f2b_base.specs.declared.jail.JailDef.{JailDef}
 use Rattle.f2b_model.specs.Lists.{AllOf, AreDistinct, in_order}
-use Rattle.f2b_model.specs.Full.{is_late, IsFull}
+use Rattle.f2b_model.specs.Full.{is_recent, IsFull}
 use Rattle.f2b_model.specs.State.{Jail, JailsState, open_of, active_of, kept_of}
 use Rattle.f2b_model.specs.declared.jail_now.JailNow.{JailNow}
 use Rattle.f2b_model.specs.Nows.{comes_before, jail_now, jails_now_of, jail_from, jails_from}
@@ -29,14 +29,14 @@ use Rattle.f2b_model.proofs.EndLemmas.{all_placed_all}
 -- what a jail shows is shown again
 pub jail_again : (j : Jail) → jail_now (jail_from (jail_now j)) ≡ jail_now j
 jail_again j =
-    let late = is_late j.moment j.definition.findtime in
-    let fs = in_order comes_before (filter late (open_of j.failures)) in
+    let recent = is_recent j.moment j.definition.findtime in
+    let fs = in_order comes_before (filter recent (open_of j.failures)) in
     let e1 = open_of-all fs in
-    let e2 : filter late fs ≡ fs = in_order_filter comes_before failures_order late (filter late (open_of j.failures))
-    ∙ ap (λ r. in_order comes_before r) (filter_both late late (λ f h. h) (open_of j.failures)) in
-    let e3 : in_order comes_before fs ≡ fs = in_order_same comes_before failures_order fs (in_order_is comes_before failures_order (filter late (open_of j.failures))) in
-    let failures : in_order comes_before (filter late (open_of (jail_from (jail_now j)).failures)) ≡ fs =
-    ap (λ r. in_order comes_before (filter late r)) e1 ∙ ap (λ r. in_order comes_before r) e2 ∙ e3 in
+    let e2 : filter recent fs ≡ fs = in_order_filter comes_before failures_order recent (filter recent (open_of j.failures))
+    ∙ ap (λ r. in_order comes_before r) (filter_both recent recent (λ f h. h) (open_of j.failures)) in
+    let e3 : in_order comes_before fs ≡ fs = in_order_same comes_before failures_order fs (in_order_is comes_before failures_order (filter recent (open_of j.failures))) in
+    let failures : in_order comes_before (filter recent (open_of (jail_from (jail_now j)).failures)) ≡ fs =
+    ap (λ r. in_order comes_before (filter recent r)) e1 ∙ ap (λ r. in_order comes_before r) e2 ∙ e3 in
     ap₂ (λ (r : List Failure) (p : List Ban × List Past). record (jail_now j) { failures = r; bans = p.0; past = p.1 }) failures
     (ap₂ (λ (b : List Ban) (p : List Past). (b, p)) (active_of-all (active_of j.bans)) (kept_of-all (kept_of j.endings)))
 
@@ -50,10 +50,10 @@ now_again s = ap (λ (js : List JailNow). record (jails_now_of s) { jails = js }
 sound_again : (at : ℕ) (j : Jail) → IsSoundJail at j → IsSoundJail at (jail_from (jail_now j))
 sound_again at j sound = record {
   none_full = λ addr full.
-      (let late = is_late j.moment j.definition.findtime in
-      let full2 : IsFull j.definition.findtime j.definition.maxretry addr (in_order comes_before (filter late (open_of j.failures))) = rw (open_of-all _) at full in
-      let order = full_in_order comes_before failures_order j.definition.findtime j.definition.maxretry addr (filter late (open_of j.failures)) in
-      sound.none_full addr (full_of_part late j.definition.findtime j.definition.maxretry addr (open_of j.failures) (order.1 full2)));
+      (let recent = is_recent j.moment j.definition.findtime in
+      let full2 : IsFull j.definition.findtime j.definition.maxretry addr (in_order comes_before (filter recent (open_of j.failures))) = rw (open_of-all _) at full in
+      let order = full_in_order comes_before failures_order j.definition.findtime j.definition.maxretry addr (filter recent (open_of j.failures)) in
+      sound.none_full addr (full_of_part recent j.definition.findtime j.definition.maxretry addr (open_of j.failures) (order.1 full2)));
   moment = sound.moment;
 }
 
@@ -61,8 +61,8 @@ good_again : (at : ℕ) (j : Jail) → IsGoodJail at j → IsGoodJail at (jail_f
 good_again at j good = record {
   sound = sound_again at j good.sound;
   orderly =
-      (let fs = filter (is_late j.moment j.definition.findtime) (open_of j.failures) in
-      let few = orderly_fewer at j.moment (is_late j.moment j.definition.findtime) (open_of j.failures) (active_of j.bans) (kept_of j.endings) good.orderly in
+      (let fs = filter (is_recent j.moment j.definition.findtime) (open_of j.failures) in
+      let few = orderly_fewer at j.moment (is_recent j.moment j.definition.findtime) (open_of j.failures) (active_of j.bans) (kept_of j.endings) good.orderly in
       rw (open_of-all (in_order comes_before fs), active_of-all (active_of j.bans), kept_of-all (kept_of j.endings))
       (record {
         by_moment = all_placed_all _ comes_before [] fs tt few.by_moment;

@@ -9,28 +9,28 @@ use Rattle.f2b_base.specs.declared.ban.Past.{Past}
 use Rattle.f2b_base.specs.declared.view.WatchView.{WatchView}
 use Rattle.f2b_model.specs.Lists.{placed, in_order}
 use Rattle.f2b_model.specs.Watches.{watches_of}
-use Rattle.f2b_model.specs.Full.{is_of, IsFull, is_full, is_late}
+use Rattle.f2b_model.specs.Full.{is_of, IsFull, is_full, is_recent}
 use Rattle.f2b_model.specs.State.{Counted, Jail, open_of, active_of, kept_of, forget}
 use Rattle.f2b_model.specs.declared.jail_now.JailNow.{JailNow}
 use Rattle.f2b_model.specs.Nows.{comes_before, jail_now}
-use Rattle.f2b_model.specs.Moves.{is_near, Out, counts, counted, begun, judged, found, banned, ended, dropped, limited, ban_of, is_banned, new_ban, is_stale, kept}
+use Rattle.f2b_model.specs.Moves.{is_near, JailAndSerial, counts, counted, begun, judged, found, banned, ended, dropped, limited, ban_of, is_banned, new_ban, is_stale, kept}
 use Rattle.f2b_model.specs.NowMoves.{counted_now, begun_now, judged_now, found_now, banned_now, ended_now, dropped_now, limited_now, kept_now}
 use Rattle.f2b_model.specs.Sound.{IsSoundJail}
 use Rattle.f2b_model.proofs.ListLemmas.{by_test, filter-append, filter_both, filter_swap, in_order_filter, in_order_is, placed_filter, placed_all_push, length_in_order}
-use Rattle.f2b_model.proofs.FullLemmas.{le_true, lt_true, true_lt, le_false, both_true, both_same, full_of_late, full_of_part, full_in_order, full_of_test, test_of_full, same_test}
+use Rattle.f2b_model.proofs.FullLemmas.{le_true, lt_true, true_lt, le_false, both_true, both_same, full_of_recent, full_of_part, full_in_order, full_of_test, test_of_full, same_test}
 use Rattle.f2b_model.proofs.MarkLemmas.{open_of-push, active_of-push, kept_of-push, open_of-forget, active_of-stop, kept_of-drop, failures_order}
 
-pub late_before : (moment at findtime : ℕ) → moment ≤ at → (f : Failure) → is_late at findtime f ≡ true → is_late moment findtime f ≡ true
-late_before moment at findtime h f e = let l = lt_true _ _ e in true_lt _ _ (omega arith)
+pub recent_before : (moment at findtime : ℕ) → moment ≤ at → (f : Failure) → is_recent at findtime f ≡ true → is_recent moment findtime f ≡ true
+recent_before moment at findtime h f e = let l = lt_true _ _ e in true_lt _ _ (omega arith)
 
--- of the late failures in order, what a stricter test keeps
-pub shown_filter : (moment findtime : ℕ) (p : Failure → Bool) (fs : List Failure) → ((f : Failure) → p f ≡ true → is_late moment findtime f ≡ true)
-    → filter p (in_order comes_before (filter (is_late moment findtime) fs)) ≡ in_order comes_before (filter p fs)
+-- of the recent failures in order, what a stricter test keeps
+pub shown_filter : (moment findtime : ℕ) (p : Failure → Bool) (fs : List Failure) → ((f : Failure) → p f ≡ true → is_recent moment findtime f ≡ true)
+    → filter p (in_order comes_before (filter (is_recent moment findtime) fs)) ≡ in_order comes_before (filter p fs)
 shown_filter moment findtime p fs h =
-    in_order_filter comes_before failures_order p _ ∙ ap (λ r. in_order comes_before r) (filter_both (is_late moment findtime) p h fs)
+    in_order_filter comes_before failures_order p _ ∙ ap (λ r. in_order comes_before r) (filter_both (is_recent moment findtime) p h fs)
 
-new_is_late : (at findtime : ℕ) (f : Failure) → at < f.time + findtime → is_late at findtime f ≡ true
-new_is_late at findtime f h = true_lt _ _ (omega arith)
+new_is_recent : (at findtime : ℕ) (f : Failure) → at < f.time + findtime → is_recent at findtime f ≡ true
+new_is_recent at findtime f h = true_lt _ _ (omega arith)
 
 filter_push : (p : Failure → Bool) (fs : List Failure) (f : Failure) → p f ≡ true → filter p (fs ++ f ∷ []) ≡ filter p fs ++ f ∷ []
 filter_push p fs f e = filter-append p fs (f ∷ []) ∙ ap (λ r. filter p fs ++ r) (rw e refl)
@@ -40,23 +40,23 @@ pub counted_shows : (at : ℕ) (f : Failure) (j : Jail) → j.moment ≤ at → 
 counted_shows at f j h new =
     let findtime = j.definition.findtime in
     let fs = open_of j.failures in
-    let p = is_late at findtime in
-    let late : p f ≡ true = new_is_late at findtime f new in
-    let old = in_order comes_before (filter (is_late j.moment findtime) fs) in
+    let p = is_recent at findtime in
+    let recent : p f ≡ true = new_is_recent at findtime f new in
+    let old = in_order comes_before (filter (is_recent j.moment findtime) fs) in
     let e1 : in_order comes_before (filter p (open_of (counted at f j).failures)) ≡ in_order comes_before (filter p fs ++ f ∷ []) =
-    ap (λ r. in_order comes_before (filter p r)) (open_of-push j.failures f) ∙ ap (λ r. in_order comes_before r) (filter_push p fs f late) in
+    ap (λ r. in_order comes_before (filter p r)) (open_of-push j.failures f) ∙ ap (λ r. in_order comes_before r) (filter_push p fs f recent) in
     let e2 : in_order comes_before (filter p fs ++ f ∷ []) ≡ placed comes_before f (in_order comes_before (filter p fs)) =
     placed_all_push comes_before failures_order [] (filter p fs) f in
     let e3 : placed comes_before f (in_order comes_before (filter p fs)) ≡ placed comes_before f (filter p old) =
-    ap (λ r. placed comes_before f r) (sym (shown_filter j.moment findtime p fs (late_before j.moment at findtime h))) in
+    ap (λ r. placed comes_before f r) (sym (shown_filter j.moment findtime p fs (recent_before j.moment at findtime h))) in
     let e4 : placed comes_before f (filter p old) ≡ filter p (placed comes_before f old) =
-    sym (placed_filter comes_before failures_order p f late old (in_order_is comes_before failures_order (filter (is_late j.moment findtime) fs))) in
+    sym (placed_filter comes_before failures_order p f recent old (in_order_is comes_before failures_order (filter (is_recent j.moment findtime) fs))) in
     ap (λ r. record (jail_now (counted at f j)) { failures = r }) (e1 ∙ e2 ∙ e3 ∙ e4)
 
 pub begun_shows : (at word serial : ℕ) (addr : Addr) (failures : ℕ) (j : Jail)
     → jail_now (begun at word serial addr failures j) ≡ begun_now at word serial addr failures (jail_now j)
 begun_shows at word serial addr failures j =
-    let p = is_late j.moment j.definition.findtime in
+    let p = is_recent j.moment j.definition.findtime in
     let q : Failure → Bool = λ f. not (is_of addr f) in
     let fs = open_of j.failures in
     let e1 : in_order comes_before (filter p (open_of (forget (is_of addr) j.failures))) ≡ filter q (in_order comes_before (filter p fs)) =
@@ -66,7 +66,7 @@ begun_shows at word serial addr failures j =
     ap₂ (λ (r : List Failure) (b : List Ban). record (jail_now (begun at word serial addr failures j)) { failures = r; bans = b }) e1
     (active_of-push j.bans (new_ban j.definition (kept_of j.endings) at word serial addr failures))
 
-abbrev pub out_now : Out Jail → Out JailNow
+abbrev pub out_now : JailAndSerial Jail → JailAndSerial JailNow
 out_now o = record { jail = jail_now o.jail; next = o.next }
 
 pub judged_shows : (at word serial : ℕ) (f : Failure) (j : Jail)
@@ -95,7 +95,7 @@ full_shows at f j sound new =
     let maxretry = j.definition.maxretry in
     let fs = open_of j.failures in
     let more = open_of-push j.failures f in
-    let p = is_late at findtime in
+    let p = is_recent at findtime in
     let not_full = sound.none_full f.addr in
     let pos = positive findtime maxretry f.addr fs not_full in
     let whole = open_of (counted at f j).failures in
@@ -103,14 +103,14 @@ full_shows at f j sound new =
     same_test _ _
     (λ e.
     let full : IsFull findtime maxretry f.addr whole = full_of_test findtime maxretry f.addr whole e in
-    let late : IsFull findtime maxretry f.addr (filter p whole) =
-    rw more (full_of_late findtime maxretry at f.addr fs f not_full new (rw more at full)) in
-    test_of_full findtime maxretry f.addr _ pos (order.0 late))
+    let recent : IsFull findtime maxretry f.addr (filter p whole) =
+    rw more (full_of_recent findtime maxretry at f.addr fs f not_full new (rw more at full)) in
+    test_of_full findtime maxretry f.addr _ pos (order.0 recent))
     (λ e.
-    let late = order.1 (full_of_test findtime maxretry f.addr _ e) in
-    test_of_full findtime maxretry f.addr whole pos (full_of_part p findtime maxretry f.addr whole late))
+    let recent = order.1 (full_of_test findtime maxretry f.addr _ e) in
+    test_of_full findtime maxretry f.addr whole pos (full_of_part p findtime maxretry f.addr whole recent))
 
-pub new_near : (at findtime : ℕ) (f g : Failure) → at < f.time + findtime → f.time < g.time + findtime → is_late at findtime g ≡ true
+pub new_near : (at findtime : ℕ) (f g : Failure) → at < f.time + findtime → f.time < g.time + findtime → is_recent at findtime g ≡ true
 new_near at findtime f g new near = true_lt _ _ (omega arith)
 
 pub near_shows : (at : ℕ) (f : Failure) (j : Jail) → at < f.time + j.definition.findtime
@@ -119,7 +119,7 @@ pub near_shows : (at : ℕ) (f : Failure) (j : Jail) → at < f.time + j.definit
 near_shows at f j new =
     let findtime = j.definition.findtime in
     let whole = open_of (counted at f j).failures in
-    let near : (g : Failure) → is_near findtime f g ≡ true → is_late at findtime g ≡ true = λ g h.
+    let near : (g : Failure) → is_near findtime f g ≡ true → is_recent at findtime g ≡ true = λ g h.
     (let p = both_true _ _ h in let q = both_true _ _ p.1 in new_near at findtime f g new (lt_true _ _ q.0)) in
     sym (ap length (shown_filter at findtime (is_near findtime f) whole near) ∙ length_in_order comes_before failures_order _)
 
@@ -163,14 +163,14 @@ pub limited_shows : (findtime maxretry : ℕ) (j : Jail) → jail_now (limited f
 limited_shows findtime maxretry j =
     by_test ((findtime == j.definition.findtime) && (maxretry == j.definition.maxretry)) _
     (λ e. rw e refl)
-    (λ e. rw e (ap (λ (fs : List Failure). record (jail_now j) { definition = record (j.definition) { findtime = findtime; maxretry = maxretry }; failures = in_order comes_before (filter (is_late j.moment findtime) fs) })
+    (λ e. rw e (ap (λ (fs : List Failure). record (jail_now j) { definition = record (j.definition) { findtime = findtime; maxretry = maxretry }; failures = in_order comes_before (filter (is_recent j.moment findtime) fs) })
     (forget_all j.failures)))
 
 -- under a definition with the same `findtime`
 pub redefined_shows : (d : JailDef) (ws : List WatchView) (j : Jail) → d.findtime ≡ j.definition.findtime
     → jail_now (record j { definition = d; idle = false; watches = ws }) ≡ record (jail_now j) { definition = d; idle = false; watches = ws }
 redefined_shows d ws j e =
-    ap (λ (t : ℕ). record (jail_now j) { definition = d; idle = false; watches = ws; failures = in_order comes_before (filter (is_late j.moment t) (open_of j.failures)) }) e
+    ap (λ (t : ℕ). record (jail_now j) { definition = d; idle = false; watches = ws; failures = in_order comes_before (filter (is_recent j.moment t) (open_of j.failures)) }) e
 
 limited_findtime : (findtime maxretry : ℕ) (j : Jail) → findtime ≡ (limited findtime maxretry j).definition.findtime
 limited_findtime findtime maxretry j =

@@ -15,23 +15,23 @@ use Rattle.f2b_base.specs.declared.jail.Place.{Place}
 use Rattle.f2b_model.specs.declared.jail_now.JailNow.{JailNow}
 use Rattle.f2b_model.specs.Full.{is_full}
 use Rattle.f2b_model.specs.Lists.{AreDistinct, in_order}
-use Rattle.f2b_model.specs.Moves.{Out, counts, counted, ignored, is_banned, spanned}
+use Rattle.f2b_model.specs.Moves.{JailAndSerial, counts, counted, ignored, is_banned, spanned}
 use Rattle.f2b_model.specs.NowMoves.{counted_now}
 use Rattle.f2b_model.specs.Nows.{jail_now, jail_from}
 use Rattle.f2b_model.specs.Sound.{IsFitWhat}
-use Rattle.f2b_model.specs.State.{Jail, World, open_of, active_of}
-use Rattle.f2b_model.specs.Steps.{Moves, moves, moves_now, names, is_spent, is_due, own_end, ends_before, is_meant, is_meant_jail, end_all, ended_by_time, unbanned, in_jail, at_jail, alone, find_jail, is_followed, followed_to, found_all, read_all, ban_all, kept_or_fresh, configured, done, raised, at_reading, step_by}
+use Rattle.f2b_model.specs.State.{Jail, JailsOf, open_of, active_of}
+use Rattle.f2b_model.specs.Steps.{JailOps, moves, moves_now, names, is_spent, is_due, own_end, ends_before, is_meant, is_meant_jail, end_all, ended_by_time, unbanned, in_jail, at_jail, alone, find_jail, is_followed, followed_to, found_all, read_all, ban_all, kept_or_fresh, configured, done, raised, at_reading, step_by}
 use Rattle.f2b_model.proofs.ListLemmas.{by_test}
 
 -- what is seen of the definition of a jail, and of the definitions of jails
-abbrev pub seen : {J X : Type 0} → Moves J → (JailDef → X) → J → X
+abbrev pub seen : {J X : Type 0} → JailOps J → (JailDef → X) → J → X
 seen m see j = see (m.definition j)
 
-abbrev pub all_seen : {J X : Type 0} → Moves J → (JailDef → X) → List J → List X
+abbrev pub all_seen : {J X : Type 0} → JailOps J → (JailDef → X) → List J → List X
 all_seen m see js = map (seen m see) js
 
 -- no move changes it, but that of a configuration
-pub record Keeps {J X : Type 0} (m : Moves J) (see : JailDef → X) : Type 0 where
+pub record Keeps {J X : Type 0} (m : JailOps J) (see : JailDef → X) : Type 0 where
   pub found : (at word n : ℕ) (f : Failure) (j : J) → seen m see (m.found at word n f j).jail ≡ seen m see j
   pub banned : (at word n : ℕ) (addr : Addr) (j : J) → seen m see (m.banned at word n addr j).jail ≡ seen m see j
   pub ended : (addr : Addr) (moment : ℕ) (j : J) → seen m see (m.ended addr moment j) ≡ seen m see j
@@ -103,7 +103,7 @@ abbrev pub seen_after : {X : Type 0} → (JailDef → X) → What → List X →
 seen_after see (Config defs) xs = map see defs.jails
 seen_after see _ xs = xs
 
-module _ {J X : Type 0} (m : Moves J) {see : JailDef → X} (keeps : Keeps m see) where
+module _ {J X : Type 0} (m : JailOps J) {see : JailDef → X} (keeps : Keeps m see) where
   pub end_all_name : (moment : Ban → ℕ) (bs : List Ban) (j : J) → seen m see (end_all m moment bs j) ≡ seen m see j
   end_all_name moment [] j = refl
   end_all_name moment (b ∷ bs) j = end_all_name moment bs (m.ended b.addr (moment b) j) ∙ keeps.ended b.addr (moment b) j
@@ -115,7 +115,7 @@ module _ {J X : Type 0} (m : Moves J) {see : JailDef → X} (keeps : Keeps m see
   each_names f e [] = refl
   each_names f e (j ∷ js) = ap₂ (λ n ns. n ∷ ns) (e j) (each_names f e js)
 
-  pub in_jail_names : (name : List ℕ) (f : ℕ → J → Out J) → ((n : ℕ) (j : J) → seen m see (f n j).jail ≡ seen m see j) → (n : ℕ) (js : List J)
+  pub in_jail_names : (name : List ℕ) (f : ℕ → J → JailAndSerial J) → ((n : ℕ) (j : J) → seen m see (f n j).jail ≡ seen m see j) → (n : ℕ) (js : List J)
       → all_seen m see (in_jail m name f n js).jails ≡ all_seen m see js
   in_jail_names name f e n [] = refl
   in_jail_names name f e n (j ∷ js) =
@@ -123,22 +123,22 @@ module _ {J X : Type 0} (m : Moves J) {see : JailDef → X} (keeps : Keeps m see
       (λ t. rw t (ap (λ x. x ∷ all_seen m see js) (e n j)))
       (λ t. rw t (ap (λ ns. seen m see j ∷ ns) (in_jail_names name f e n js)))
 
-  pub found_all_names : (word : ℕ) (name : List ℕ) (fs : List Failure) (w : World J) → all_seen m see (found_all m word name fs w).jails ≡ all_seen m see w.jails
+  pub found_all_names : (word : ℕ) (name : List ℕ) (fs : List Failure) (w : JailsOf J) → all_seen m see (found_all m word name fs w).jails ≡ all_seen m see w.jails
   found_all_names word name [] w = refl
   found_all_names word name (f ∷ fs) w =
       found_all_names word name fs (at_jail m name (λ n j. m.found w.at word n f j) w)
       ∙ in_jail_names name (λ n j. m.found w.at word n f j) (λ n j. keeps.found w.at word n f j) w.next_ban w.jails
 
-  pub ban_all_names : (word : ℕ) (name : List ℕ) (addrs : List Addr) (w : World J) → all_seen m see (ban_all m word name addrs w).jails ≡ all_seen m see w.jails
+  pub ban_all_names : (word : ℕ) (name : List ℕ) (addrs : List Addr) (w : JailsOf J) → all_seen m see (ban_all m word name addrs w).jails ≡ all_seen m see w.jails
   ban_all_names word name [] w = refl
   ban_all_names word name (addr ∷ addrs) w =
       ban_all_names word name addrs (at_jail m name (λ n j. m.banned w.at word n addr j) w)
       ∙ in_jail_names name (λ n j. m.banned w.at word n addr j) (λ n j. keeps.banned w.at word n addr j) w.next_ban w.jails
 
-  pub followed_to_names : (name path : List ℕ) (place : Place) (w : World J) → all_seen m see (followed_to m name path place w).jails ≡ all_seen m see w.jails
+  pub followed_to_names : (name path : List ℕ) (place : Place) (w : JailsOf J) → all_seen m see (followed_to m name path place w).jails ≡ all_seen m see w.jails
   followed_to_names name path place w = in_jail_names name (alone m (m.followed path place)) (λ n j. keeps.followed path place j) w.next_ban w.jails
 
-  read_all_names : (word : ℕ) (name path : List ℕ) (place : Place) (fs : List Failure) (w : World J) → all_seen m see (read_all m word name path place fs w).jails ≡ all_seen m see w.jails
+  read_all_names : (word : ℕ) (name path : List ℕ) (place : Place) (fs : List Failure) (w : JailsOf J) → all_seen m see (read_all m word name path place fs w).jails ≡ all_seen m see w.jails
   read_all_names word name path place fs w =
       by_test (is_followed m name path w) _
       (λ t. rw t (found_all_names word name fs (followed_to m name path place w) ∙ followed_to_names name path place w))
@@ -152,7 +152,7 @@ module _ {J X : Type 0} (m : Moves J) {see : JailDef → X} (keeps : Keeps m see
       one None = keeps.fresh d
       one (Some j) = keeps.kept d j
 
-  alone_names : (jail : List ℕ) (f : J → J) → ((j : J) → seen m see (f j) ≡ seen m see j) → (w : World J) → all_seen m see (at_jail m jail (alone m f) w).jails ≡ all_seen m see w.jails
+  alone_names : (jail : List ℕ) (f : J → J) → ((j : J) → seen m see (f j) ≡ seen m see j) → (w : JailsOf J) → all_seen m see (at_jail m jail (alone m f) w).jails ≡ all_seen m see w.jails
   alone_names jail f e w = in_jail_names jail (alone m f) (λ n j. e j) w.next_ban w.jails
 
   pub unbanned_name : (at : ℕ) (jail : Option (List ℕ)) (addrs : Option (List Addr)) (j : J)
@@ -160,7 +160,7 @@ module _ {J X : Type 0} (m : Moves J) {see : JailDef → X} (keeps : Keeps m see
   unbanned_name at jail addrs j =
       by_test (is_meant_jail jail (m.definition j)) _ (λ t. rw t (end_all_name (λ b. at) (filter (is_meant addrs) (m.active j)) j)) (λ t. rw t refl)
 
-  pub done_names : (word : ℕ) (what : What) (w : World J) → all_seen m see (done m word what w).jails ≡ seen_after see what (all_seen m see w.jails)
+  pub done_names : (word : ℕ) (what : What) (w : JailsOf J) → all_seen m see (done m word what w).jails ≡ seen_after see what (all_seen m see w.jails)
   done_names word Tick w = refl
   done_names word (Read jail path place fs) w = read_all_names word jail path place fs w
   done_names word (BanThese jail addrs) w = ban_all_names word jail addrs w
@@ -177,11 +177,11 @@ module _ {J X : Type 0} (m : Moves J) {see : JailDef → X} (keeps : Keeps m see
   done_names word (CheckFailed job outcome) w = refl
   done_names word Stop w = refl
 
-  pub at_reading_names : (secs : ℕ) (w : World J) → all_seen m see (at_reading m secs w).jails ≡ all_seen m see w.jails
+  pub at_reading_names : (secs : ℕ) (w : JailsOf J) → all_seen m see (at_reading m secs w).jails ≡ all_seen m see w.jails
   at_reading_names secs w = each_names (ended_by_time m (raised m secs w).at) (by_time_name (raised m secs w).at) w.jails
 
   -- what is seen after a step
-  pub step_names : (w : World J) (input : Input) → is_spent w ≡ false → all_seen m see (step_by m w input).jails ≡ seen_after see input.what (all_seen m see w.jails)
+  pub step_names : (w : JailsOf J) (input : Input) → is_spent w ≡ false → all_seen m see (step_by m w input).jails ≡ seen_after see input.what (all_seen m see w.jails)
   step_names w input open_yet =
       let after = done m input.word input.what (at_reading m input.secs w) in
       rw open_yet (each_names (m.dropped after.at after.purge) (keeps.dropped after.at after.purge) after.jails

@@ -13,7 +13,7 @@ use Rattle.f2b_base.specs.declared.input.What.TheVariants.{Tick, Read, Ended, Co
 use Rattle.f2b_model.specs.Lists.{AllOf, in_order}
 use Rattle.f2b_model.specs.Full.{is_full}
 use Rattle.f2b_model.specs.Nows.{JailsNow}
-use Rattle.f2b_model.specs.Moves.{Out, counts, is_banned, is_near, ban_of, new_ban}
+use Rattle.f2b_model.specs.Moves.{JailAndSerial, counts, is_banned, is_near, ban_of, new_ban}
 use Rattle.f2b_model.specs.NowMoves.{found_now, counted_now, begun_now, banned_now, ended_now, limited_now}
 use Rattle.f2b_model.specs.Steps.{moves_now, is_spent, is_due, own_end, ends_before, is_meant, is_meant_jail, end_all, ended_by_time, unbanned, in_jail, find_jail, kept_or_fresh, configured, at_jail, alone, is_followed, followed_to, found_all, ban_all, done, each_jail, raised, jails_step_now}
 use Rattle.f2b_model.specs.Sound.{IsNumbered, IsRisingSerials}
@@ -45,7 +45,7 @@ numbered_push n b bs e i = record {
 abbrev Good : ℕ → JailNow → Type 0
 Good n j = IsNumbered n j.bans
 
-abbrev GoodOut : ℕ → Out JailNow → Type 0
+abbrev GoodOut : ℕ → JailAndSerial JailNow → Type 0
 GoodOut n o = (n ≤ o.next) × Good o.next o.jail
 
 begun_numbered : (at word n : ℕ) (addr : Addr) (k : ℕ) (j : JailNow) → Good n j → Good (suc n) (begun_now at word n addr k j)
@@ -76,7 +76,7 @@ limited_numbered : (n findtime maxretry : ℕ) (j : JailNow) → Good n j → Go
 limited_numbered n findtime maxretry j good =
     by_test ((findtime == j.definition.findtime) && (maxretry == j.definition.maxretry)) _ (λ e. rw e good) (λ e. rw e good)
 
-in_jail_numbered : (name : List ℕ) (f : ℕ → JailNow → Out JailNow) (n : ℕ) (js : List JailNow) → ((j : JailNow) → Good n j → GoodOut n (f n j)) → AllOf (Good n) js
+in_jail_numbered : (name : List ℕ) (f : ℕ → JailNow → JailAndSerial JailNow) (n : ℕ) (js : List JailNow) → ((j : JailNow) → Good n j → GoodOut n (f n j)) → AllOf (Good n) js
     → (n ≤ (in_jail moves_now name f n js).next) × AllOf (Good (in_jail moves_now name f n js).next) (in_jail moves_now name f n js).jails
 in_jail_numbered name f n [] e a = (omega arith, tt)
 in_jail_numbered name f n (j ∷ js) e a =
@@ -86,7 +86,7 @@ in_jail_numbered name f n (j ∷ js) e a =
     (λ t. let r = in_jail_numbered name f n js e a.1 in
     rw t (r.0, (numbered_more n (in_jail moves_now name f n js).next j.bans r.0 a.0, r.1)))
 
-at_jail_numbered : (name : List ℕ) (f : ℕ → JailNow → Out JailNow) (w : JailsNow) → ((j : JailNow) → Good w.next_ban j → GoodOut w.next_ban (f w.next_ban j)) → AreNumbered w
+at_jail_numbered : (name : List ℕ) (f : ℕ → JailNow → JailAndSerial JailNow) (w : JailsNow) → ((j : JailNow) → Good w.next_ban j → GoodOut w.next_ban (f w.next_ban j)) → AreNumbered w
     → AreNumbered (at_jail moves_now name f w)
 at_jail_numbered name f w e a = (in_jail_numbered name f w.next_ban w.jails e a).1
 

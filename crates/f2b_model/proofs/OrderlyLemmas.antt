@@ -13,7 +13,7 @@ use Rattle.f2b_model.specs.Lists.{AllOf}
 use Rattle.f2b_base.specs.Addresses.{same_addr}
 use Rattle.f2b_model.specs.Full.{is_of}
 use Rattle.f2b_model.specs.Moves.{ban_of, is_banned}
-use Rattle.f2b_model.specs.Sound.{IsNotBefore, IsOnceEach, IsRisingEnds, IsOver, IsOrderly}
+use Rattle.f2b_model.specs.Sound.{IsNotBefore, IsOnceEach, IsRisingEnds, IsPastBan, IsOrderly}
 use Rattle.f2b_model.proofs.ListLemmas.{by_test}
 use Rattle.f2b_model.proofs.StepLemmas.{all_of-more}
 
@@ -82,7 +82,7 @@ orderly_later at later moment fs bs ps le o = record {
   not_banned = o.not_banned;
   once = o.once;
   rising = o.rising;
-  over = all_of-more (IsOver at bs) (IsOver later bs) (λ p h. (let a = h.0 in omega arith, h.1)) ps o.over;
+  over = all_of-more (IsPastBan at bs) (IsPastBan later bs) (λ p h. (let a = h.0 in omega arith, h.1)) ps o.over;
 }
 
 pub orderly_counted : (at moment : ℕ) (f : Failure) (fs : List Failure) (bs : List Ban) (ps : List Past) → moment ≤ at → f.time ≤ at → is_banned f.addr bs ≡ false
@@ -103,7 +103,7 @@ orderly_begun at moment b fs bs ps not_banned later o = record {
       (λ f h e. banned_push f.addr bs b h (not_of f e));
   once = once_push bs b o.once not_banned;
   rising = o.rising;
-  over = all_of-more (IsOver at bs) (IsOver at (bs ++ b ∷ [])) (λ p h. (h.0, all_of-push _ bs b h.1 (up p.end b.until h.0 later))) ps o.over;
+  over = all_of-more (IsPastBan at bs) (IsPastBan at (bs ++ b ∷ [])) (λ p h. (h.0, all_of-push _ bs b h.1 (up p.end b.until h.0 later))) ps o.over;
 }
   where
     not_of : (f : Failure) → not (is_of b.addr f) ≡ true → same_addr b.addr f.addr ≡ false
@@ -121,7 +121,7 @@ orderly_ended at moment end addr fs bs ps le rise later o = record {
   not_banned = all_of-more (λ (f : Failure). is_banned f.addr bs ≡ false) _ (λ f h. banned_filter f.addr _ bs h) fs o.not_banned;
   once = once_filter _ bs o.once;
   rising = rising_push ps _ o.rising rise;
-  over = all_of-push _ ps _ (all_of-more (IsOver at bs) (IsOver at (filter (λ b. not (ban_of addr b)) bs)) (λ p h. (h.0, all_of-filter _ _ bs h.1)) ps o.over) (le, later);
+  over = all_of-push _ ps _ (all_of-more (IsPastBan at bs) (IsPastBan at (filter (λ b. not (ban_of addr b)) bs)) (λ p h. (h.0, all_of-filter _ _ bs h.1)) ps o.over) (le, later);
 }
 
 pub orderly_dropped : (at moment : ℕ) (p : Past → Bool) (fs : List Failure) (bs : List Ban) (ps : List Past) → IsOrderly at moment fs bs ps → IsOrderly at moment fs bs (filter p ps)

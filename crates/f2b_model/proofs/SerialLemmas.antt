@@ -10,7 +10,7 @@ use Rattle.f2b_base.specs.declared.input.What.TheVariants.{Tick, Read, Ended, Co
 use Rattle.f2b_base.specs.declared.jail.Place.{Place}
 use Rattle.f2b_model.specs.declared.jail_now.JailNow.{JailNow}
 use Rattle.f2b_model.specs.Full.{is_full}
-use Rattle.f2b_model.specs.Moves.{Out, counts, is_banned}
+use Rattle.f2b_model.specs.Moves.{JailAndSerial, counts, is_banned}
 use Rattle.f2b_model.specs.NowMoves.{counted_now, found_now, banned_now, limited_now}
 use Rattle.f2b_model.specs.Nows.{JailsNow}
 use Rattle.f2b_model.specs.Steps.{moves_now, is_spent, in_jail, at_jail, alone, is_followed, followed_to, found_all, ban_all, done, at_reading, jails_step_now}
@@ -29,7 +29,7 @@ banned_next : (at word n : ℕ) (addr : Addr) (j : JailNow) → (banned_now at w
 banned_next at word n addr j = by_test (is_banned addr j.bans) _ (λ e. rw e (omega arith)) (λ e. rw e (omega arith))
 
 -- a move in one jail takes no more serials than the move
-pub in_jail_next : (name : List ℕ) (f : ℕ → JailNow → Out JailNow) (n top : ℕ) (js : List JailNow) → n ≤ top → ((j : JailNow) → (f n j).next ≤ top) → (in_jail moves_now name f n js).next ≤ top
+pub in_jail_next : (name : List ℕ) (f : ℕ → JailNow → JailAndSerial JailNow) (n top : ℕ) (js : List JailNow) → n ≤ top → ((j : JailNow) → (f n j).next ≤ top) → (in_jail moves_now name f n js).next ≤ top
 in_jail_next name f n top [] le e = le
 in_jail_next name f n top (j ∷ js) le e = by_test (bytes_eq j.definition.name name) _ (λ t. rw t (e j)) (λ t. rw t (in_jail_next name f n top js le e))
 

@@ -3,7 +3,7 @@ use Rattle.std.proofs.Common.{◌≡◌, ℕ, ◌+◌, ◌≤◌, ◌<◌, Bool,
 use Rattle.std.specs.List.{filter}
 use Rattle.f2b_base.specs.declared.addr.Addr.{Addr}
 use Rattle.f2b_base.specs.declared.ban.Failure.{Failure}
-use Rattle.f2b_model.specs.Full.{is_of, is_late}
+use Rattle.f2b_model.specs.Full.{is_of, is_recent}
 use Rattle.f2b_model.specs.Lists.{AllOf, placed, placed_all, in_order}
 use Rattle.f2b_model.specs.Matches.{matches_of}
 use Rattle.f2b_model.specs.Moves.{counts, counted, earlier, is_near, shown}
@@ -59,7 +59,7 @@ shown_shows at f j h e =
     let new : at < f.time + j.definition.findtime = lt_true _ _ q.1 in
     let findtime = j.definition.findtime in
     let whole = open_of (counted at f j).failures in
-    let near : (g : Failure) → is_near findtime f g ≡ true → is_late at findtime g ≡ true = λ g t.
+    let near : (g : Failure) → is_near findtime f g ≡ true → is_recent at findtime g ≡ true = λ g t.
     (let r = both_true (is_of f.addr g) _ t in let s = both_true _ _ r.1 in new_near at findtime f g new (lt_true _ _ s.0)) in
     ap (matches_of j.definition.maxmatches)
     (sym (near_by_time findtime f whole)

@@ -282,7 +282,7 @@ first_is jobs job (Some k) d own is h =
 
 -- the lanes once the bans that are due have ended
 abbrev lanes_then : ℕ → Now → Lanes (List Job)
-lanes_then now n = lanes_issued books_now (max n.world.at now) (told_each (told_ends moves_now (max n.world.at now)) n.world.jails) n.lanes
+lanes_then now n = lanes_issued books_now (max n.jails.at now) (told_each (told_ends moves_now (max n.jails.at now)) n.jails.jails) n.lanes
 
 module _ (n : Now) (now word : ℕ) (what : What) (live : is_whole_spent moves_now books_now n ≡ false)
     (quiet : (w : JailsNow) → done moves_now word what w ≡ w) (silent : (w : JailsNow) → told_done moves_now word what w ≡ []) where
@@ -290,67 +290,67 @@ module _ (n : Now) (now word : ℕ) (what : What) (live : is_whole_spent moves_n
   input = record { secs = now; word = word; what = what }
 
   abbrev read : JailsNow
-  read = at_reading moves_now now n.world
+  read = at_reading moves_now now n.jails
 
-  unspent : is_spent n.world ≡ false
-  unspent = (or_none (is_spent n.world) (nat_lt (2 ^ 62) n.lanes.next_job) live).0
+  unspent : is_spent n.jails ≡ false
+  unspent = (or_none (is_spent n.jails) (nat_lt (2 ^ 62) n.lanes.next_job) live).0
 
-  tells : jails_told moves_now n.world input ≡ told_each (told_ends moves_now (max n.world.at now)) n.world.jails
+  tells : jails_told moves_now n.jails input ≡ told_each (told_ends moves_now (max n.jails.at now)) n.jails.jails
   tells =
-      let ends = told_each (told_ends moves_now (max n.world.at now)) n.world.jails in
+      let ends = told_each (told_ends moves_now (max n.jails.at now)) n.jails.jails in
       rw unspent (ap (λ (rest : List Happening). ends ++ rest) (silent read) ∙ append-nil ends)
 
-  after_is : step_by moves_now n.world input ≡ each_jail moves_now (moves_now.dropped read.at read.purge) read
+  after_is : step_by moves_now n.jails input ≡ each_jail moves_now (moves_now.dropped read.at read.purge) read
   after_is = rw unspent (ap (λ (w : JailsNow). each_jail moves_now (moves_now.dropped w.at w.purge) w) (quiet read))
 
-  after_at : (step_by moves_now n.world input).at ≡ max n.world.at now
+  after_at : (step_by moves_now n.jails input).at ≡ max n.jails.at now
   after_at = ap (λ (w : JailsNow). w.at) after_is
 
-  after_none : has_due (max n.world.at now) (step_by moves_now n.world input).jails ≡ false
+  after_none : has_due (max n.jails.at now) (step_by moves_now n.jails input).jails ≡ false
   after_none =
-      let at = max n.world.at now in
-      ap (λ (w : JailsNow). has_due at w.jails) after_is ∙ dropped_due at at n.world.purge (map (ended_by_time moves_now at) n.world.jails) ∙ all_none at n.world.jails
+      let at = max n.jails.at now in
+      ap (λ (w : JailsNow). has_due at w.jails) after_is ∙ dropped_due at at n.jails.purge (map (ended_by_time moves_now at) n.jails.jails) ∙ all_none at n.jails.jails
 
   abbrev mid : List Held
   mid = held moves_now read
 
   abbrev after : List Held
-  after = held moves_now (step_by moves_now n.world input)
+  after = held moves_now (step_by moves_now n.jails input)
 
-  lanes_are : (step_now n input).lanes ≡ lanes_done books_now (max n.world.at now) what mid after (lanes_then now n)
+  lanes_are : (step_now n input).lanes ≡ lanes_done books_now (max n.jails.at now) what mid after (lanes_then now n)
   lanes_are =
       rw live (ap₂ (λ (at : ℕ) (told : List Happening). lanes_done books_now at what mid after (lanes_issued books_now at told n.lanes)) after_at tells)
 
-  world_at : (step_now n input).world.at ≡ max n.world.at now
+  world_at : (step_now n input).jails.at ≡ max n.jails.at now
   world_at = rw live after_at
 
-  world_none : has_due (max n.world.at now) (step_now n input).world.jails ≡ false
+  world_none : has_due (max n.jails.at now) (step_now n input).jails.jails ≡ false
   world_none = rw live after_none
 
-  later_max : max (step_now n input).world.at now ≡ max n.world.at now
+  later_max : max (step_now n input).jails.at now ≡ max n.jails.at now
   later_max = omega (arith, world_at)
 
   -- then nothing more ends by time
   jobs_later : jobs_then now (step_now n input) ≡ (step_now n input).lanes.jobs
   jobs_later =
       let m = step_now n input in
-      let none : told_each (told_ends moves_now (max m.world.at now)) m.world.jails ≡ [] =
-      ap (λ at. told_each (told_ends moves_now at) m.world.jails) later_max ∙ told_none (max n.world.at now) m.world.jails world_none in
-      ap (λ (told : List Happening). m.lanes.jobs ++ numbered m.lanes.next_job (max m.world.at now) (told_orders m.lanes.up told)) none ∙ append-nil m.lanes.jobs
+      let none : told_each (told_ends moves_now (max m.jails.at now)) m.jails.jails ≡ [] =
+      ap (λ at. told_each (told_ends moves_now at) m.jails.jails) later_max ∙ told_none (max n.jails.at now) m.jails.jails world_none in
+      ap (λ (told : List Happening). m.lanes.jobs ++ numbered m.lanes.next_job (max m.jails.at now) (told_orders m.lanes.up told)) none ∙ append-nil m.lanes.jobs
 
-  jobs_after : jobs_then now (step_now n input) ≡ (lanes_done books_now (max n.world.at now) what mid after (lanes_then now n)).jobs
+  jobs_after : jobs_then now (step_now n input) ≡ (lanes_done books_now (max n.jails.at now) what mid after (lanes_then now n)).jobs
   jobs_after = jobs_later ∙ ap (λ (l : Lanes (List Job)). l.jobs) lanes_are
 
 -- their jobs
 abbrev new_then : ℕ → Now → List Job
-new_then now n = numbered n.lanes.next_job (max n.world.at now) (told_orders n.lanes.up (told_each (told_ends moves_now (max n.world.at now)) n.world.jails))
+new_then now n = numbered n.lanes.next_job (max n.jails.at now) (told_orders n.lanes.up (told_each (told_ends moves_now (max n.jails.at now)) n.jails.jails))
 
 tried_fewer : (n : Now) (now word : ℕ) (running : List ℕ) (job : Job) → is_whole_spent moves_now books_now n ≡ false → AreById 0 n.lanes.jobs n.lanes.next_job
     → next_due now running n.lanes.jobs ≡ Some job
     → (checks_left (jobs_then now (step_now n (unstarted now word job.id))) ≤ checks_left (jobs_then now n))
     × (tries_left (jobs_then now (step_now n (unstarted now word job.id))) < tries_left (jobs_then now n))
 tried_fewer n now word running job live ids is =
-    let at = max n.world.at now in
+    let at = max n.jails.at now in
     let id = job.id in
     let what : What = Ended id NotStarted in
     let whole = jobs_then now n in
@@ -367,9 +367,9 @@ checked_fewer : (n : Now) (now word id : ℕ) (lane : UpLane) → is_whole_spent
     → check_of n.lanes.up id n.lanes.jobs ≡ Some lane
     → checks_left (jobs_then now (step_now n (unchecked now word id))) < checks_left (jobs_then now n)
 checked_fewer n now word id lane live ids is =
-    let at = max n.world.at now in
+    let at = max n.jails.at now in
     let what : What = CheckFailed id NotStarted in
-    let told = told_each (told_ends moves_now at) n.world.jails in
+    let told = told_each (told_ends moves_now at) n.jails.jails in
     let new = numbered n.lanes.next_job at (told_orders n.lanes.up told) in
     let whole = jobs_then now n in
     let checked = checked_of n.lanes.up id n.lanes.jobs lane is in
@@ -381,7 +381,7 @@ checked_fewer n now word id lane live ids is =
     let there : job_by_id id whole ≡ Some job = find_front (λ (j : Job). j.id == id) n.lanes.jobs new job checked.own in
     let leads_it : is_head whole job ≡ true = ap (has_id job.id) first ∙ eq-eqb job.id job.id refl in
     let of : checked_lane id whole ≡ Some job.lane = ap (checked_lane_in whole) there ∙ (rw (leads_it, checked.kind) refl) in
-    let hs = held moves_now (step_by moves_now n.world (unchecked now word id)) in
+    let hs = held moves_now (step_by moves_now n.jails (unchecked now word id)) in
     let same : jobs_then now (step_now n (unchecked now word id)) ≡ (failed_in books_now at hs (Some job.lane) (lanes_then now n)).jobs =
     jobs_after n now word what live (λ w. refl) (λ w. refl) ∙ ap (λ (o : Option LaneId). (failed_in books_now at hs o (lanes_then now n)).jobs) of in
     let fewer = failed_checks at hs job.lane (lanes_then now n) job (by_id_behind 0 n.lanes.jobs n.lanes.next_job at (told_orders n.lanes.up told) ids) first checked.kind in
@@ -404,8 +404,8 @@ pub ids_rise : (n : Now) (input : Input) → AreById 0 n.lanes.jobs n.lanes.next
 ids_rise n input h =
     by_test (is_whole_spent moves_now books_now n) _
     (λ t. rw t h)
-    (λ t. rw t (step_carries KeepsById by_id_carries (step_by moves_now n.world input).at input.what (held moves_now (at_reading moves_now input.secs n.world)) (held moves_now (step_by moves_now n.world input))
-    (jails_told moves_now n.world input) n.lanes h))
+    (λ t. rw t (step_carries KeepsById by_id_carries (step_by moves_now n.jails input).at input.what (held moves_now (at_reading moves_now input.secs n.jails)) (held moves_now (step_by moves_now n.jails input))
+    (jails_told moves_now n.jails input) n.lanes h))
 
 pub starts_end : IsStartsLaw
 starts_end = record { tried = tried_fewer; checked = checked_fewer; rising = ids_rise }

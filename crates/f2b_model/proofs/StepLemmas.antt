@@ -12,23 +12,23 @@ use Rattle.f2b_base.specs.declared.jail.Place.{Place}
 use Rattle.f2b_base.specs.declared.input.What.{What}
 use Rattle.f2b_base.specs.declared.input.What.TheVariants.{Tick, Read, Ended, Config, Stop, Ban as BanThese, Unban, Attempt, Ignore, Findtime, Bantime, Maxretry, Idle, CheckFailed}
 use Rattle.f2b_model.specs.Lists.{AllOf, in_order}
-use Rattle.f2b_model.specs.State.{World, world_map}
-use Rattle.f2b_model.specs.Moves.{Out, counts}
-use Rattle.f2b_model.specs.Steps.{Moves, Outs, with_outs, is_spent, is_due, own_end, ends_before, is_meant, is_meant_jail, end_all, ended_by_time, unbanned, in_jail, find_jail, kept_or_fresh, configured, at_jail, alone, watches_path, is_followed, followed_to, found_all, read_all, ban_all, done, each_jail, raised, step_by}
+use Rattle.f2b_model.specs.State.{JailsOf, map_jails}
+use Rattle.f2b_model.specs.Moves.{JailAndSerial, counts}
+use Rattle.f2b_model.specs.Steps.{JailOps, JailsAndSerial, with_serial, is_spent, is_due, own_end, ends_before, is_meant, is_meant_jail, end_all, ended_by_time, unbanned, in_jail, find_jail, kept_or_fresh, configured, at_jail, alone, watches_path, is_followed, followed_to, found_all, read_all, ban_all, done, each_jail, raised, step_by}
 use Rattle.f2b_base.specs.Limits.{last_moment}
 use Rattle.f2b_model.specs.Watches.{is_watched}
 use Rattle.f2b_model.specs.Sound.{IsFitWhat, IsFit}
 use Rattle.f2b_model.proofs.ListLemmas.{by_test}
 
-abbrev pub out_map : {J K : Type 0} → (J → K) → Out J → Out K
+abbrev pub out_map : {J K : Type 0} → (J → K) → JailAndSerial J → JailAndSerial K
 out_map h o = record { jail = h o.jail; next = o.next }
 
-abbrev pub outs_map : {J K : Type 0} → (J → K) → Outs J → Outs K
+abbrev pub outs_map : {J K : Type 0} → (J → K) → JailsAndSerial J → JailsAndSerial K
 outs_map h o = record { jails = map h o.jails; next = o.next }
 
 -- h shows the moves m as the moves k, on jails that are good at a moment; and the moves keep them so. Calm is what
 -- holds right after the bans have ended by time
-pub record Shows {J K : Type 0} (m : Moves J) (k : Moves K) (h : J → K) (Good Calm : ℕ → J → Type 0) : Type 0 where
+pub record Shows {J K : Type 0} (m : JailOps J) (k : JailOps K) (h : J → K) (Good Calm : ℕ → J → Type 0) : Type 0 where
   pub definition : (j : J) → k.definition (h j) ≡ m.definition j
   pub active : (j : J) → k.active (h j) ≡ m.active j
   pub watches : (j : J) → k.watches (h j) ≡ m.watches j
@@ -75,14 +75,14 @@ map_both P h f g e (x ∷ xs) a = ap₂ (λ y ys. y ∷ ys) (e x a.0) (map_both 
 at_most : (a b : ℕ) → a ≤ last_moment → b ≤ last_moment → max a b ≤ last_moment
 at_most a b h g = omega arith
 
-module _ {J K : Type 0} (m : Moves J) (k : Moves K) (h : J → K) (Good Calm : ℕ → J → Type 0) (shows : Shows m k h Good Calm) where
-  abbrev pub GoodWorld : World J → Type 0
+module _ {J K : Type 0} (m : JailOps J) (k : JailOps K) (h : J → K) (Good Calm : ℕ → J → Type 0) (shows : Shows m k h Good Calm) where
+  abbrev pub GoodWorld : JailsOf J → Type 0
   GoodWorld w = (w.at ≤ last_moment) × AllOf (Good w.at) w.jails
 
-  abbrev pub CalmWorld : World J → Type 0
+  abbrev pub CalmWorld : JailsOf J → Type 0
   CalmWorld w = (w.at ≤ last_moment) × AllOf (Calm w.at) w.jails
 
-  pub calm_world : (w : World J) → CalmWorld w → GoodWorld w
+  pub calm_world : (w : JailsOf J) → CalmWorld w → GoodWorld w
   calm_world w a = (a.0, all_of-more (Calm w.at) (Good w.at) (shows.calm_good w.at) w.jails a.1)
 
   end_all_shows : (moment : Ban → ℕ) (bs : List Ban) (j : J) → h (end_all m moment bs j) ≡ end_all k moment bs (h j)
@@ -96,7 +96,7 @@ module _ {J K : Type 0} (m : Moves J) (k : Moves K) (h : J → K) (Good Calm : �
   unbanned_shows : (at : ℕ) (addrs : Option (List Addr)) (j : J) → h (unbanned m at addrs j) ≡ unbanned k at addrs (h j)
   unbanned_shows at addrs j = rw (shows.active j) (end_all_shows (λ b. at) (filter (is_meant addrs) (m.active j)) j)
 
-  in_jail_shows : (at : ℕ) (name : List ℕ) (f : ℕ → J → Out J) (g : ℕ → K → Out K)
+  in_jail_shows : (at : ℕ) (name : List ℕ) (f : ℕ → J → JailAndSerial J) (g : ℕ → K → JailAndSerial K)
       → ((n : ℕ) (j : J) → Good at j → out_map h (f n j) ≡ g n (h j))
       → (n : ℕ) (js : List J) → AllOf (Good at) js → outs_map h (in_jail m name f n js) ≡ in_jail k name g n (map h js)
   in_jail_shows at name f g e n [] a = refl
@@ -104,10 +104,10 @@ module _ {J K : Type 0} (m : Moves J) (k : Moves K) (h : J → K) (Good Calm : �
       let d = shows.definition j in
       let same = e n j a.0 in
       by_test (bytes_eq (m.definition j).name name) _
-      (λ t. rw (d, t) (ap (λ (o : Out K). record { jails = o.jail ∷ map h js; next = o.next }) same))
-      (λ t. rw (d, t) (ap (λ (o : Outs K). record { jails = h j ∷ o.jails; next = o.next }) (in_jail_shows at name f g e n js a.1)))
+      (λ t. rw (d, t) (ap (λ (o : JailAndSerial K). record { jails = o.jail ∷ map h js; next = o.next }) same))
+      (λ t. rw (d, t) (ap (λ (o : JailsAndSerial K). record { jails = h j ∷ o.jails; next = o.next }) (in_jail_shows at name f g e n js a.1)))
 
-  in_jail_good : (at : ℕ) (name : List ℕ) (f : ℕ → J → Out J) → ((n : ℕ) (j : J) → Good at j → Good at (f n j).jail)
+  in_jail_good : (at : ℕ) (name : List ℕ) (f : ℕ → J → JailAndSerial J) → ((n : ℕ) (j : J) → Good at j → Good at (f n j).jail)
       → (n : ℕ) (js : List J) → AllOf (Good at) js → AllOf (Good at) (in_jail m name f n js).jails
   in_jail_good at name f e n [] a = tt
   in_jail_good at name f e n (j ∷ js) a =
@@ -115,13 +115,13 @@ module _ {J K : Type 0} (m : Moves J) (k : Moves K) (h : J → K) (Good Calm : �
       (λ t. rw t (e n j a.0, a.1))
       (λ t. rw t (a.0, in_jail_good at name f e n js a.1))
 
-  pub at_jail_shows : (name : List ℕ) (f : ℕ → J → Out J) (g : ℕ → K → Out K) (w : World J)
+  pub at_jail_shows : (name : List ℕ) (f : ℕ → J → JailAndSerial J) (g : ℕ → K → JailAndSerial K) (w : JailsOf J)
       → ((n : ℕ) (j : J) → Good w.at j → out_map h (f n j) ≡ g n (h j)) → GoodWorld w
-      → world_map h (at_jail m name f w) ≡ at_jail k name g (world_map h w)
-  at_jail_shows name f g w e a = ap (λ (o : Outs K). with_outs (world_map h w) o) (in_jail_shows w.at name f g e w.next_ban w.jails a.1)
+      → map_jails h (at_jail m name f w) ≡ at_jail k name g (map_jails h w)
+  at_jail_shows name f g w e a = ap (λ (o : JailsAndSerial K). with_serial (map_jails h w) o) (in_jail_shows w.at name f g e w.next_ban w.jails a.1)
 
-  found_all_shows : (word : ℕ) (name : List ℕ) (fs : List Failure) (w : World J) → GoodWorld w
-      → world_map h (found_all m word name fs w) ≡ found_all k word name fs (world_map h w)
+  found_all_shows : (word : ℕ) (name : List ℕ) (fs : List Failure) (w : JailsOf J) → GoodWorld w
+      → map_jails h (found_all m word name fs w) ≡ found_all k word name fs (map_jails h w)
   found_all_shows word name [] w a = refl
   found_all_shows word name (f ∷ fs) w a =
       found_all_shows word name fs (at_jail m name (λ n j. m.found w.at word n f j) w)
@@ -129,7 +129,7 @@ module _ {J K : Type 0} (m : Moves J) (k : Moves K) (h : J → K) (Good Calm : �
       ∙ ap (λ r. found_all k word name fs r)
       (at_jail_shows name (λ n j. m.found w.at word n f j) (λ n j. k.found w.at word n f j) w (λ n j. shows.found w.at word n f j) a)
 
-  found_all_good : (word : ℕ) (name : List ℕ) (fs : List Failure) (w : World J) → GoodWorld w → GoodWorld (found_all m word name fs w)
+  found_all_good : (word : ℕ) (name : List ℕ) (fs : List Failure) (w : JailsOf J) → GoodWorld w → GoodWorld (found_all m word name fs w)
   found_all_good word name [] w a = a
   found_all_good word name (f ∷ fs) w a =
       found_all_good word name fs (at_jail m name (λ n j. m.found w.at word n f j) w)
@@ -149,21 +149,21 @@ module _ {J K : Type 0} (m : Moves J) (k : Moves K) (h : J → K) (Good Calm : �
   watches_path_shows path None = refl
   watches_path_shows path (Some j) = ap (is_watched path) (shows.watches j)
 
-  pub is_followed_shows : (name path : List ℕ) (w : World J) → is_followed k name path (world_map h w) ≡ is_followed m name path w
+  pub is_followed_shows : (name path : List ℕ) (w : JailsOf J) → is_followed k name path (map_jails h w) ≡ is_followed m name path w
   is_followed_shows name path w = ap (watches_path k path) (find_shows name w.jails) ∙ watches_path_shows path (find_jail m name w.jails)
 
-  pub followed_to_shows : (name path : List ℕ) (place : Place) (w : World J) → GoodWorld w
-      → world_map h (followed_to m name path place w) ≡ followed_to k name path place (world_map h w)
+  pub followed_to_shows : (name path : List ℕ) (place : Place) (w : JailsOf J) → GoodWorld w
+      → map_jails h (followed_to m name path place w) ≡ followed_to k name path place (map_jails h w)
   followed_to_shows name path place w a =
       at_jail_shows name (alone m (m.followed path place)) (alone k (k.followed path place)) w
       (alone_shows w.at (m.followed path place) (k.followed path place) (λ j good. shows.followed path place j)) a
 
-  pub followed_to_good : (name path : List ℕ) (place : Place) (w : World J) → GoodWorld w → GoodWorld (followed_to m name path place w)
+  pub followed_to_good : (name path : List ℕ) (place : Place) (w : JailsOf J) → GoodWorld w → GoodWorld (followed_to m name path place w)
   followed_to_good name path place w a =
       (a.0, in_jail_good w.at name (alone m (m.followed path place)) (λ n j good. shows.good_followed w.at path place j good) w.next_ban w.jails a.1)
 
-  read_all_shows : (word : ℕ) (name path : List ℕ) (place : Place) (fs : List Failure) (w : World J) → GoodWorld w
-      → world_map h (read_all m word name path place fs w) ≡ read_all k word name path place fs (world_map h w)
+  read_all_shows : (word : ℕ) (name path : List ℕ) (place : Place) (fs : List Failure) (w : JailsOf J) → GoodWorld w
+      → map_jails h (read_all m word name path place fs w) ≡ read_all k word name path place fs (map_jails h w)
   read_all_shows word name path place fs w a =
       let same = is_followed_shows name path w in
       by_test (is_followed m name path w) _
@@ -172,14 +172,14 @@ module _ {J K : Type 0} (m : Moves J) (k : Moves K) (h : J → K) (Good Calm : �
       ∙ ap (λ r. found_all k word name fs r) (followed_to_shows name path place w a)))
       (λ t. let t2 = same ∙ t in rw (t, t2) refl)
 
-  read_all_good : (word : ℕ) (name path : List ℕ) (place : Place) (fs : List Failure) (w : World J) → GoodWorld w → GoodWorld (read_all m word name path place fs w)
+  read_all_good : (word : ℕ) (name path : List ℕ) (place : Place) (fs : List Failure) (w : JailsOf J) → GoodWorld w → GoodWorld (read_all m word name path place fs w)
   read_all_good word name path place fs w a =
       by_test (is_followed m name path w) _
       (λ t. rw t (found_all_good word name fs (followed_to m name path place w) (followed_to_good name path place w a)))
       (λ t. rw t a)
 
-  ban_all_shows : (word : ℕ) (name : List ℕ) (addrs : List Addr) (w : World J) → GoodWorld w
-      → world_map h (ban_all m word name addrs w) ≡ ban_all k word name addrs (world_map h w)
+  ban_all_shows : (word : ℕ) (name : List ℕ) (addrs : List Addr) (w : JailsOf J) → GoodWorld w
+      → map_jails h (ban_all m word name addrs w) ≡ ban_all k word name addrs (map_jails h w)
   ban_all_shows word name [] w a = refl
   ban_all_shows word name (f ∷ fs) w a =
       ban_all_shows word name fs (at_jail m name (λ n j. m.banned w.at word n f j) w)
@@ -187,15 +187,15 @@ module _ {J K : Type 0} (m : Moves J) (k : Moves K) (h : J → K) (Good Calm : �
       ∙ ap (λ r. ban_all k word name fs r)
       (at_jail_shows name (λ n j. m.banned w.at word n f j) (λ n j. k.banned w.at word n f j) w (λ n j good. shows.banned w.at word n f j) a)
 
-  ban_all_good : (word : ℕ) (name : List ℕ) (addrs : List Addr) (w : World J) → GoodWorld w → GoodWorld (ban_all m word name addrs w)
+  ban_all_good : (word : ℕ) (name : List ℕ) (addrs : List Addr) (w : JailsOf J) → GoodWorld w → GoodWorld (ban_all m word name addrs w)
   ban_all_good word name [] w a = a
   ban_all_good word name (f ∷ fs) w a =
       ban_all_good word name fs (at_jail m name (λ n j. m.banned w.at word n f j) w)
       (a.0, in_jail_good w.at name (λ n j. m.banned w.at word n f j) (λ n j. shows.good_banned w.at word n f j a.0) w.next_ban w.jails a.1)
 
-  pub each_shows : (f : J → J) (g : K → K) (w : World J) → ((j : J) → Good w.at j → h (f j) ≡ g (h j)) → GoodWorld w
-      → world_map h (each_jail m f w) ≡ each_jail k g (world_map h w)
-  each_shows f g w e a = ap (λ (js : List K). record (world_map h w) { jails = js }) (map_both (Good w.at) h f g e w.jails a.1)
+  pub each_shows : (f : J → J) (g : K → K) (w : JailsOf J) → ((j : J) → Good w.at j → h (f j) ≡ g (h j)) → GoodWorld w
+      → map_jails h (each_jail m f w) ≡ each_jail k g (map_jails h w)
+  each_shows f g w e a = ap (λ (js : List K). record (map_jails h w) { jails = js }) (map_both (Good w.at) h f g e w.jails a.1)
 
   configured_shows : (ds : List JailDef) (js : List J) → map h (configured m ds js) ≡ configured k ds (map h js)
   configured_shows [] js = refl
@@ -215,7 +215,7 @@ module _ {J K : Type 0} (m : Moves J) (k : Moves K) (h : J → K) (Good Calm : �
       one [] a = shows.good_fresh at d fit.0
       one (j ∷ js) a = by_test (bytes_eq (m.definition j).name d.name) _ (λ t. rw t (shows.good_kept at d j fit.0 a.0)) (λ t. rw t (one js a.1))
 
-  pub done_shows : (word : ℕ) (what : What) (w : World J) → GoodWorld w → world_map h (done m word what w) ≡ done k word what (world_map h w)
+  pub done_shows : (word : ℕ) (what : What) (w : JailsOf J) → GoodWorld w → map_jails h (done m word what w) ≡ done k word what (map_jails h w)
   done_shows word Tick w a = refl
   done_shows word (Read jail path place fs) w a = read_all_shows word jail path place fs w a
   done_shows word (BanThese jail addrs) w a = ban_all_shows word jail addrs w a
@@ -241,7 +241,7 @@ module _ {J K : Type 0} (m : Moves J) (k : Moves K) (h : J → K) (Good Calm : �
   done_shows word (Idle jail idle) w a =
       at_jail_shows jail (alone m (m.idle idle)) (alone k (k.idle idle)) w
       (alone_shows w.at (m.idle idle) (k.idle idle) (λ j good. shows.idle idle j)) a
-  done_shows word (Config defs) w a = ap (λ (js : List K). record (world_map h w) { purge = defs.purge; jails = js }) (configured_shows defs.jails w.jails)
+  done_shows word (Config defs) w a = ap (λ (js : List K). record (map_jails h w) { purge = defs.purge; jails = js }) (configured_shows defs.jails w.jails)
   done_shows word (Ended job outcome) w a = refl
   done_shows word (CheckFailed job outcome) w a = refl
   done_shows word Stop w a = refl
@@ -249,10 +249,10 @@ module _ {J K : Type 0} (m : Moves J) (k : Moves K) (h : J → K) (Good Calm : �
       at_jail_shows jail (alone m (m.ignored cidr add)) (alone k (k.ignored cidr add)) w
       (alone_shows w.at (m.ignored cidr add) (k.ignored cidr add) (λ j good. shows.ignored cidr add j)) a
 
-  pub in_good : (name : List ℕ) (f : ℕ → J → Out J) (w : World J) → GoodWorld w → ((n : ℕ) (j : J) → Good w.at j → Good w.at (f n j).jail) → GoodWorld (at_jail m name f w)
+  pub in_good : (name : List ℕ) (f : ℕ → J → JailAndSerial J) (w : JailsOf J) → GoodWorld w → ((n : ℕ) (j : J) → Good w.at j → Good w.at (f n j).jail) → GoodWorld (at_jail m name f w)
   in_good name f w a e = (a.0, in_jail_good w.at name f e w.next_ban w.jails a.1)
 
-  pub done_good : (word : ℕ) (what : What) (w : World J) → IsFitWhat what → CalmWorld w → GoodWorld (done m word what w)
+  pub done_good : (word : ℕ) (what : What) (w : JailsOf J) → IsFitWhat what → CalmWorld w → GoodWorld (done m word what w)
   done_good word Tick w fit a = calm_world w a
   done_good word (Read jail path place fs) w fit a = read_all_good word jail path place fs w (calm_world w a)
   done_good word (BanThese jail addrs) w fit a = ban_all_good word jail addrs w (calm_world w a)
@@ -279,15 +279,15 @@ module _ {J K : Type 0} (m : Moves J) (k : Moves K) (h : J → K) (Good Calm : �
   done_good word (Ignore jail cidr add) w fit a =
       in_good jail (alone m (m.ignored cidr add)) w (calm_world w a) (λ n j good. shows.good_ignored w.at cidr add j good)
 
-  pub raised_good : (secs : ℕ) (w : World J) → secs ≤ last_moment → GoodWorld w → GoodWorld (raised m secs w)
+  pub raised_good : (secs : ℕ) (w : JailsOf J) → secs ≤ last_moment → GoodWorld w → GoodWorld (raised m secs w)
   raised_good secs w h a =
       (at_most w.at secs a.0 h, all_of-more (Good w.at) (Good (max w.at secs)) (λ j. shows.good_later w.at (max w.at secs) j (omega arith)) w.jails a.1)
 
-  pub ended_good : (w : World J) → GoodWorld w → CalmWorld (each_jail m (ended_by_time m w.at) w)
+  pub ended_good : (w : JailsOf J) → GoodWorld w → CalmWorld (each_jail m (ended_by_time m w.at) w)
   ended_good w a = (a.0, all_of-map (Good w.at) (Calm w.at) (ended_by_time m w.at) (shows.good_by_time w.at) w.jails a.1)
 
   -- a step is seen as the step of the picture
-  pub step_shows : (w : World J) (input : Input) → IsFit input → GoodWorld w → world_map h (step_by m w input) ≡ step_by k (world_map h w) input
+  pub step_shows : (w : JailsOf J) (input : Input) → IsFit input → GoodWorld w → map_jails h (step_by m w input) ≡ step_by k (map_jails h w) input
   step_shows w input fit a =
       by_test (is_spent w) _
       (λ t. rw t refl)
@@ -298,14 +298,14 @@ module _ {J K : Type 0} (m : Moves J) (k : Moves K) (h : J → K) (Good Calm : �
       let ended_is = ended_good now now_good in
       let after = done m input.word input.what ended in
       let after_is = done_good input.word input.what ended fit.what ended_is in
-      let e1 : world_map h (each_jail m (m.dropped after.at after.purge) after) ≡ each_jail k (k.dropped after.at after.purge) (world_map h after) =
+      let e1 : map_jails h (each_jail m (m.dropped after.at after.purge) after) ≡ each_jail k (k.dropped after.at after.purge) (map_jails h after) =
       each_shows (m.dropped after.at after.purge) (k.dropped after.at after.purge) after (λ j good. shows.dropped after.at after.purge j) after_is in
-      let e2 : world_map h after ≡ done k input.word input.what (world_map h ended) = done_shows input.word input.what ended (calm_world ended ended_is) in
-      let e3 : world_map h ended ≡ each_jail k (ended_by_time k now.at) (world_map h now) =
+      let e2 : map_jails h after ≡ done k input.word input.what (map_jails h ended) = done_shows input.word input.what ended (calm_world ended ended_is) in
+      let e3 : map_jails h ended ≡ each_jail k (ended_by_time k now.at) (map_jails h now) =
       each_shows (ended_by_time m now.at) (ended_by_time k now.at) now (λ j good. by_time_shows now.at j) now_good in
-      rw t (e1 ∙ ap (λ (r : World K). each_jail k (k.dropped r.at r.purge) r) (e2 ∙ ap (λ r. done k input.word input.what r) e3)))
+      rw t (e1 ∙ ap (λ (r : JailsOf K). each_jail k (k.dropped r.at r.purge) r) (e2 ∙ ap (λ r. done k input.word input.what r) e3)))
 
-  pub step_good : (w : World J) (input : Input) → IsFit input → GoodWorld w → GoodWorld (step_by m w input)
+  pub step_good : (w : JailsOf J) (input : Input) → IsFit input → GoodWorld w → GoodWorld (step_by m w input)
   step_good w input fit a =
       by_test (is_spent w) _
       (λ t. rw t a)

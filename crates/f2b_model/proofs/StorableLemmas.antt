@@ -26,9 +26,9 @@ use Rattle.f2b_base.specs.declared.jail.Place.{Place}
 use Rattle.f2b_base.specs.declared.jail.WatchDef.{WatchDef}
 use Rattle.f2b_base.specs.declared.view.WatchView.{WatchView}
 use Rattle.f2b_model.specs.declared.jail_now.JailNow.{JailNow}
-use Rattle.f2b_model.specs.Full.{is_full, is_late, is_of}
+use Rattle.f2b_model.specs.Full.{is_full, is_recent, is_of}
 use Rattle.f2b_model.specs.Lists.{AllOf, in_order, placed}
-use Rattle.f2b_model.specs.Moves.{Out, up_64, up_to_32, counts, is_banned, is_near, is_stale, ban_of, new_ban, past_of, same_cidr, spanned, ignored, is_timely}
+use Rattle.f2b_model.specs.Moves.{JailAndSerial, plus_one_capped, up_to_32, counts, is_banned, is_near, is_stale, ban_of, new_ban, past_of, same_cidr, spanned, ignored, is_timely}
 use Rattle.f2b_model.specs.NowMoves.{found_now, counted_now, begun_now, banned_now, ended_now, dropped_now, limited_now, kept_now, fresh_now}
 use Rattle.f2b_model.specs.Nows.{comes_before, JailsNow}
 use Rattle.f2b_model.specs.Steps.{moves_now, is_spent, is_due, own_end, end_of, ends_before, is_meant, is_meant_jail, end_all, ended_by_time, unbanned, in_jail, find_jail, kept_or_fresh, configured, at_jail, alone, is_followed, followed_to, found_all, ban_all, done, each_jail, raised, jails_step_now}
@@ -51,7 +51,7 @@ until_stored at Endless = tt
 small : (n : ℕ) → up_to_32 n < 2 ^ 32
 small n = omega arith
 
-up_stored : (n : ℕ) → up_64 n < 2 ^ 64
+up_stored : (n : ℕ) → plus_one_capped n < 2 ^ 64
 up_stored n = omega arith
 
 ban_stored : (d : JailDef) (ps : List Past) (at word serial : ℕ) (addr : Addr) (failures : ℕ) → at ≤ last_moment → serial < most_numbers → IsAddr addr
@@ -73,8 +73,8 @@ counted_stored at f j h one p = record {
   total_banned = p.total_banned;
   moment = h;
   watches = p.watches;
-  failures = all_of-filter IsStorableFailure (is_late at j.definition.findtime) (placed comes_before f j.failures) (all_placed IsStorableFailure comes_before f j.failures one p.failures);
-  ordered = filter_in_order comes_before failures_order (is_late at j.definition.findtime) (placed comes_before f j.failures) (placed_in_order comes_before failures_order f j.failures p.ordered);
+  failures = all_of-filter IsStorableFailure (is_recent at j.definition.findtime) (placed comes_before f j.failures) (all_placed IsStorableFailure comes_before f j.failures one p.failures);
+  ordered = filter_in_order comes_before failures_order (is_recent at j.definition.findtime) (placed comes_before f j.failures) (placed_in_order comes_before failures_order f j.failures p.ordered);
   bans = p.bans;
   once = p.once;
   past = p.past;
@@ -327,13 +327,13 @@ fresh_stored d s = record {
 abbrev AreStored : JailsNow → Type 0
 AreStored w = AllOf IsStorableJail w.jails
 
-in_jail_stored : (name : List ℕ) (f : ℕ → JailNow → Out JailNow) (n : ℕ) (js : List JailNow) → ((j : JailNow) → IsStorableJail j → IsStorableJail (f n j).jail) → AllOf IsStorableJail js
+in_jail_stored : (name : List ℕ) (f : ℕ → JailNow → JailAndSerial JailNow) (n : ℕ) (js : List JailNow) → ((j : JailNow) → IsStorableJail j → IsStorableJail (f n j).jail) → AllOf IsStorableJail js
     → AllOf IsStorableJail (in_jail moves_now name f n js).jails
 in_jail_stored name f n [] e a = tt
 in_jail_stored name f n (j ∷ js) e a =
     by_test (bytes_eq j.definition.name name) _ (λ t. rw t (e j a.0, a.1)) (λ t. rw t (a.0, in_jail_stored name f n js e a.1))
 
-pub at_jail_stored : (name : List ℕ) (f : ℕ → JailNow → Out JailNow) (w : JailsNow) → ((j : JailNow) → IsStorableJail j → IsStorableJail (f w.next_ban j).jail) → AreStored w → AreStored (at_jail moves_now name f w)
+pub at_jail_stored : (name : List ℕ) (f : ℕ → JailNow → JailAndSerial JailNow) (w : JailsNow) → ((j : JailNow) → IsStorableJail j → IsStorableJail (f w.next_ban j).jail) → AreStored w → AreStored (at_jail moves_now name f w)
 at_jail_stored name f w e a = in_jail_stored name f w.next_ban w.jails e a
 
 found_all_stored : (word : ℕ) (name : List ℕ) (fs : List Failure) (w : JailsNow) → w.at ≤ last_moment → w.next_ban + length fs ≤ most_numbers → AllOf IsStorableFailure fs → AreStored w → AreStored (found_all moves_now word name fs w)

@@ -40,26 +40,26 @@ whole_stored n input b few s =
     by_test (is_whole_spent moves_now books_now n) (IsStorable (step_now n input))
     (λ e. rw e s)
     (λ e.
-    let jails = step_stored n.world input s.at b s.jails in
-    let beside = step_beside n.world input b (s.at, s.purge) in
+    let jails = step_stored n.jails input s.at b s.jails in
+    let beside = step_beside n.jails input b (s.at, s.purge) in
     let ids = ids_rise n input s.by_id in
-    let reading = read_stored n.world (max n.world.at input.secs) s.jails in
-    let work = lanes_step_stored (step_by moves_now n.world input).at input.what (held moves_now (at_reading moves_now input.secs n.world)) (held moves_now (step_by moves_now n.world input))
-    (jails_told moves_now n.world input) n.lanes beside.0 (held_stored (map (ended_by_time moves_now (max n.world.at input.secs)) n.world.jails) reading)
-    (held_stored (step_by moves_now n.world input).jails jails) (told_well n.world input s.at b s.jails) b.what (record { up = s.lanes.up; jobs = without_ids n.lanes.jobs s.lanes.jobs }) in
-    let apart = step_apart books_now (step_by moves_now n.world input).at input.what (held moves_now (at_reading moves_now input.secs n.world)) (held moves_now (step_by moves_now n.world input))
-    (jails_told moves_now n.world input) n.lanes b.what s.lanes.apart in
+    let reading = read_stored n.jails (max n.jails.at input.secs) s.jails in
+    let work = lanes_step_stored (step_by moves_now n.jails input).at input.what (held moves_now (at_reading moves_now input.secs n.jails)) (held moves_now (step_by moves_now n.jails input))
+    (jails_told moves_now n.jails input) n.lanes beside.0 (held_stored (map (ended_by_time moves_now (max n.jails.at input.secs)) n.jails.jails) reading)
+    (held_stored (step_by moves_now n.jails input).jails jails) (told_well n.jails input s.at b s.jails) b.what (record { up = s.lanes.up; jobs = without_ids n.lanes.jobs s.lanes.jobs }) in
+    let apart = step_apart books_now (step_by moves_now n.jails input).at input.what (held moves_now (at_reading moves_now input.secs n.jails)) (held moves_now (step_by moves_now n.jails input))
+    (jails_told moves_now n.jails input) n.lanes b.what s.lanes.apart in
     let few_ids = rw e at few in
     let ids_here = rw e at ids in
     rw e (record {
       at = beside.0;
       purge = beside.1;
       jails = jails;
-      names = names_stored n.world input b s.names;
-      most = few_jails n.world input b s.most;
-      patterns = patterns_stored n.world input b s.patterns;
-      numbered = step_numbered n.world input s.numbered;
-      next_ban = next_stored n.world input b s.next_ban;
+      names = names_stored n.jails input b s.names;
+      most = few_jails n.jails input b s.most;
+      patterns = patterns_stored n.jails input b s.patterns;
+      numbered = step_numbered n.jails input s.numbered;
+      next_ban = next_stored n.jails input b s.next_ban;
       lanes = record { up = work.up; apart = apart; jobs = with_ids 0 _ _ few_ids ids_here work.jobs };
       by_id = ids_here;
       next_job = few_ids;

@@ -10,10 +10,10 @@ use Rattle.f2b_base.specs.declared.jail.JailDef.{JailDef}
 use Rattle.f2b_base.specs.declared.input.What.{What}
 use Rattle.f2b_base.specs.declared.input.What.TheVariants.{Tick, Read, Ended, Config, Stop, Ban as BanThese, Unban, Attempt, Ignore, Findtime, Bantime, Maxretry, Idle, CheckFailed}
 use Rattle.f2b_model.specs.Lists.{AllOf, in_order}
-use Rattle.f2b_model.specs.State.{World, world_map, JailsState}
+use Rattle.f2b_model.specs.State.{JailsOf, map_jails, JailsState}
 use Rattle.f2b_model.specs.Nows.{jail_now, jails_now_of}
-use Rattle.f2b_model.specs.Moves.{Out, counts}
-use Rattle.f2b_model.specs.Steps.{Moves, moves, moves_now, is_spent, is_due, ends_before, is_meant, is_meant_jail, ended_by_time, at_jail, is_followed, followed_to, each_jail, raised}
+use Rattle.f2b_model.specs.Moves.{JailAndSerial, counts}
+use Rattle.f2b_model.specs.Steps.{JailOps, moves, moves_now, is_spent, is_due, ends_before, is_meant, is_meant_jail, ended_by_time, at_jail, is_followed, followed_to, each_jail, raised}
 use Rattle.f2b_model.specs.Sound.{IsFit, IsGoodJail, AreSoundJails}
 use Rattle.f2b_model.specs.declared.happening.Happening.{Happening}
 use Rattle.f2b_model.specs.Told.{begins, told_each, told_new, told_found, told_banned, told_ends, told_unbanned, told_in, told_all_found, told_all_banned, told_done, jails_told}
@@ -22,8 +22,8 @@ use Rattle.f2b_model.proofs.ListLemmas.{by_test}
 use Rattle.f2b_model.proofs.StepLemmas.{Shows, out_map, GoodWorld, at_jail_shows, is_followed_shows, followed_to_shows, followed_to_good, in_good, each_shows, by_time_shows, calm_world, raised_good, ended_good}
 use Rattle.f2b_model.proofs.SoundLemmas.{jail_shows, IsCalmJail}
 
-module _ {J K : Type 0} (m : Moves J) (k : Moves K) (h : J → K) (Good Calm : ℕ → J → Type 0) (shows : Shows m k h Good Calm) where
-  told_new_shows : (lines : List ℕ) (j : J) (o : Out J) (p : Out K) → out_map h o ≡ p → told_new m lines j o.jail ≡ told_new k lines (h j) p.jail
+module _ {J K : Type 0} (m : JailOps J) (k : JailOps K) (h : J → K) (Good Calm : ℕ → J → Type 0) (shows : Shows m k h Good Calm) where
+  told_new_shows : (lines : List ℕ) (j : J) (o : JailAndSerial J) (p : JailAndSerial K) → out_map h o ≡ p → told_new m lines j o.jail ≡ told_new k lines (h j) p.jail
   told_new_shows lines j o p e =
       let d = shows.definition o.jail in
       let a = shows.active o.jail in
@@ -31,7 +31,7 @@ module _ {J K : Type 0} (m : Moves J) (k : Moves K) (h : J → K) (Good Calm : �
       let same : told_new m lines j o.jail ≡ told_new k lines (h j) (h o.jail) =
       ap₂ (λ (x : JailDef) (bs : List Ban). map (begins lines x.name) (drop (length (m.active j)) bs)) (sym d) (sym a)
       ∙ ap (λ (bs : List Ban). map (begins lines (k.definition (h o.jail)).name) (drop (length bs) (k.active (h o.jail)))) (sym b) in
-      same ∙ ap (λ (r : Out K). told_new k lines (h j) r.jail) e
+      same ∙ ap (λ (r : JailAndSerial K). told_new k lines (h j) r.jail) e
 
   told_each_shows : (t : J → List Happening) (u : K → List Happening) → ((j : J) → t j ≡ u (h j)) → (js : List J) → told_each t js ≡ told_each u (map h js)
   told_each_shows t u e [] = refl
@@ -56,8 +56,8 @@ module _ {J K : Type 0} (m : Moves J) (k : Moves K) (h : J → K) (Good Calm : �
       ∙ ap (λ (ls : List ℕ). told_new k ls (h j) (k.found at word n f (h j)).jail) (shows.shown at f j good q))))
       (λ q. let there = alike ∙ q in rw (q, there) refl)
 
-  all_found_shows : (word : ℕ) (name : List ℕ) (fs : List Failure) (w : World J) → GoodWorld m k h Good Calm shows w
-      → told_all_found m word name fs w ≡ told_all_found k word name fs (world_map h w)
+  all_found_shows : (word : ℕ) (name : List ℕ) (fs : List Failure) (w : JailsOf J) → GoodWorld m k h Good Calm shows w
+      → told_all_found m word name fs w ≡ told_all_found k word name fs (map_jails h w)
   all_found_shows word name [] w a = refl
   all_found_shows word name (f ∷ fs) w a =
       ap₂ (λ x y. x ++ y)
@@ -67,8 +67,8 @@ module _ {J K : Type 0} (m : Moves J) (k : Moves K) (h : J → K) (Good Calm : �
       ∙ ap (told_all_found k word name fs)
       (at_jail_shows m k h Good Calm shows name (λ n j. m.found w.at word n f j) (λ n j. k.found w.at word n f j) w (λ n j. shows.found w.at word n f j) a))
 
-  all_banned_shows : (word : ℕ) (name : List ℕ) (addrs : List Addr) (w : World J) → GoodWorld m k h Good Calm shows w
-      → told_all_banned m word name addrs w ≡ told_all_banned k word name addrs (world_map h w)
+  all_banned_shows : (word : ℕ) (name : List ℕ) (addrs : List Addr) (w : JailsOf J) → GoodWorld m k h Good Calm shows w
+      → told_all_banned m word name addrs w ≡ told_all_banned k word name addrs (map_jails h w)
   all_banned_shows word name [] w a = refl
   all_banned_shows word name (f ∷ fs) w a =
       ap₂ (λ x y. x ++ y)
@@ -87,7 +87,7 @@ module _ {J K : Type 0} (m : Moves J) (k : Moves K) (h : J → K) (Good Calm : �
   told_unbanned_shows jail addrs j =
       ap₂ (λ (x : JailDef) (bs : List Ban). cond (is_meant_jail jail x) (map (Ends x.name) (filter (is_meant addrs) bs)) []) (sym (shows.definition j)) (sym (shows.active j))
 
-  done_told : (word : ℕ) (what : What) (w : World J) → GoodWorld m k h Good Calm shows w → told_done m word what w ≡ told_done k word what (world_map h w)
+  done_told : (word : ℕ) (what : What) (w : JailsOf J) → GoodWorld m k h Good Calm shows w → told_done m word what w ≡ told_done k word what (map_jails h w)
   done_told word Tick w a = refl
   done_told word (Read jail path place fs) w a =
       let same = is_followed_shows m k h Good Calm shows jail path w in
@@ -109,7 +109,7 @@ module _ {J K : Type 0} (m : Moves J) (k : Moves K) (h : J → K) (Good Calm : �
   done_told word Stop w a = refl
   done_told word (Ignore jail cidr add) w a = refl
 
-  pub told_shows : (w : World J) (input : Input) → IsFit input → GoodWorld m k h Good Calm shows w → jails_told m w input ≡ jails_told k (world_map h w) input
+  pub told_shows : (w : JailsOf J) (input : Input) → IsFit input → GoodWorld m k h Good Calm shows w → jails_told m w input ≡ jails_told k (map_jails h w) input
   told_shows w input fit a =
       by_test (is_spent w) _
       (λ q. rw q refl)
@@ -118,7 +118,7 @@ module _ {J K : Type 0} (m : Moves J) (k : Moves K) (h : J → K) (Good Calm : �
       let now_good = raised_good m k h Good Calm shows input.secs w fit.secs a in
       let ended = each_jail m (ended_by_time m now.at) now in
       let ended_is = calm_world m k h Good Calm shows ended (ended_good m k h Good Calm shows now now_good) in
-      let e : world_map h ended ≡ each_jail k (ended_by_time k now.at) (world_map h now) =
+      let e : map_jails h ended ≡ each_jail k (ended_by_time k now.at) (map_jails h now) =
       each_shows m k h Good Calm shows (ended_by_time m now.at) (ended_by_time k now.at) now (λ j good. by_time_shows m k h Good Calm shows now.at j) now_good in
       rw q (ap₂ (λ x y. x ++ y)
       (told_each_shows (told_ends m now.at) (told_ends k now.at) (told_ends_shows now.at) w.jails)

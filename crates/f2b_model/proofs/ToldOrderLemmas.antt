@@ -15,7 +15,7 @@ use Rattle.f2b_model.specs.Jobs.{Ledger}
 use Rattle.f2b_model.specs.LaneSound.{AreApart, Follows, follow_told, IsInTurn}
 use Rattle.f2b_model.specs.Lanes.{Lanes, books, issue}
 use Rattle.f2b_model.specs.Orders.{Held, is_held_of, is_active, is_up, order_showing, ban_orders, told_orders}
-use Rattle.f2b_model.specs.Turns.{Order, turn, follow}
+use Rattle.f2b_model.specs.Turns.{Order, banned_after, follow}
 use Rattle.f2b_model.proofs.TurnLemmas.{follow-append, follow_none, follow_of_one}
 use Rattle.f2b_model.proofs.LaneMoveLemmas.{all_of_kind, any_ban_orders, one_ban_orders, issue_turns}
 
@@ -34,12 +34,12 @@ untouched false x f a c h same = refl
 
 -- one ban begins or ends
 one_told : (lines : List ℕ) (kind : JobKind) (h : Held) (up : List UpLane) (id : LaneId) (addr : Addr) (a c : Bool) → AreApart up
-    → (if is_held_of id.jail addr h then turn kind a else Some a) ≡ Some c
+    → (if is_held_of id.jail addr h then banned_after kind a else Some a) ≡ Some c
     → follow id addr (is_up up id && (in_family id.family addr && a)) (ban_orders lines kind h up) ≡ Some (is_up up id && (in_family id.family addr && c))
 one_told lines kind h up id addr a c apart now = elim (cases_Bool (is_up up id && (is_held_of id.jail addr h && in_family id.family addr))) [
   | inl y ↦
       let here : is_held_of id.jail addr h ≡ true = (and_parts (is_held_of id.jail addr h) _ (and_parts (is_up up id) _ y).1).0 in
-      let may : turn kind a ≡ Some c = rw here at now in
+      let may : banned_after kind a ≡ Some c = rw here at now in
       rw (touched (is_up up id) (is_held_of id.jail addr h) (in_family id.family addr) a y, touched (is_up up id) (is_held_of id.jail addr h) (in_family id.family addr) c y)
       (follow_of_one id addr kind a c (ban_orders lines kind h up) (all_of_kind kind (order_showing lines kind (Some h)) (λ lane. refl) _) (one_ban_orders lines kind h up id addr (apart.one id)) (any_ban_orders lines kind h up id addr ∙ y) may)
   | inr n ↦
@@ -49,7 +49,7 @@ one_told lines kind h up id addr a c apart now = elim (cases_Bool (is_up up id &
 
 -- one thing that is told, and then the rest
 then_rest : (lines : List ℕ) (kind : JobKind) (h : Held) (up : List UpLane) (id : LaneId) (addr : Addr) (a c : Bool) (os : List Order) (told : List Happening) (r : Option Bool) → AreApart up
-    → (if is_held_of id.jail addr h then turn kind a else Some a) ≡ r
+    → (if is_held_of id.jail addr h then banned_after kind a else Some a) ≡ r
     → ((d : Bool) → follow_told id.jail addr d told ≡ Some c → follow id addr (is_up up id && (in_family id.family addr && d)) os ≡ Some (is_up up id && (in_family id.family addr && c)))
     → option_and_then (λ d. follow_told id.jail addr d told) r ≡ Some c
     → follow id addr (is_up up id && (in_family id.family addr && a)) (ban_orders lines kind h up ++ os) ≡ Some (is_up up id && (in_family id.family addr && c))

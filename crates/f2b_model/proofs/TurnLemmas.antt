@@ -6,7 +6,7 @@ use Rattle.std.proofs.lemmas.Bool.{cases_Bool, or_parts}
 use Rattle.f2b_base.specs.declared.addr.Addr.{Addr}
 use Rattle.f2b_base.specs.declared.job.LaneId.{LaneId}
 use Rattle.f2b_base.specs.declared.job.JobKind.{JobKind}
-use Rattle.f2b_model.specs.Turns.{Order, order_of, numbered, touches, turn, follow}
+use Rattle.f2b_model.specs.Turns.{Order, order_of, numbered, touches, banned_after, follow}
 use Rattle.f2b_model.specs.LaneSound.{AtMostOne}
 
 pub orders_numbered : (next at : ℕ) (os : List Order) → map order_of (numbered next at os) ≡ os
@@ -22,7 +22,7 @@ then_after id addr (Some c) xs ys each = each c
 pub follow-append : (id : LaneId) (addr : Addr) (b : Bool) (xs ys : List Order) → follow id addr b (xs ++ ys) ≡ option_and_then (λ c. follow id addr c ys) (follow id addr b xs)
 follow-append id addr b [] ys = refl
 follow-append id addr b (o ∷ xs) ys = elim (cases_Bool (touches id addr o)) [
-  | inl h ↦ rw h (then_after id addr (turn o.kind b) xs ys (λ c. follow-append id addr c xs ys))
+  | inl h ↦ rw h (then_after id addr (banned_after o.kind b) xs ys (λ c. follow-append id addr c xs ys))
   | inr h ↦ rw h (follow-append id addr b xs ys)
 ]
 
@@ -37,7 +37,7 @@ AllKind kind [] = Unit {0}
 AllKind kind (o ∷ os) = (o.kind ≡ kind) × AllKind kind os
 
 -- orders of one kind, of which at most one is of the address
-pub follow_of_one : (id : LaneId) (addr : Addr) (kind : JobKind) (b c : Bool) (os : List Order) → AllKind kind os → AtMostOne (touches id addr) os → list_any (touches id addr) os ≡ true → turn kind b ≡ Some c
+pub follow_of_one : (id : LaneId) (addr : Addr) (kind : JobKind) (b c : Bool) (os : List Order) → AllKind kind os → AtMostOne (touches id addr) os → list_any (touches id addr) os ≡ true → banned_after kind b ≡ Some c
     → follow id addr b os ≡ Some c
 follow_of_one id addr kind b c [] kinds one some may = cc
 follow_of_one id addr kind b c (o ∷ os) kinds one some may = elim (cases_Bool (touches id addr o)) [

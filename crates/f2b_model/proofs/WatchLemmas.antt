@@ -17,7 +17,7 @@ use Rattle.f2b_model.specs.declared.jail_now.JailNow.{JailNow}
 use Rattle.f2b_model.specs.Full.{is_full}
 use Rattle.f2b_model.specs.Laws.{AreWatched, IsWatched}
 use Rattle.f2b_model.specs.Lists.{AllOf, in_order}
-use Rattle.f2b_model.specs.Moves.{Out, counts, is_banned}
+use Rattle.f2b_model.specs.Moves.{JailAndSerial, counts, is_banned}
 use Rattle.f2b_model.specs.NowMoves.{counted_now, found_now, banned_now, ended_now, limited_now, followed_now, dropped_now}
 use Rattle.f2b_model.specs.Nows.{JailsNow}
 use Rattle.f2b_model.specs.Steps.{moves_now, is_spent, is_due, own_end, ends_before, is_meant, is_meant_jail, end_all, ended_by_time, unbanned, in_jail, at_jail, alone, find_jail, is_followed, followed_to, found_all, ban_all, kept_or_fresh, configured, done, at_reading, jails_step_now}
@@ -65,7 +65,7 @@ ignored_good cidr false j good = good
 followed_good : (path : List ℕ) (place : Place) (j : JailNow) → Good j → Good (followed_now path place j)
 followed_good path place j good = record { same = paths_placed path place j.watches ∙ good.same }
 
-in_jail_good : (name : List ℕ) (f : ℕ → JailNow → Out JailNow) → ((n : ℕ) (j : JailNow) → Good j → Good (f n j).jail) → (n : ℕ) (js : List JailNow) → AllOf Good js
+in_jail_good : (name : List ℕ) (f : ℕ → JailNow → JailAndSerial JailNow) → ((n : ℕ) (j : JailNow) → Good j → Good (f n j).jail) → (n : ℕ) (js : List JailNow) → AllOf Good js
     → AllOf Good (in_jail moves_now name f n js).jails
 in_jail_good name f e n [] a = tt
 in_jail_good name f e n (j ∷ js) a =

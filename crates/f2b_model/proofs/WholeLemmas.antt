@@ -40,33 +40,33 @@ step_shows base s input fit sound =
     by_test (is_whole_spent moves books s) _
     (λ t. rw t refl)
     (λ t.
-    let world = now_step s.world input fit sound.jails in
-    let mid = held moves (at_reading moves input.secs s.world) in
-    let after = held moves (jails_step s.world input) in
-    let tells = jails_told moves s.world input in
-    let lanes = lanes_now_step (jails_step s.world input).at input.what mid after tells s.lanes (ordered_below s.lanes sound.lanes.jobs) in
-    let mid_is = reading_held s.world input fit sound.jails in
-    let after_is = step_held s.world input fit sound.jails in
-    let tells_is = told_by_now s.world input fit sound.jails in
-    let rest : lanes_step books_now (jails_step s.world input).at input.what mid after tells (lanes_now s.lanes)
-    ≡ lanes_step books_now (jails_step_now (jails_now_of s.world) input).at input.what (held moves_now (at_reading moves_now input.secs (jails_now_of s.world)))
-    (held moves_now (jails_step_now (jails_now_of s.world) input)) (jails_told moves_now (jails_now_of s.world) input) (lanes_now s.lanes) =
-    λ i. lanes_step books_now (world i).at input.what (mid_is i) (after_is i) (tells_is i) (lanes_now s.lanes) in
+    let jails = now_step s.jails input fit sound.jails in
+    let mid = held moves (at_reading moves input.secs s.jails) in
+    let after = held moves (jails_step s.jails input) in
+    let tells = jails_told moves s.jails input in
+    let lanes = lanes_now_step (jails_step s.jails input).at input.what mid after tells s.lanes (ordered_below s.lanes sound.lanes.jobs) in
+    let mid_is = reading_held s.jails input fit sound.jails in
+    let after_is = step_held s.jails input fit sound.jails in
+    let tells_is = told_by_now s.jails input fit sound.jails in
+    let rest : lanes_step books_now (jails_step s.jails input).at input.what mid after tells (lanes_now s.lanes)
+    ≡ lanes_step books_now (jails_step_now (jails_now_of s.jails) input).at input.what (held moves_now (at_reading moves_now input.secs (jails_now_of s.jails)))
+    (held moves_now (jails_step_now (jails_now_of s.jails) input)) (jails_told moves_now (jails_now_of s.jails) input) (lanes_now s.lanes) =
+    λ i. lanes_step books_now (jails i).at input.what (mid_is i) (after_is i) (tells_is i) (lanes_now s.lanes) in
     let both = lanes ∙ rest in
-    rw t (λ i. record { world = world i; lanes = both i }))
+    rw t (λ i. record { jails = jails i; lanes = both i }))
 
 pub step_keeps : (base : LaneId → Addr → Bool) (s : State) (input : Input) → IsFit input → IsSoundFrom base s → IsSoundFrom base (step s input)
 step_keeps base s input fit sound =
     by_test (is_whole_spent moves books s) _
     (λ t. rw t sound)
     (λ t.
-    let jails = sound_step s.world input fit sound.jails in
-    let unspent = neither (is_spent s.world) _ t in
+    let jails = sound_step s.jails input fit sound.jails in
+    let unspent = neither (is_spent s.jails) _ t in
     rw t (record {
       jails = jails;
       lanes =
-          sound_kept base (jails_step s.world input).at input.what (held moves s.world) (held moves (at_reading moves input.secs s.world)) (held moves (jails_step s.world input))
-          (jails_told moves s.world input) s.lanes jails.at (fit_for_lanes input.what fit.what) (ban_step s.world input unspent fit sound.jails) sound.lanes;
+          sound_kept base (jails_step s.jails input).at input.what (held moves s.jails) (held moves (at_reading moves input.secs s.jails)) (held moves (jails_step s.jails input))
+          (jails_told moves s.jails input) s.lanes jails.at (fit_for_lanes input.what fit.what) (ban_step s.jails input unspent fit sound.jails) sound.lanes;
     }))
 
 pub whole_shows : (s : State) (input : Input) → IsFit input → IsSound s → now_of (step s input) ≡ step_now (now_of s) input
@@ -80,14 +80,14 @@ whole_tells s input fit sound =
     by_test (is_whole_spent moves books s) _
     (λ t. rw t refl)
     (λ t.
-    let world = now_step s.world input fit sound.from.jails in
-    let tells = jails_told moves s.world input in
-    let tells_is = told_by_now s.world input fit sound.from.jails in
-    let lanes = lanes_told_now (jails_step s.world input).at input.what tells s.lanes (ordered_below s.lanes sound.from.lanes.jobs) in
-    let rest : lanes_told books_now (jails_step s.world input).at input.what (lanes_issued books_now (jails_step s.world input).at tells (lanes_now s.lanes))
-    ≡ lanes_told books_now (jails_step_now (jails_now_of s.world) input).at input.what
-    (lanes_issued books_now (jails_step_now (jails_now_of s.world) input).at (jails_told moves_now (jails_now_of s.world) input) (lanes_now s.lanes)) =
-    λ i. lanes_told books_now (world i).at input.what (lanes_issued books_now (world i).at (tells_is i) (lanes_now s.lanes)) in
+    let jails = now_step s.jails input fit sound.from.jails in
+    let tells = jails_told moves s.jails input in
+    let tells_is = told_by_now s.jails input fit sound.from.jails in
+    let lanes = lanes_told_now (jails_step s.jails input).at input.what tells s.lanes (ordered_below s.lanes sound.from.lanes.jobs) in
+    let rest : lanes_told books_now (jails_step s.jails input).at input.what (lanes_issued books_now (jails_step s.jails input).at tells (lanes_now s.lanes))
+    ≡ lanes_told books_now (jails_step_now (jails_now_of s.jails) input).at input.what
+    (lanes_issued books_now (jails_step_now (jails_now_of s.jails) input).at (jails_told moves_now (jails_now_of s.jails) input) (lanes_now s.lanes)) =
+    λ i. lanes_told books_now (jails i).at input.what (lanes_issued books_now (jails i).at (tells_is i) (lanes_now s.lanes)) in
     let both = lanes ∙ rest in
     rw t (λ i. record { jails = tells_is i; lanes = both i }))
 
@@ -114,12 +114,12 @@ jails_joined (j ∷ js) = ap (λ ks. j ∷ ks) (jails_joined js)
 
 -- a view is a middle state in another order
 pub gathered_spread : (n : Now) → gathered (spread n) ≡ n
-gathered_spread n = ap (λ (js : List JailNow). record n { world = record (n.world) { jails = js } }) (jails_joined n.world.jails)
+gathered_spread n = ap (λ (js : List JailNow). record n { jails = record (n.jails) { jails = js } }) (jails_joined n.jails.jails)
 
 now_again : (s : State) → IsSound s → now_of (state_from (now_of s)) ≡ now_of s
 now_again s sound =
-    let lanes = lanes_again (lanes_now s.lanes) (pending_bounds sound.base (held moves s.world) s.lanes sound.from.lanes) in
-    λ i. record { world = jails_again s.world i; lanes = lanes i }
+    let lanes = lanes_again (lanes_now s.lanes) (pending_bounds sound.base (held moves s.jails) s.lanes sound.from.lanes) in
+    λ i. record { jails = jails_again s.jails i; lanes = lanes i }
 
 back_is : (s : State) → back (view_of s) ≡ state_from (now_of s)
 back_is s = ap state_from (gathered_spread (now_of s))
@@ -132,12 +132,12 @@ view_again s sound = ap spread (now_back s sound)
 
 from_sound : (s : State) → IsSound s → IsSound (state_from (now_of s))
 from_sound s sound =
-    let r = lanes_back sound.base (held moves s.world) s.lanes sound.from.lanes in
-    let same : held moves s.world ≡ held moves (jails_from (jails_now_of s.world)) = held_shows s.world.jails ∙ sym (held_back (map jail_now s.world.jails)) in
+    let r = lanes_back sound.base (held moves s.jails) s.lanes sound.from.lanes in
+    let same : held moves s.jails ≡ held moves (jails_from (jails_now_of s.jails)) = held_shows s.jails.jails ∙ sym (held_back (map jail_now s.jails.jails)) in
     record {
       base = r.0;
       from = record {
-        jails = jails_back s.world sound.from.jails;
+        jails = jails_back s.jails sound.from.jails;
         lanes = subst (λ (hs : List Held). AreSoundLanes r.0 hs (lanes_from (lanes_now s.lanes))) same r.1;
       };
     }
@@ -182,10 +182,10 @@ empty_sound = record { jails = record { at = omega arith; jails = tt; names = tt
 
 pub all_alternate : (inputs : List Input) → AllOf IsFit inputs → (id : LaneId) (addr : Addr) → Alternate false (kinds_of id addr (steps empty_state inputs).lanes.jobs.made)
 all_alternate inputs fit id addr =
-    let s = steps empty_state inputs in alternates (held moves s.world) s.lanes (steps_keep never empty_state inputs fit empty_sound).lanes id addr
+    let s = steps empty_state inputs in alternates (held moves s.jails) s.lanes (steps_keep never empty_state inputs fit empty_sound).lanes id addr
 
 pub all_settled : (inputs : List Input) → AllOf IsFit inputs → (id : LaneId) (addr : Addr) → head id (pending (steps empty_state inputs).lanes.jobs) ≡ None
     → last_is_ban false (kinds_of id addr (settled (steps empty_state inputs).lanes.jobs))
-    ≡ is_banned_in (steps empty_state inputs).lanes.up (held moves (steps empty_state inputs).world) id addr
+    ≡ is_banned_in (steps empty_state inputs).lanes.up (held moves (steps empty_state inputs).jails) id addr
 all_settled inputs fit id addr none =
-    let s = steps empty_state inputs in settled_bans (held moves s.world) s.lanes (steps_keep never empty_state inputs fit empty_sound).lanes id addr none
+    let s = steps empty_state inputs in settled_bans (held moves s.jails) s.lanes (steps_keep never empty_state inputs fit empty_sound).lanes id addr none

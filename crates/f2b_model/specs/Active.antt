@@ -2,10 +2,10 @@
 use Rattle.std.specs.Prelude.{List, [], ◌∷◌, ◌++◌, map}
 use Rattle.f2b_base.specs.declared.ban.Ban.{Ban}
 use Rattle.f2b_model.specs.Orders.{Held}
-use Rattle.f2b_model.specs.State.{World}
-use Rattle.f2b_model.specs.Steps.{Moves, named}
+use Rattle.f2b_model.specs.State.{JailsOf}
+use Rattle.f2b_model.specs.Steps.{JailOps, named}
 
-module _ {J : Type 0} (m : Moves J) where
+module _ {J : Type 0} (m : JailOps J) where
   -- the active bans of a jail
   abbrev pub held_in : J → List Held
   held_in j = map (λ (b : Ban). record { jail = named m j; ban = b }) (m.active j)
@@ -15,6 +15,6 @@ module _ {J : Type 0} (m : Moves J) where
   held_by [] = []
   held_by (j ∷ js) = held_in j ++ held_by js
 
-  -- the active bans of a world
-  abbrev pub held : World J → List Held
+  -- the active bans of all jails
+  abbrev pub held : JailsOf J → List Held
   held w = held_by w.jails

@@ -41,5 +41,5 @@ pub record IsFullByChoice (findtime maxretry : ℕ) (addr : Addr) (fs : List Fai
   pub close : (f g : Failure) → IsIn f chosen → IsIn g chosen → f.time < g.time + findtime
 
 -- whether a failure is later than two `findtime` before a moment: older ones can fill no address from then on
-abbrev pub is_late : ℕ → ℕ → Failure → Bool
-is_late at findtime f = nat_lt at (f.time + 2 * findtime)
+abbrev pub is_recent : ℕ → ℕ → Failure → Bool
+is_recent at findtime f = nat_lt at (f.time + 2 * findtime)

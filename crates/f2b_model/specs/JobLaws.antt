@@ -34,8 +34,8 @@ IsNext now running jobs (Some next) =
 pub record JobLaw : Type 0 where
   -- no jobs and no lanes are sound, and each step of sound lanes is
   pub first : AreSoundLanes never [] first_lanes
-  pub sound : (base : LaneId → Addr → Bool) (at : ℕ) (what : What) (before mid after : List Held) (told : List Happening) (l : Lanes Ledger) → at ≤ last_moment → IsFitForLanes what
-      → IsBanStep what before mid after told → AreSoundLanes base before l → AreSoundLanes base after (lanes_step books at what mid after told l)
+  pub sound : (base : LaneId → Addr → Bool) (at : ℕ) (what : What) (before held_at_reading after : List Held) (told : List Happening) (l : Lanes Ledger) → at ≤ last_moment → IsFitForLanes what
+      → IsBanStep what before held_at_reading after told → AreSoundLanes base before l → AreSoundLanes base after (lanes_step books at what held_at_reading after told l)
   -- over all jobs that were ever made, in each epoch of a lane the Ban or Reban and the Unban jobs of an address alternate, beginning with a Ban or Reban
   pub alternate : (held : List Held) (l : Lanes Ledger) → AreSoundLanes never held l → (id : LaneId) (addr : Addr) → Alternate false (kinds_of id addr l.jobs.made)
   -- where a lane has no pending job, the addresses whose last settled job of its last epoch is a Ban or Reban are the active ones of its family where it is up, and none where it is down
@@ -50,14 +50,14 @@ pub record JobLaw : Type 0 where
   -- the job that is tried next is the least of those that may be
   pub next : (now : ℕ) (running : List ℕ) (jobs : List Job) (from top : ℕ) → ArePending from jobs top → IsNext now running jobs (next_due now running jobs)
   -- the step of lanes is seen in their pending jobs as its step
-  pub now : (base : LaneId → Addr → Bool) (held : List Held) (at : ℕ) (what : What) (mid after : List Held) (told : List Happening) (l : Lanes Ledger) → AreSoundLanes base held l
-      → lanes_now (lanes_step books at what mid after told l) ≡ lanes_step books_now at what mid after told (lanes_now l)
+  pub now : (base : LaneId → Addr → Bool) (held : List Held) (at : ℕ) (what : What) (held_at_reading after : List Held) (told : List Happening) (l : Lanes Ledger) → AreSoundLanes base held l
+      → lanes_now (lanes_step books at what held_at_reading after told l) ≡ lanes_step books_now at what held_at_reading after told (lanes_now l)
   -- after a configuration exactly its lanes are up
-  pub up : (at : ℕ) (defs : Defs) (mid after : List Held) (told : List Happening) (l : Lanes Ledger) → AreApart (lanes_of defs)
-      → (lane : UpLane) → IsIn lane (lanes_step books at (Config defs) mid after told l).up ↔ IsIn lane (lanes_of defs)
+  pub up : (at : ℕ) (defs : Defs) (held_at_reading after : List Held) (told : List Happening) (l : Lanes Ledger) → AreApart (lanes_of defs)
+      → (lane : UpLane) → IsIn lane (lanes_step books at (Config defs) held_at_reading after told l).up ↔ IsIn lane (lanes_of defs)
   -- pending jobs stand by id, and are those of the lanes that hold just them, which are sound
   pub bounds : (base : LaneId → Addr → Bool) (held : List Held) (l : Lanes Ledger) → AreSoundLanes base held l → ArePending 0 (lanes_now l).jobs (lanes_now l).next_job
   pub again : (n : Lanes (List Job)) → ArePending 0 n.jobs n.next_job → lanes_now (lanes_from n) ≡ n
   pub back : (base : LaneId → Addr → Bool) (held : List Held) (l : Lanes Ledger) → AreSoundLanes base held l → (left : LaneId → Addr → Bool) × AreSoundLanes left held (lanes_from (lanes_now l))
-  pub bounds_kept : (at : ℕ) (what : What) (mid after : List Held) (told : List Happening) (n : Lanes (List Job)) → at ≤ last_moment → ArePending 0 n.jobs n.next_job
-      → ArePending 0 (lanes_step books_now at what mid after told n).jobs (lanes_step books_now at what mid after told n).next_job
+  pub bounds_kept : (at : ℕ) (what : What) (held_at_reading after : List Held) (told : List Happening) (n : Lanes (List Job)) → at ≤ last_moment → ArePending 0 n.jobs n.next_job
+      → ArePending 0 (lanes_step books_now at what held_at_reading after told n).jobs (lanes_step books_now at what held_at_reading after told n).next_job

@@ -16,7 +16,7 @@ use Rattle.f2b_model.specs.Families.{same_lane, in_family}
 use Rattle.f2b_model.specs.Jobs.{Ending, Ledger, stands}
 use Rattle.f2b_model.specs.Lanes.{Lanes, lanes_of}
 use Rattle.f2b_model.specs.Orders.{Held, is_held_of, is_active, is_lane, is_up}
-use Rattle.f2b_model.specs.Turns.{order_of, turn, follow}
+use Rattle.f2b_model.specs.Turns.{order_of, banned_after, follow}
 use Rattle.f2b_base.specs.Limits.{last_moment}
 
 -- ---- at most one
@@ -44,8 +44,8 @@ pub record IsHeldOnce (held : List Held) : Type 0 where
 -- the address is not banned, and ends where it is.
 abbrev pub follow_one : List ℕ → Addr → Bool → Happening → Option Bool
 follow_one jail addr b (Counts of a) = Some b
-follow_one jail addr b (Begins of ban matches) = if is_held_of jail addr (record { jail = of; ban = ban }) then turn Ban b else Some b
-follow_one jail addr b (Ends of ban) = if is_held_of jail addr (record { jail = of; ban = ban }) then turn Unban b else Some b
+follow_one jail addr b (Begins of ban matches) = if is_held_of jail addr (record { jail = of; ban = ban }) then banned_after Ban b else Some b
+follow_one jail addr b (Ends of ban) = if is_held_of jail addr (record { jail = of; ban = ban }) then banned_after Unban b else Some b
 
 -- the same after all that was told
 abbrev pub follow_told : List ℕ → Addr → Bool → List Happening → Option Bool
@@ -58,8 +58,8 @@ pub record Follows (told : List Happening) (before after : List Held) : Type 0 w
 
 -- the bans that what was told leads to: a configuration tells nothing of the bans that go with their jails
 abbrev pub led_to : What → List Held → List Held → List Held
-led_to (Config defs) mid after = mid
-led_to _ mid after = after
+led_to (Config defs) held_at_reading after = held_at_reading
+led_to _ held_at_reading after = after
 
 -- whether a configuration has a jail of that name
 abbrev pub has_jail : Defs → List ℕ → Bool
@@ -67,15 +67,15 @@ has_jail defs name = list_any (λ (d : JailDef). bytes_eq d.name name) defs.jail
 
 -- a stop changes no ban, and a configuration none of its jails
 abbrev pub AreAlike : What → List Held → List Held → Type 0
-AreAlike Stop mid after = (jail : List ℕ) (addr : Addr) → is_active mid jail addr ≡ is_active after jail addr
-AreAlike (Config defs) mid after = (jail : List ℕ) (addr : Addr) → has_jail defs jail ≡ true → is_active mid jail addr ≡ is_active after jail addr
-AreAlike _ mid after = Unit {0}
+AreAlike Stop held_at_reading after = (jail : List ℕ) (addr : Addr) → is_active held_at_reading jail addr ≡ is_active after jail addr
+AreAlike (Config defs) held_at_reading after = (jail : List ℕ) (addr : Addr) → has_jail defs jail ≡ true → is_active held_at_reading jail addr ≡ is_active after jail addr
+AreAlike _ held_at_reading after = Unit {0}
 
 -- what the lanes take from a step of the jails: the active bans before it, at the reading and after it, and what it told
-pub record IsBanStep (what : What) (before mid after : List Held) (told : List Happening) : Type 0 where
-  pub leads : Follows told before (led_to what mid after)
-  pub alike : AreAlike what mid after
-  pub mid_once : IsHeldOnce mid
+pub record IsBanStep (what : What) (before held_at_reading after : List Held) (told : List Happening) : Type 0 where
+  pub leads : Follows told before (led_to what held_at_reading after)
+  pub alike : AreAlike what held_at_reading after
+  pub once_at_reading : IsHeldOnce held_at_reading
   pub after_once : IsHeldOnce after
 
 -- what is asked of an input: a configuration has no lane twice

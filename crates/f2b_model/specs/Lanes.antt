@@ -118,24 +118,24 @@ module _ {L : Type 0} (b : Books L) where
 
   -- a configuration: what is not kept goes down with the bans that were, what is new comes up with the bans that are
   abbrev pub lanes_configured : ℕ → List Held → List Held → List UpLane → Lanes L → Lanes L
-  lanes_configured at mid after new l = missing_up at after new (others_down at mid new (record l { stopping = false }))
+  lanes_configured at held_at_reading after new l = missing_up at after new (others_down at held_at_reading new (record l { stopping = false }))
 
   -- what happened is done
   abbrev pub lanes_done : ℕ → What → List Held → List Held → Lanes L → Lanes L
-  lanes_done at (Ended job outcome) mid after l = try_ended at job outcome l
-  lanes_done at Stop mid after l = stopped at mid l
-  lanes_done at (Config defs) mid after l = lanes_configured at mid after (lanes_of defs) l
-  lanes_done at (CheckFailed job outcome) mid after l = check_failed at after job l
-  lanes_done at _ mid after l = l
+  lanes_done at (Ended job outcome) held_at_reading after l = try_ended at job outcome l
+  lanes_done at Stop held_at_reading after l = stopped at held_at_reading l
+  lanes_done at (Config defs) held_at_reading after l = lanes_configured at held_at_reading after (lanes_of defs) l
+  lanes_done at (CheckFailed job outcome) held_at_reading after l = check_failed at after job l
+  lanes_done at _ held_at_reading after l = l
 
   -- what the jails tell becomes jobs of the lanes that are up
   abbrev pub lanes_issued : ℕ → List Happening → Lanes L → Lanes L
   lanes_issued at told l = issue at (told_orders l.up told) l
 
-  -- The step: what the jails tell becomes jobs, then what happened is done. `mid` are the active bans at the reading, once those that
+  -- The step: what the jails tell becomes jobs, then what happened is done. `held_at_reading` are the active bans at the reading, once those that
   -- were due have ended, and `after` those after the step.
   abbrev pub lanes_step : ℕ → What → List Held → List Held → List Happening → Lanes L → Lanes L
-  lanes_step at what mid after told l = lanes_done at what mid after (lanes_issued at told l)
+  lanes_step at what held_at_reading after told l = lanes_done at what held_at_reading after (lanes_issued at told l)
 
 -- the lanes before any configuration, over all jobs
 abbrev pub first_lanes : Lanes Ledger

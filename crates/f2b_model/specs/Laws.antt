@@ -11,7 +11,7 @@ use Rattle.f2b_base.specs.declared.view.View.{View}
 use Rattle.f2b_model.specs.declared.jail_now.JailNow.{JailNow}
 use Rattle.f2b_base.specs.Limits.{last_moment}
 use Rattle.f2b_model.specs.Lists.{AllOf, placed}
-use Rattle.f2b_model.specs.Full.{IsFull, IsFullByChoice, is_full, is_late}
+use Rattle.f2b_model.specs.Full.{IsFull, IsFullByChoice, is_full, is_recent}
 use Rattle.f2b_model.specs.State.{JailsState}
 use Rattle.f2b_model.specs.Nows.{comes_before, JailsNow, jails_now_of, jails_from}
 use Rattle.f2b_model.specs.Steps.{moves, moves_now, is_spent, at_reading, jails_step, jails_steps, jails_step_now, first_jails, first_jails_now}
@@ -75,7 +75,7 @@ pub record FullLaw : Type 0 where
   pub joined : (findtime maxretry : ℕ) (addr : Addr) (fs : List Failure) → 1 ≤ maxretry → IsFull findtime maxretry addr fs ↔ HasRun findtime maxretry (times_of addr fs)
   -- a window stands for all failures since it began, and is full where they are
   pub added : (last now findtime : ℕ) (kept whole : List Failure) (f : Failure) → StandsFor last findtime kept whole → last ≤ now → now < f.time + findtime
-      → StandsFor now findtime (filter (is_late now findtime) (placed comes_before f kept)) (whole ++ f ∷ [])
+      → StandsFor now findtime (filter (is_recent now findtime) (placed comes_before f kept)) (whole ++ f ∷ [])
   pub full : (now findtime maxretry : ℕ) (kept whole : List Failure) (f : Failure) → (IsFull findtime maxretry f.addr whole → ⊥) → now < f.time + findtime
       → StandsFor now findtime kept (whole ++ f ∷ []) → IsFull findtime maxretry f.addr (whole ++ f ∷ []) ↔ IsFull findtime maxretry f.addr kept
 
@@ -106,7 +106,7 @@ pub record WholeLaw : Type 0 where
   -- where a lane has no pending job, the addresses whose last settled job of its last epoch bans are the active ones of its family where it is up, and none where it is down
   pub settled : (inputs : List Input) → AllOf IsFit inputs → (id : LaneId) (addr : Addr) → head id (pending (steps empty_state inputs).lanes.jobs) ≡ None
       → last_is_ban false (kinds_of id addr (settled (steps empty_state inputs).lanes.jobs))
-      ≡ is_banned_in (steps empty_state inputs).lanes.up (held moves (steps empty_state inputs).world) id addr
+      ≡ is_banned_in (steps empty_state inputs).lanes.up (held moves (steps empty_state inputs).jails) id addr
   -- starts that fail come to an end: each leaves fewer tries or fewer checks
   pub starts : IsStartsLaw
   -- the first job of its lane stays so through each step after which it is pending, that is, until it is settled or voided: so a child of it may run on

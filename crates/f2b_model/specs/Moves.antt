@@ -17,8 +17,8 @@ use Rattle.f2b_model.specs.Watches.{watches_of, with_place}
 use Rattle.f2b_model.specs.State.{Jail, open_of, active_of, kept_of, forget, stop, drop_ends}
 
 -- one more, but the greatest u64 stays
-abbrev pub up_64 : ℕ → ℕ
-up_64 n = min (n + 1) (2 ^ 64 - 1)
+abbrev pub plus_one_capped : ℕ → ℕ
+plus_one_capped n = min (n + 1) (2 ^ 64 - 1)
 
 -- at most the greatest u32
 abbrev pub up_to_32 : ℕ → ℕ
@@ -45,7 +45,7 @@ abbrev pub is_near : ℕ → Failure → Failure → Bool
 is_near findtime f g = is_near_to f.addr f.time findtime g
 
 -- a jail and the next serial
-pub record Out (J : Type 0) : Type 0 where
+pub record JailAndSerial (J : Type 0) : Type 0 where
   pub jail : J
   pub next : ℕ
 
@@ -60,7 +60,7 @@ counts at d bans f = not (is_banned f.addr bans) && is_timely at d.findtime f.ti
 -- a failure is counted
 abbrev pub counted : ℕ → Failure → Jail → Jail
 counted at f j = record j {
-  total_failed = up_64 j.total_failed;
+  total_failed = plus_one_capped j.total_failed;
   moment = at;
   failures = j.failures ++ record { failure = f; is_open = true } ∷ [];
 }
@@ -82,25 +82,25 @@ new_ban d past at word serial addr failures =
 -- a ban begins and forgets the address's open failures
 abbrev pub begun : ℕ → ℕ → ℕ → Addr → ℕ → Jail → Jail
 begun at word serial addr failures j = record j {
-  total_banned = up_64 j.total_banned;
+  total_banned = plus_one_capped j.total_banned;
   failures = forget (is_of addr) j.failures;
   bans = j.bans ++ record { ban = new_ban j.definition (kept_of j.endings) at word serial addr failures; is_active = true } ∷ [];
 }
 
 -- after a failure was counted: its address is banned where it is full
-abbrev pub judged : ℕ → ℕ → ℕ → Failure → Jail → Out Jail
+abbrev pub judged : ℕ → ℕ → ℕ → Failure → Jail → JailAndSerial Jail
 judged at word serial f j =
     cond (is_full j.definition.findtime j.definition.maxretry f.addr (open_of j.failures))
     (record { jail = begun at word serial f.addr (length (filter (is_near j.definition.findtime f) (open_of j.failures))) j; next = suc serial })
     (record { jail = j; next = serial })
 
 -- a found failure: it may count, and its address is then banned where it is full
-abbrev pub found : ℕ → ℕ → ℕ → Failure → Jail → Out Jail
+abbrev pub found : ℕ → ℕ → ℕ → Failure → Jail → JailAndSerial Jail
 found at word serial f j =
     cond (counts at j.definition (active_of j.bans) f) (judged at word serial f (counted at f j)) (record { jail = j; next = serial })
 
 -- a ban by command, of an address that is not banned
-abbrev pub banned : ℕ → ℕ → ℕ → Addr → Jail → Out Jail
+abbrev pub banned : ℕ → ℕ → ℕ → Addr → Jail → JailAndSerial Jail
 banned at word serial addr j =
     cond (is_banned addr (active_of j.bans)) (record { jail = j; next = serial }) (record { jail = begun at word serial addr 0 j; next = suc serial })
 

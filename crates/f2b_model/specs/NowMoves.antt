@@ -6,18 +6,18 @@ use Rattle.f2b_base.specs.declared.jail.JailDef.{JailDef}
 use Rattle.f2b_base.specs.declared.jail.Place.{Place}
 use Rattle.f2b_model.specs.Lists.{placed}
 use Rattle.f2b_model.specs.Matches.{matches_of}
-use Rattle.f2b_model.specs.Full.{is_of, is_full, is_late}
+use Rattle.f2b_model.specs.Full.{is_of, is_full, is_recent}
 use Rattle.f2b_model.specs.Watches.{watches_of, with_place}
 use Rattle.f2b_model.specs.declared.jail_now.JailNow.{JailNow}
 use Rattle.f2b_model.specs.Nows.{comes_before}
-use Rattle.f2b_model.specs.Moves.{up_64, ban_of, is_banned, is_near, Out, counts, new_ban, is_stale}
+use Rattle.f2b_model.specs.Moves.{plus_one_capped, ban_of, is_banned, is_near, JailAndSerial, counts, new_ban, is_stale}
 
--- a failure is counted: it goes in, and what is no longer late goes
+-- a failure is counted: it goes in, and what is no longer recent goes
 abbrev pub counted_now : ℕ → Failure → JailNow → JailNow
 counted_now at f j = record j {
-  total_failed = up_64 j.total_failed;
+  total_failed = plus_one_capped j.total_failed;
   moment = at;
-  failures = filter (is_late at j.definition.findtime) (placed comes_before f j.failures);
+  failures = filter (is_recent at j.definition.findtime) (placed comes_before f j.failures);
 }
 
 -- what the ban shows that a found failure begins: the lines of the failures that led to it, which stand by time
@@ -27,25 +27,25 @@ shown_now at f j = matches_of j.definition.maxmatches (filter (is_near j.definit
 -- a ban begins, and the address's failures go
 abbrev pub begun_now : ℕ → ℕ → ℕ → Addr → ℕ → JailNow → JailNow
 begun_now at word serial addr failures j = record j {
-  total_banned = up_64 j.total_banned;
+  total_banned = plus_one_capped j.total_banned;
   failures = filter (λ f. not (is_of addr f)) j.failures;
   bans = j.bans ++ new_ban j.definition j.past at word serial addr failures ∷ [];
 }
 
 -- after a failure was counted: its address is banned where it is full
-abbrev pub judged_now : ℕ → ℕ → ℕ → Failure → JailNow → Out JailNow
+abbrev pub judged_now : ℕ → ℕ → ℕ → Failure → JailNow → JailAndSerial JailNow
 judged_now at word serial f j =
     cond (is_full j.definition.findtime j.definition.maxretry f.addr j.failures)
     (record { jail = begun_now at word serial f.addr (length (filter (is_near j.definition.findtime f) j.failures)) j; next = suc serial })
     (record { jail = j; next = serial })
 
 -- a found failure: it may count, and its address is then banned where it is full
-abbrev pub found_now : ℕ → ℕ → ℕ → Failure → JailNow → Out JailNow
+abbrev pub found_now : ℕ → ℕ → ℕ → Failure → JailNow → JailAndSerial JailNow
 found_now at word serial f j =
     cond (counts at j.definition j.bans f) (judged_now at word serial f (counted_now at f j)) (record { jail = j; next = serial })
 
 -- a ban by command, of an address that is not banned
-abbrev pub banned_now : ℕ → ℕ → ℕ → Addr → JailNow → Out JailNow
+abbrev pub banned_now : ℕ → ℕ → ℕ → Addr → JailNow → JailAndSerial JailNow
 banned_now at word serial addr j =
     cond (is_banned addr j.bans) (record { jail = j; next = serial }) (record { jail = begun_now at word serial addr 0 j; next = suc serial })
 

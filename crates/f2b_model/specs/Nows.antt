@@ -7,8 +7,8 @@ use Rattle.f2b_base.specs.declared.ban.Failure.{Failure}
 use Rattle.f2b_base.specs.declared.ban.Past.{Past}
 use Rattle.f2b_model.specs.declared.jail_now.JailNow.{JailNow}
 use Rattle.f2b_model.specs.Lists.{in_order}
-use Rattle.f2b_model.specs.Full.{is_late}
-use Rattle.f2b_model.specs.State.{Jail, World, world_map, JailsState, open_of, active_of, kept_of}
+use Rattle.f2b_model.specs.Full.{is_recent}
+use Rattle.f2b_model.specs.State.{Jail, JailsOf, map_jails, JailsState, open_of, active_of, kept_of}
 
 -- IPv4 before IPv6, then by number
 abbrev pub addr_before : Addr → Addr → Bool
@@ -23,9 +23,9 @@ comes_before f g = addr_before f.addr g.addr || (not (addr_before g.addr f.addr)
 
 -- the middle state
 abbrev pub JailsNow : Type 0
-JailsNow = World JailNow
+JailsNow = JailsOf JailNow
 
--- what still matters of a jail: late open failures in order, active bans, kept ends
+-- what still matters of a jail: recent open failures in order, active bans, kept ends
 abbrev pub jail_now : Jail → JailNow
 jail_now j = record {
   definition = j.definition;
@@ -34,14 +34,14 @@ jail_now j = record {
   total_banned = j.total_banned;
   moment = j.moment;
   watches = j.watches;
-  failures = in_order comes_before (filter (is_late j.moment j.definition.findtime) (open_of j.failures));
+  failures = in_order comes_before (filter (is_recent j.moment j.definition.findtime) (open_of j.failures));
   bans = active_of j.bans;
   past = kept_of j.endings;
 }
 
 -- the middle state of a state
 abbrev pub jails_now_of : JailsState → JailsNow
-jails_now_of s = world_map jail_now s
+jails_now_of s = map_jails jail_now s
 
 -- the jail whose lists hold just what still matters
 abbrev pub jail_from : JailNow → Jail
@@ -59,4 +59,4 @@ jail_from j = record {
 
 -- the state of a middle state
 abbrev pub jails_from : JailsNow → JailsState
-jails_from n = world_map jail_from n
+jails_from n = map_jails jail_from n

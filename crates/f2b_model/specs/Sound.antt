@@ -48,8 +48,8 @@ IsRisingEnds [] = Unit {0}
 IsRisingEnds (p ∷ ps) = AllOf (λ (q : Past). p.end ≤ q.end) ps × IsRisingEnds ps
 
 -- over, and before each active ban's end
-abbrev pub IsOver : ℕ → List Ban → Past → Type 0
-IsOver at bs p = (p.end ≤ at) × AllOf (λ (b : Ban). IsNotBefore p.end b.until) bs
+abbrev pub IsPastBan : ℕ → List Ban → Past → Type 0
+IsPastBan at bs p = (p.end ≤ at) × AllOf (λ (b : Ban). IsNotBefore p.end b.until) bs
 
 -- the open failures, the active bans and the kept past entries of a jail, beside its moment
 pub record IsOrderly (at moment : ℕ) (fs : List Failure) (bs : List Ban) (ps : List Past) : Type 0 where
@@ -57,7 +57,7 @@ pub record IsOrderly (at moment : ℕ) (fs : List Failure) (bs : List Ban) (ps :
   pub not_banned : AllOf (λ (f : Failure). is_banned f.addr bs ≡ false) fs
   pub once : IsOnceEach bs
   pub rising : IsRisingEnds ps
-  pub over : AllOf (IsOver at bs) ps
+  pub over : AllOf (IsPastBan at bs) ps
 
 -- a sound jail
 pub record IsGoodJail (at : ℕ) (j : Jail) : Type 0 where
@@ -108,8 +108,8 @@ pub record IsNumbered (next : ℕ) (bs : List Ban) : Type 0 where
 
 -- The jails are sound, and the lanes are for the bans that are active. `base` says who was banned in a lane before the first job.
 pub record IsSoundFrom (base : LaneId → Addr → Bool) (s : State) : Type 0 where
-  pub jails : AreSoundJails s.world
-  pub lanes : AreSoundLanes base (held moves s.world) s.lanes
+  pub jails : AreSoundJails s.jails
+  pub lanes : AreSoundLanes base (held moves s.jails) s.lanes
 
 -- a sound state
 pub record IsSound (s : State) : Type 0 where

@@ -27,7 +27,7 @@ checks_left (job ∷ jobs) = (if has_check job.kind then 1 else 0) + checks_left
 
 -- the pending jobs once the bans that are due at a reading have ended
 abbrev pub jobs_then : ℕ → Now → List Job
-jobs_then now n = n.lanes.jobs ++ numbered n.lanes.next_job (max n.world.at now) (told_orders n.lanes.up (told_each (told_ends moves_now (max n.world.at now)) n.world.jails))
+jobs_then now n = n.lanes.jobs ++ numbered n.lanes.next_job (max n.jails.at now) (told_orders n.lanes.up (told_each (told_ends moves_now (max n.jails.at now)) n.jails.jails))
 
 -- a try of a job did not start
 abbrev pub unstarted : ℕ → ℕ → ℕ → Input

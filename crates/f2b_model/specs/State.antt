@@ -37,8 +37,8 @@ pub record Jail : Type 0 where
   -- all ends of bans, in order of ending
   pub endings : List Ended
 
--- what stands beside the jails, over any kind of jail
-pub record World (J : Type 0) : Type 0 where
+-- the jails, of any kind, and what stands beside them
+pub record JailsOf (J : Type 0) : Type 0 where
   -- the greatest moment so far
   pub at : ℕ
   -- how many seconds a ban that is over still counts
@@ -47,13 +47,13 @@ pub record World (J : Type 0) : Type 0 where
   -- the serial of the ban to come
   pub next_ban : ℕ
 
--- a world with each jail changed
-abbrev pub world_map : {J K : Type 0} → (J → K) → World J → World K
-world_map f w = record { at = w.at; purge = w.purge; jails = map f w.jails; next_ban = w.next_ban }
+-- the same with each jail changed
+abbrev pub map_jails : {J K : Type 0} → (J → K) → JailsOf J → JailsOf K
+map_jails f w = record { at = w.at; purge = w.purge; jails = map f w.jails; next_ban = w.next_ban }
 
 -- the state of the jails: their failures and bans, and how far their logs are followed
 abbrev pub JailsState : Type 0
-JailsState = World Jail
+JailsState = JailsOf Jail
 
 -- the failures that are open
 abbrev pub open_of : List Counted → List Failure

@@ -17,22 +17,22 @@ use Rattle.f2b_base.specs.declared.input.What.TheVariants.{Tick, Read, Ended, Co
 use Rattle.f2b_model.specs.Lists.{in_order}
 use Rattle.f2b_base.specs.Addresses.{same_addr}
 use Rattle.f2b_model.specs.Watches.{is_watched}
-use Rattle.f2b_model.specs.State.{Jail, World, JailsState, active_of}
+use Rattle.f2b_model.specs.State.{Jail, JailsOf, JailsState, active_of}
 use Rattle.f2b_model.specs.declared.jail_now.JailNow.{JailNow}
 use Rattle.f2b_model.specs.Nows.{JailsNow}
-use Rattle.f2b_model.specs.Moves.{Out, shown, found, banned, ended, dropped, limited, spanned, ignored, followed, kept, fresh}
+use Rattle.f2b_model.specs.Moves.{JailAndSerial, shown, found, banned, ended, dropped, limited, spanned, ignored, followed, kept, fresh}
 use Rattle.f2b_model.specs.NowMoves.{shown_now, found_now, banned_now, ended_now, dropped_now, limited_now, followed_now, kept_now, fresh_now}
 
 -- the moves on one kind of jail
-pub record Moves (J : Type 0) : Type 0 where
+pub record JailOps (J : Type 0) : Type 0 where
   pub definition : J → JailDef
   pub active : J → List Ban
   pub watches : J → List WatchView
   -- at: the lines of the ban that a found failure begins
   pub shown : ℕ → Failure → J → List ℕ
   -- at, word, next serial
-  pub found : ℕ → ℕ → ℕ → Failure → J → Out J
-  pub banned : ℕ → ℕ → ℕ → Addr → J → Out J
+  pub found : ℕ → ℕ → ℕ → Failure → J → JailAndSerial J
+  pub banned : ℕ → ℕ → ℕ → Addr → J → JailAndSerial J
   -- the end of an address's ban at a moment
   pub ended : Addr → ℕ → J → J
   -- at, purge
@@ -49,7 +49,7 @@ pub record Moves (J : Type 0) : Type 0 where
   pub fresh : JailDef → J
 
 -- the moves on jails with whole lists
-abbrev pub moves : Moves Jail
+abbrev pub moves : JailOps Jail
 moves = record {
   definition = λ j. j.definition;
   active = λ j. active_of j.bans;
@@ -69,7 +69,7 @@ moves = record {
 }
 
 -- the moves on their middle states
-abbrev pub moves_now : Moves JailNow
+abbrev pub moves_now : JailOps JailNow
 moves_now = record {
   definition = λ j. j.definition;
   active = λ j. j.bans;
@@ -121,19 +121,19 @@ is_meant_jail None d = true
 is_meant_jail (Some name) d = bytes_eq d.name name
 
 -- jails and the next serial
-pub record Outs (J : Type 0) : Type 0 where
+pub record JailsAndSerial (J : Type 0) : Type 0 where
   pub jails : List J
   pub next : ℕ
 
--- a world with these
-abbrev pub with_outs : {J : Type 0} → World J → Outs J → World J
-with_outs w o = record w { jails = o.jails; next_ban = o.next }
+-- with these jails, and this next serial
+abbrev pub with_serial : {J : Type 0} → JailsOf J → JailsAndSerial J → JailsOf J
+with_serial w o = record w { jails = o.jails; next_ban = o.next }
 
 -- whether the serials are used up: nothing happens any more
-abbrev pub is_spent : {J : Type 0} → World J → Bool
+abbrev pub is_spent : {J : Type 0} → JailsOf J → Bool
 is_spent w = nat_lt (2 ^ 62) w.next_ban
 
-module _ {J : Type 0} (m : Moves J) where
+module _ {J : Type 0} (m : JailOps J) where
   -- the name of a jail
   abbrev pub named : J → List ℕ
   named j = (m.definition j).name
@@ -156,7 +156,7 @@ module _ {J : Type 0} (m : Moves J) where
   unbanned at addrs j = end_all (λ b. at) (filter (is_meant addrs) (m.active j)) j
 
   -- the jails after a move on the first one of that name, if there is one
-  abbrev pub in_jail : List ℕ → (ℕ → J → Out J) → ℕ → List J → Outs J
+  abbrev pub in_jail : List ℕ → (ℕ → J → JailAndSerial J) → ℕ → List J → JailsAndSerial J
   in_jail name f n [] = record { jails = []; next = n }
   in_jail name f n (j ∷ js) =
       let rest = in_jail name f n js in
@@ -164,12 +164,12 @@ module _ {J : Type 0} (m : Moves J) where
       (record { jails = (f n j).jail ∷ js; next = (f n j).next })
       (record { jails = j ∷ rest.jails; next = rest.next })
 
-  -- a world after a move on the jail of a name
-  abbrev pub at_jail : List ℕ → (ℕ → J → Out J) → World J → World J
-  at_jail name f w = with_outs w (in_jail name f w.next_ban w.jails)
+  -- after a move on the jail of a name
+  abbrev pub at_jail : List ℕ → (ℕ → J → JailAndSerial J) → JailsOf J → JailsOf J
+  at_jail name f w = with_serial w (in_jail name f w.next_ban w.jails)
 
   -- a move that takes no serial
-  abbrev pub alone : (J → J) → ℕ → J → Out J
+  abbrev pub alone : (J → J) → ℕ → J → JailAndSerial J
   alone f n j = record { jail = f j; next = n }
 
   -- the first jail of a name
@@ -183,24 +183,24 @@ module _ {J : Type 0} (m : Moves J) where
   watches_path path (Some j) = is_watched path (m.watches j)
 
   -- whether the jail of a name watches a path
-  abbrev pub is_followed : List ℕ → List ℕ → World J → Bool
+  abbrev pub is_followed : List ℕ → List ℕ → JailsOf J → Bool
   is_followed name path w = watches_path path (find_jail name w.jails)
 
-  -- a world where a log of a jail was followed to a place
-  abbrev pub followed_to : List ℕ → List ℕ → Place → World J → World J
+  -- a log of a jail was followed to a place
+  abbrev pub followed_to : List ℕ → List ℕ → Place → JailsOf J → JailsOf J
   followed_to name path place w = at_jail name (alone (m.followed path place)) w
 
   -- failures that were found in a jail, in their order
-  abbrev pub found_all : ℕ → List ℕ → List Failure → World J → World J
+  abbrev pub found_all : ℕ → List ℕ → List Failure → JailsOf J → JailsOf J
   found_all word name [] w = w
   found_all word name (f ∷ fs) w = found_all word name fs (at_jail name (λ n j. m.found w.at word n f j) w)
 
   -- what was read of a log: its place is set, and the failures are taken, where the jail watches it
-  abbrev pub read_all : ℕ → List ℕ → List ℕ → Place → List Failure → World J → World J
+  abbrev pub read_all : ℕ → List ℕ → List ℕ → Place → List Failure → JailsOf J → JailsOf J
   read_all word name path place fs w = cond (is_followed name path w) (found_all word name fs (followed_to name path place w)) w
 
   -- bans by command in a jail, in their order
-  abbrev pub ban_all : ℕ → List ℕ → List Addr → World J → World J
+  abbrev pub ban_all : ℕ → List ℕ → List Addr → JailsOf J → JailsOf J
   ban_all word name [] w = w
   ban_all word name (addr ∷ addrs) w = ban_all word name addrs (at_jail name (λ n j. m.banned w.at word n addr j) w)
 
@@ -215,7 +215,7 @@ module _ {J : Type 0} (m : Moves J) where
 
   -- What happened is done. An attempt is one failure now. The three inputs at the end speak of jobs and of stopping, which are
   -- no part of the jails.
-  abbrev pub done : ℕ → What → World J → World J
+  abbrev pub done : ℕ → What → JailsOf J → JailsOf J
   done word Tick w = w
   done word (Read jail path place fs) w = read_all word jail path place fs w
   done word (BanThese jail addrs) w = ban_all word jail addrs w
@@ -231,31 +231,31 @@ module _ {J : Type 0} (m : Moves J) where
   done word Stop w = w
   done word (CheckFailed job outcome) w = w
 
-  -- a world with each jail changed
-  abbrev pub each_jail : (J → J) → World J → World J
+  -- each jail changed
+  abbrev pub each_jail : (J → J) → JailsOf J → JailsOf J
   each_jail f w = record w { jails = map f w.jails }
 
-  -- a world at a reading: its moment never falls
-  abbrev pub raised : ℕ → World J → World J
+  -- at a reading: the moment never falls
+  abbrev pub raised : ℕ → JailsOf J → JailsOf J
   raised secs w = record w { at = max w.at secs }
 
-  -- a world at a reading, once the bans that are due have ended
-  abbrev pub at_reading : ℕ → World J → World J
+  -- at a reading, once the bans that are due have ended
+  abbrev pub at_reading : ℕ → JailsOf J → JailsOf J
   at_reading secs w = let now = raised secs w in each_jail (ended_by_time now.at) now
 
   -- The step: the moment is raised, due bans end, what happened is done, and what is over for long is dropped.
-  abbrev pub step_by : World J → Input → World J
+  abbrev pub step_by : JailsOf J → Input → JailsOf J
   step_by w input =
       cond (is_spent w) w (
       let after = done input.word input.what (at_reading input.secs w) in
       each_jail (m.dropped after.at after.purge) after)
 
-  -- the world of a first configuration: nothing happened yet
-  abbrev pub first : Defs → World J
+  -- the jails of a first configuration: nothing happened yet
+  abbrev pub first : Defs → JailsOf J
   first defs = record { at = 0; purge = defs.purge; jails = map m.fresh defs.jails; next_ban = 0 }
 
   -- whether some active ban's end has come
-  abbrev pub is_ban_due : ℕ → World J → Bool
+  abbrev pub is_ban_due : ℕ → JailsOf J → Bool
   is_ban_due at w = list_any (λ j. list_any (is_due at) (m.active j)) w.jails
 
 -- the step of a state

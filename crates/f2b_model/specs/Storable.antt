@@ -230,14 +230,14 @@ pub record AreStorableLanes (l : Lanes (List Job)) : Type 0 where
 -- before it makes a job: a step makes one for each lane and ban, and only memory bounds how many bans a jail has. The serial of the ban
 -- to come keeps its bound by itself, since an input begins at most one ban for each value in its list.
 pub record IsStorable (n : Now) : Type 0 where
-  pub at : n.world.at ≤ last_moment
-  pub purge : n.world.purge ≤ longest_span
-  pub jails : AllOf IsStorableJail n.world.jails
-  pub names : AreDistinct bytes_eq (names moves_now n.world.jails)
-  pub most : length n.world.jails ≤ 256
-  pub patterns : AreFewPatterns (map moves_now.definition n.world.jails)
-  pub numbered : AllOf (λ (j : JailNow). IsNumbered n.world.next_ban j.bans) n.world.jails
-  pub next_ban : n.world.next_ban ≤ most_numbers
+  pub at : n.jails.at ≤ last_moment
+  pub purge : n.jails.purge ≤ longest_span
+  pub jails : AllOf IsStorableJail n.jails.jails
+  pub names : AreDistinct bytes_eq (names moves_now n.jails.jails)
+  pub most : length n.jails.jails ≤ 256
+  pub patterns : AreFewPatterns (map moves_now.definition n.jails.jails)
+  pub numbered : AllOf (λ (j : JailNow). IsNumbered n.jails.next_ban j.bans) n.jails.jails
+  pub next_ban : n.jails.next_ban ≤ most_numbers
   pub lanes : AreStorableLanes n.lanes
   pub by_id : AreById 0 n.lanes.jobs n.lanes.next_job
   pub next_job : n.lanes.next_job ≤ most_numbers

@@ -10,7 +10,7 @@ use Rattle.f2b_base.specs.declared.jail.JailDef.{JailDef}
 use Rattle.f2b_base.specs.declared.view.JailView.{JailView}
 use Rattle.f2b_base.specs.declared.view.View.{View}
 use Rattle.f2b_model.specs.declared.jail_now.JailNow.{JailNow}
-use Rattle.f2b_model.specs.Full.{is_full, is_late}
+use Rattle.f2b_model.specs.Full.{is_full, is_recent}
 use Rattle.f2b_model.specs.Laws.{AreWatched}
 use Rattle.f2b_model.specs.Lists.{AllOf}
 use Rattle.f2b_model.specs.Storable.{IsStorable}
@@ -22,14 +22,14 @@ use Rattle.f2b_model.specs.Whole.{Now}
 pub record IsStorableView (v : View) : Type 0 where
   pub now : IsStorable (gathered v)
   pub named : map (λ (j : JailView). j.name) v.jails ≡ map (λ (d : JailDef). d.name) v.defs.jails
-  pub watched : AreWatched (gathered v).world
+  pub watched : AreWatched (gathered v).jails
   pub times : AllOf (λ (j : JailView). AllOf (λ (f : Failure). f.time ≤ v.at) j.failures) v.jails
 
 -- ---- what is taken up
 
 -- whether a failure can still matter to a jail whose last one was counted at a moment: it is no later, and not too old
 abbrev pub can_matter : ℕ → ℕ → Failure → Bool
-can_matter moment findtime f = nat_le f.time moment && is_late moment findtime f
+can_matter moment findtime f = nat_le f.time moment && is_recent moment findtime f
 
 -- the failures but for those of addresses that they fill: such an address would have been banned
 abbrev pub unfilled : ℕ → ℕ → List Failure → List Failure
@@ -62,4 +62,4 @@ jails_taken_up at (d ∷ ds) (v ∷ vs) = jail_taken_up at d v ∷ jails_taken_u
 
 -- and of a view
 abbrev pub taken_up : View → Now
-taken_up v = record (gathered v) { world = record (gathered v).world { jails = jails_taken_up v.at v.defs.jails v.jails } }
+taken_up v = record (gathered v) { jails = record (gathered v).jails { jails = jails_taken_up v.at v.defs.jails v.jails } }

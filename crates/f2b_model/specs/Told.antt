@@ -9,9 +9,9 @@ use Rattle.f2b_base.specs.declared.input.What.TheVariants.{Read, Ban as BanThese
 use Rattle.f2b_model.specs.declared.happening.Happening.{Happening}
 use Rattle.f2b_model.specs.declared.happening.Happening.TheVariants.{Counts, Begins, Ends}
 use Rattle.f2b_model.specs.Lists.{in_order}
-use Rattle.f2b_model.specs.State.{World}
+use Rattle.f2b_model.specs.State.{JailsOf}
 use Rattle.f2b_model.specs.Moves.{counts}
-use Rattle.f2b_model.specs.Steps.{Moves, named, is_spent, is_due, ends_before, is_meant, is_meant_jail, at_jail, is_followed, followed_to, at_reading}
+use Rattle.f2b_model.specs.Steps.{JailOps, named, is_spent, is_due, ends_before, is_meant, is_meant_jail, at_jail, is_followed, followed_to, at_reading}
 
 -- what each jail tells, jail by jail
 abbrev pub told_each : {J : Type 0} → (J → List Happening) → List J → List Happening
@@ -22,7 +22,7 @@ told_each t (j ∷ js) = t j ++ told_each t js
 abbrev pub begins : List ℕ → List ℕ → Ban → Happening
 begins lines name ban = Begins name ban lines
 
-module _ {J : Type 0} (m : Moves J) where
+module _ {J : Type 0} (m : JailOps J) where
   -- the bans that began in a move, which show these lines: those behind the ones that were active before
   abbrev pub told_new : List ℕ → J → J → List Happening
   told_new lines old new = map (begins lines (named m new)) (drop (length (m.active old)) (m.active new))
@@ -48,20 +48,20 @@ module _ {J : Type 0} (m : Moves J) where
   told_in name t [] = []
   told_in name t (j ∷ js) = cond (bytes_eq (m.definition j).name name) (t j) (told_in name t js)
 
-  -- found failures, each in the world after those before
-  abbrev pub told_all_found : ℕ → List ℕ → List Failure → World J → List Happening
+  -- found failures, each told of the jails after those before
+  abbrev pub told_all_found : ℕ → List ℕ → List Failure → JailsOf J → List Happening
   told_all_found word name [] w = []
   told_all_found word name (f ∷ fs) w =
       told_in name (told_found w.at word f w.next_ban) w.jails ++ told_all_found word name fs (at_jail m name (λ n j. m.found w.at word n f j) w)
 
-  -- bans by command, each in the world after those before
-  abbrev pub told_all_banned : ℕ → List ℕ → List Addr → World J → List Happening
+  -- bans by command, each told of the jails after those before
+  abbrev pub told_all_banned : ℕ → List ℕ → List Addr → JailsOf J → List Happening
   told_all_banned word name [] w = []
   told_all_banned word name (addr ∷ addrs) w =
       told_in name (told_banned w.at word addr w.next_ban) w.jails ++ told_all_banned word name addrs (at_jail m name (λ n j. m.banned w.at word n addr j) w)
 
   -- what happened. A configuration tells nothing, also of the bans that go with a lost jail
-  abbrev pub told_done : ℕ → What → World J → List Happening
+  abbrev pub told_done : ℕ → What → JailsOf J → List Happening
   told_done word (Read jail path place fs) w = cond (is_followed m jail path w) (told_all_found word jail fs (followed_to m jail path place w)) []
   told_done word (Attempt jail addr) w = told_all_found word jail (record { addr = addr; time = w.at; line = [] } ∷ []) w
   told_done word (BanThese jail addrs) w = told_all_banned word jail addrs w
@@ -69,7 +69,7 @@ module _ {J : Type 0} (m : Moves J) where
   told_done word _ w = []
 
   -- what a step tells: ends by time, then what happened
-  abbrev pub jails_told : World J → Input → List Happening
+  abbrev pub jails_told : JailsOf J → Input → List Happening
   jails_told w input =
       cond (is_spent w) [] (
       told_each (told_ends (max w.at input.secs)) w.jails ++ told_done input.word input.what (at_reading m input.secs w))

@@ -37,22 +37,22 @@ touches lane addr o = same_lane o.lane lane && concerns o.addr addr
 
 -- whether the address is banned in the lane after a job of that kind, or none where such a job may not come: Ban and Reban come
 -- where the address is not banned, Unban where it is, Start where it is not; a Stop leaves nobody banned
-abbrev pub turn : JobKind → Bool → Option Bool
-turn Ban false = Some true
-turn Ban true = None
-turn Reban false = Some true
-turn Reban true = None
-turn Unban true = Some false
-turn Unban false = None
-turn Start false = Some false
-turn Start true = None
-turn Stop false = Some false
-turn Stop true = Some false
+abbrev pub banned_after : JobKind → Bool → Option Bool
+banned_after Ban false = Some true
+banned_after Ban true = None
+banned_after Reban false = Some true
+banned_after Reban true = None
+banned_after Unban true = Some false
+banned_after Unban false = None
+banned_after Start false = Some false
+banned_after Start true = None
+banned_after Stop false = Some false
+banned_after Stop true = Some false
 
 -- whether the address is banned in the lane after these orders, where `b` says whether it was so before
 abbrev pub follow : LaneId → Addr → Bool → List Order → Option Bool
 follow lane addr b [] = Some b
-follow lane addr b (o ∷ os) = if touches lane addr o then option_and_then (λ c. follow lane addr c os) (turn o.kind b) else follow lane addr b os
+follow lane addr b (o ∷ os) = if touches lane addr o then option_and_then (λ c. follow lane addr c os) (banned_after o.kind b) else follow lane addr b os
 
 -- the kinds of the jobs of a lane that are of an address or, as Start and Stop, of each, in order
 abbrev pub kinds_of : LaneId → Addr → List Job → List JobKind

@@ -24,14 +24,14 @@ jail_view j = record {
 -- the view of a middle state, with the definitions in one list and the rest of the jails in another
 abbrev pub spread : Now → View
 spread n = record {
-  at = n.world.at;
-  defs = record { purge = n.world.purge; jails = map (λ (j : JailNow). j.definition) n.world.jails };
+  at = n.jails.at;
+  defs = record { purge = n.jails.purge; jails = map (λ (j : JailNow). j.definition) n.jails.jails };
   stopping = n.lanes.stopping;
   up = n.lanes.up;
-  jails = map jail_view n.world.jails;
+  jails = map jail_view n.jails.jails;
   jobs = n.lanes.jobs;
   next_job = n.lanes.next_job;
-  next_ban = n.world.next_ban;
+  next_ban = n.jails.next_ban;
 }
 
 -- a jail of its definition and what a view shows of it
@@ -57,7 +57,7 @@ jails_of (d ∷ ds) (v ∷ vs) = jail_of d v ∷ jails_of ds vs
 -- the middle state of a view
 abbrev pub gathered : View → Now
 gathered v = record {
-  world = record { at = v.at; purge = v.defs.purge; jails = jails_of v.defs.jails v.jails; next_ban = v.next_ban };
+  jails = record { at = v.at; purge = v.defs.purge; jails = jails_of v.defs.jails v.jails; next_ban = v.next_ban };
   lanes = record { up = v.up; stopping = v.stopping; jobs = v.jobs; next_job = v.next_job };
 }
 

@@ -5,7 +5,7 @@ use Rattle.std.proofs.lemmas.Bool.Decides.{nat_tests}
 use Rattle.f2b_base.specs.declared.addr.Addr.{Addr}
 use Rattle.f2b_base.specs.declared.addr.Addr.TheVariants.{V4, V6}
 use Rattle.f2b_base.specs.declared.ban.Failure.{Failure}
-use Rattle.f2b_model.specs.Full.{IsFull, is_of, is_late}
+use Rattle.f2b_model.specs.Full.{IsFull, is_of, is_recent}
 use Rattle.f2b_model.specs.Lists.{AllOf, placed, in_order, IsInOrder}
 use Rattle.f2b_model.specs.Nows.{addr_before, comes_before}
 use Rattle.f2b_model.specs.Stands.{StandsFor}
@@ -16,7 +16,7 @@ use Rattle.f2b_model.proofs.MarkLemmas.{failures_order}
 use Rattle.f2b_model.proofs.OrderlyLemmas.{all_of-filter}
 use Rattle.f2b_model.proofs.SoundLemmas.{same_addr_true}
 use Rattle.f2b_model.proofs.StandLemmas.{stands_added, stands_full}
-use Rattle.fail_window.specs.Opened.{IsLate, IsTidy}
+use Rattle.fail_window.specs.Opened.{IsRecent, IsTidy}
 use Rattle.fail_window.specs.Times.{by_time, IsRunAt}
 use Rattle.fail_window.proofs.PlaceLemmas.{time_order}
 use Rattle.fail_window.proofs.RunLemmas.{full_by_run, run_without}
@@ -42,15 +42,15 @@ all_placed : {A : Type 0} (P : A → Type 0) (less : A → A → Bool) (x : A) (
 all_placed P less x [] h a = (h, tt)
 all_placed P less x (y ∷ ys) h a = by_test (less x y) _ (λ e. rw e (h, a)) (λ e. rw e (a.0, all_placed P less x ys h a.1))
 
-all_late : (now findtime : ℕ) (fs : List Failure) → AllOf (λ (f : Failure). f.time ≤ now) fs → AllOf (IsLate now findtime) (filter (is_late now findtime) fs)
-all_late now findtime [] a = tt
-all_late now findtime (f ∷ fs) a =
-    by_test (is_late now findtime f) _
-    (λ e. rw e ((a.0, lt_true now (f.time + 2 * findtime) e), all_late now findtime fs a.1))
-    (λ e. rw e (all_late now findtime fs a.1))
+all_recent : (now findtime : ℕ) (fs : List Failure) → AllOf (λ (f : Failure). f.time ≤ now) fs → AllOf (IsRecent now findtime) (filter (is_recent now findtime) fs)
+all_recent now findtime [] a = tt
+all_recent now findtime (f ∷ fs) a =
+    by_test (is_recent now findtime f) _
+    (λ e. rw e ((a.0, lt_true now (f.time + 2 * findtime) e), all_recent now findtime fs a.1))
+    (λ e. rw e (all_recent now findtime fs a.1))
 
-pub late_order : (now findtime : ℕ) (fs xs : List Failure) → IsInOrder by_time fs → xs ≡ filter (is_late now findtime) fs → IsInOrder by_time xs
-late_order now findtime fs xs o left = rw left (filter_in_order by_time time_order (is_late now findtime) fs o)
+pub recent_order : (now findtime : ℕ) (fs xs : List Failure) → IsInOrder by_time fs → xs ≡ filter (is_recent now findtime) fs → IsInOrder by_time xs
+recent_order now findtime fs xs o left = rw left (filter_in_order by_time time_order (is_recent now findtime) fs o)
 
 -- one more failure went in, and the answer is right
 pub record IsAdded (findtime maxretry now : ℕ) (fs ys : List Failure) (f : Failure) (full : Bool) : Type 0 where
@@ -59,48 +59,48 @@ pub record IsAdded (findtime maxretry now : ℕ) (fs ys : List Failure) (f : Fai
   pub tells : (last : ℕ) (whole : List Failure) → StandsFor last findtime fs whole → last ≤ now → (IsFull findtime maxretry f.addr whole → ⊥)
       → (full ≡ true) ↔ IsFull findtime maxretry f.addr (whole ++ f ∷ [])
 
--- `fs` are the failures before, `xs` those of them that are still late, and `ys` the failures after
+-- `fs` are the failures before, `xs` those of them that are still recent, and `ys` the failures after
 module _ (findtime maxretry now p : ℕ) (fs xs ys : List Failure) (f : Failure) (tidy : IsTidy findtime maxretry fs)
     (own : AllOf (λ (g : Failure). is_of f.addr g ≡ true) fs) (not_later : f.time ≤ now) (recent : now < f.time + findtime)
-    (left : xs ≡ filter (is_late now findtime) fs) (place : placed by_time f xs ≡ insert xs p f) (put : ys ≡ insert xs p f) where
-  after_is : ys ≡ placed by_time f (filter (is_late now findtime) fs)
+    (left : xs ≡ filter (is_recent now findtime) fs) (place : placed by_time f xs ≡ insert xs p f) (put : ys ≡ insert xs p f) where
+  after_is : ys ≡ placed by_time f (filter (is_recent now findtime) fs)
   after_is = put ∙ sym place ∙ ap (λ r. placed by_time f r) left
 
-  after : ys ≡ filter (is_late now findtime) (placed comes_before f fs)
+  after : ys ≡ filter (is_recent now findtime) (placed comes_before f fs)
   after =
-      let late : is_late now findtime f ≡ true = true_lt now (f.time + 2 * findtime) (omega arith) in
+      let recent : is_recent now findtime f ≡ true = true_lt now (f.time + 2 * findtime) (omega arith) in
       after_is
-      ∙ sym (placed_filter by_time time_order (is_late now findtime) f late fs tidy.in_order)
-      ∙ ap (λ r. filter (is_late now findtime) r) (sym (placed_by_time f fs own))
+      ∙ sym (placed_filter by_time time_order (is_recent now findtime) f recent fs tidy.in_order)
+      ∙ ap (λ r. filter (is_recent now findtime) r) (sym (placed_by_time f fs own))
 
   after_order : IsInOrder by_time ys
   after_order =
-      rw after_is (placed_in_order by_time time_order f _ (filter_in_order by_time time_order (is_late now findtime) fs tidy.in_order))
+      rw after_is (placed_in_order by_time time_order f _ (filter_in_order by_time time_order (is_recent now findtime) fs tidy.in_order))
 
   after_own : AllOf (λ (g : Failure). is_of f.addr g ≡ true) ys
   after_own =
       rw after_is (all_placed (λ (g : Failure). is_of f.addr g ≡ true) by_time f _ (same_addr_same f.addr)
-      (all_of-filter (λ (g : Failure). is_of f.addr g ≡ true) (is_late now findtime) fs own))
+      (all_of-filter (λ (g : Failure). is_of f.addr g ≡ true) (is_recent now findtime) fs own))
 
   after_tidy : AllOf (λ (g : Failure). g.time ≤ now) fs → IsTidy findtime maxretry ys
   after_tidy forward = record {
     positive = tidy.positive;
     in_order = after_order;
     of_one = (f.addr, after_own);
-    late = (now, rw after_is (all_placed (IsLate now findtime) by_time f _ (not_later, omega arith) (all_late now findtime fs forward)));
+    recent = (now, rw after_is (all_placed (IsRecent now findtime) by_time f _ (not_later, omega arith) (all_recent now findtime fs forward)));
   }
 
   after_stands : (last : ℕ) (whole : List Failure) → StandsFor last findtime fs whole → last ≤ now → StandsFor now findtime ys (whole ++ f ∷ [])
   after_stands last whole s le = (let P : List Failure → Type 0 = λ r. StandsFor now findtime r (whole ++ f ∷ []) in
       subst P (sym after) (stands_added last now findtime fs whole f s le recent))
 
-  -- what is full by the late ones alone was full
+  -- what is full by the recent ones alone was full
   rest_full : (last : ℕ) (whole : List Failure) → StandsFor last findtime fs whole → IsFull findtime maxretry f.addr xs → IsFull findtime maxretry f.addr whole
   rest_full last whole s full =
-      let by_left : IsFull findtime maxretry f.addr (filter (is_late now findtime) fs) = rw left at full in
-      let before = full_of_part (is_late now findtime) findtime maxretry f.addr fs by_left in
-      let shown : IsFull findtime maxretry f.addr (in_order comes_before (filter (is_late last findtime) whole)) = rw (s.is) at before in
-      full_of_part (is_late last findtime) findtime maxretry f.addr whole ((full_in_order comes_before failures_order findtime maxretry f.addr (filter (is_late last findtime) whole)).1 shown)
+      let by_left : IsFull findtime maxretry f.addr (filter (is_recent now findtime) fs) = rw left at full in
+      let before = full_of_part (is_recent now findtime) findtime maxretry f.addr fs by_left in
+      let shown : IsFull findtime maxretry f.addr (in_order comes_before (filter (is_recent last findtime) whole)) = rw (s.is) at before in
+      full_of_part (is_recent last findtime) findtime maxretry f.addr whole ((full_in_order comes_before failures_order findtime maxretry f.addr (filter (is_recent last findtime) whole)).1 shown)
 
   after_tells : (full : Bool) → p ≤ length xs
       → (full ≡ true → (k : ℕ) × IsRunAt findtime maxretry ys k)
@@ -116,10 +116,10 @@ module _ (findtime maxretry now p : ℕ) (fs xs ys : List Failure) (f : Failure)
       )
     where
       rest_order : IsInOrder by_time xs
-      rest_order = late_order now findtime fs xs tidy.in_order left
+      rest_order = recent_order now findtime fs xs tidy.in_order left
 
       rest_own : AllOf (λ (g : Failure). is_of f.addr g ≡ true) xs
-      rest_own = rw left (all_of-filter (λ (g : Failure). is_of f.addr g ≡ true) (is_late now findtime) fs own)
+      rest_own = rw left (all_of-filter (λ (g : Failure). is_of f.addr g ≡ true) (is_recent now findtime) fs own)
 
       without : (k : ℕ) → IsRunAt findtime maxretry ys k → full ≡ false → IsFull findtime maxretry f.addr xs
       without k run silent =
@@ -134,4 +134,4 @@ module _ (findtime maxretry now p : ℕ) (fs xs ys : List Failure) (f : Failure)
 
 -- a window with no failures
 pub none_tidy : (findtime maxretry : ℕ) → 1 ≤ maxretry → IsTidy findtime maxretry []
-none_tidy findtime maxretry one = record { positive = one; in_order = tt; of_one = (V4 0, tt); late = (0, tt) }
+none_tidy findtime maxretry one = record { positive = one; in_order = tt; of_one = (V4 0, tt); recent = (0, tt) }

@@ -2,4 +2,4 @@ pub mod PlaceLemmas
 pub mod RunLemmas
 pub mod AddLemmas
 pub mod FollowLemmas
-pub mod RecentLemmas
+pub mod FindtimeLemmas

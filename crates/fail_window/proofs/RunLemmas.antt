@@ -11,7 +11,7 @@ use Rattle.f2b_model.specs.Windows.{IsRising, IsFullBy, HasRun}
 use Rattle.f2b_model.proofs.FullLemmas.{le_true, le_false}
 use Rattle.f2b_model.proofs.ListLemmas.{by_test}
 use Rattle.f2b_model.proofs.WindowLemmas.{run_iff_full, of_one, short}
-use Rattle.fail_window.specs.Opened.{IsLate}
+use Rattle.fail_window.specs.Opened.{IsRecent}
 use Rattle.fail_window.specs.Times.{by_time, times_of, IsRunAt}
 
 time_is : (fs : List Failure) (k : ℕ) (x : Failure) → k < length fs → x ≡ get_or fs k x → get_or (times_of fs) k 0 ≡ x.time
@@ -84,14 +84,14 @@ full_by_run findtime maxretry addr fs one o own =
     )
 
 -- failures that are not full are few
-pub few : (findtime maxretry now : ℕ) (addr : Addr) (fs : List Failure) → 1 ≤ maxretry → AllOf (λ (f : Failure). is_of addr f ≡ true) fs → AllOf (IsLate now findtime) fs
+pub few : (findtime maxretry now : ℕ) (addr : Addr) (fs : List Failure) → 1 ≤ maxretry → AllOf (λ (f : Failure). is_of addr f ≡ true) fs → AllOf (IsRecent now findtime) fs
     → (IsFull findtime maxretry addr fs → ⊥) → length fs ≤ 2 * maxretry - 2
-few findtime maxretry now addr fs one own late unfilled =
+few findtime maxretry now addr fs one own recent unfilled =
     let len = length-map fs (λ (g : Failure). g.time) in
-    let bound = short findtime maxretry now (times_of fs) one (λ full. unfilled ((full_by_times findtime maxretry addr fs own).1 full)) (each fs late) in
+    let bound = short findtime maxretry now (times_of fs) one (λ full. unfilled ((full_by_times findtime maxretry addr fs own).1 full)) (each fs recent) in
     omega arith
   where
-    each : (gs : List Failure) → AllOf (IsLate now findtime) gs → AllOf (λ t. (t ≤ now) × (now < t + 2 * findtime)) (times_of gs)
+    each : (gs : List Failure) → AllOf (IsRecent now findtime) gs → AllOf (λ t. (t ≤ now) × (now < t + 2 * findtime)) (times_of gs)
     each [] a = tt
     each (g ∷ gs) a = (a.0, each gs a.1)
 

@@ -14,15 +14,15 @@ pub record Opened : Type 0 where
   pub failures : List Failure
 
 -- a failure is not to come, and later than two `findtime` before a moment
-abbrev pub IsLate : ℕ → ℕ → Failure → Type 0
-IsLate now findtime f = (f.time ≤ now) × (now < f.time + 2 * findtime)
+abbrev pub IsRecent : ℕ → ℕ → Failure → Type 0
+IsRecent now findtime f = (f.time ≤ now) × (now < f.time + 2 * findtime)
 
--- what always holds of a window: the failures are of one address, in order of time, and at some moment all were late
+-- what always holds of a window: the failures are of one address, in order of time, and at some moment all were recent
 pub record IsTidy (findtime maxretry : ℕ) (fs : List Failure) : Type 0 where
   pub positive : 1 ≤ maxretry
   pub in_order : IsInOrder by_time fs
   pub of_one : (addr : Addr) × AllOf (λ (f : Failure). is_of addr f ≡ true) fs
-  pub late : (now : ℕ) × AllOf (IsLate now findtime) fs
+  pub recent : (now : ℕ) × AllOf (IsRecent now findtime) fs
 
 -- no address is full by the failures that the window keeps
 abbrev pub IsOpen : Opened → Type 0

@@ -11,8 +11,8 @@ abbrev pub by_time : Failure → Failure → Bool
 by_time f g = nat_lt f.time g.time
 
 -- whether a failure is later than `findtime` before a moment
-abbrev pub is_recent : ℕ → ℕ → Failure → Bool
-is_recent now findtime f = nat_lt now (f.time + findtime)
+abbrev pub is_within_findtime : ℕ → ℕ → Failure → Bool
+is_within_findtime now findtime f = nat_lt now (f.time + findtime)
 
 -- the `maxretry` failures from place k on are there, the last less than `findtime` after the first
 abbrev pub IsRunAt : ℕ → ℕ → List Failure → ℕ → Type 0

@@ -1,12 +1,26 @@
 //! Failures of one address in order of time: where one goes in, which are too old, and which stand close together.
-ghost use Rattle.std.specs.Prelude.{◌≡◌, ◌+◌, ◌≤◌, ◌<◌, ◌↔◌, ℕ, true, nat_lt, filter, insert};
+ghost use Rattle.std.specs.Prelude.{◌≡◌, ◌+◌, ◌≤◌, ◌<◌, ◌↔◌, ℕ, true, nat_lt, filter, insert, OnOk};
 ghost use Rattle.std.specs.VecDeque.{deque_len, deque_capacity};
-ghost use Rattle.f2b_model.specs.Full.{is_late};
+ghost use Rattle.f2b_model.specs.Full.{is_recent};
 ghost use Rattle.f2b_model.specs.Lists.{placed, IsInOrder};
 ghost use Rattle.fail_window.specs.Times.{by_time, IsRunAt};
 
-use f2b_base::Failure;
+use f2b_base::{Failure, NoMemory};
 use std::collections::VecDeque;
+
+/// Makes room for one more failure. Most addresses fail once, so the first takes room for itself alone.
+pub fn make_room(kept: &mut VecDeque<Failure>) -> Result<(), NoMemory>
+    ensures items { kept.new.items ≡ kept.old.items }
+    ensures len { deque_len kept.new ≡ deque_len kept.old }
+    ensures room { OnOk result (deque_len kept.new + 1 ≤ deque_capacity kept.new) }
+{
+    if kept.is_empty() {
+        kept.reserve_exact(1)?;
+    } else {
+        kept.reserve(1)?;
+    }
+    Ok(())
+}
 
 /// The place behind all failures that are not later than this one.
 pub fn place_of(kept: &VecDeque<Failure>, failure: &Failure) -> usize
@@ -18,21 +32,21 @@ pub fn place_of(kept: &VecDeque<Failure>, failure: &Failure) -> usize
 }
 
 /// Whether a failure is later than two `findtime` before a moment.
-fn is_late(at: u64, findtime: u64, failure: &Failure) -> bool
-    ensures { result ≡ is_late at findtime failure.now }
+fn is_recent(at: u64, findtime: u64, failure: &Failure) -> bool
+    ensures { result ≡ is_recent at findtime failure.now }
 {
     let time = failure.time;
     at < time || (at - time) / 2 < findtime
 }
 
-/// Drops the failures that are not late at a moment, which stand in front.
+/// Drops the failures that are not recent at a moment, which stand in front.
 pub fn drop_old(kept: &mut VecDeque<Failure>, at: u64, findtime: u64)
     requires { IsInOrder by_time kept.old.items }
-    ensures kept { kept.new.items ≡ filter (is_late at findtime) kept.old.items }
+    ensures kept { kept.new.items ≡ filter (is_recent at findtime) kept.old.items }
     ensures fewer { deque_len kept.new ≤ deque_len kept.old }
     ensures room { deque_capacity kept.new ≡ deque_capacity kept.old }
 {
-    let old = kept.partition_point(|failure| !is_late(at, findtime, failure));
+    let old = kept.partition_point(|failure| !is_recent(at, findtime, failure));
     'drops: for _ in 0..old {
         let _ = kept.pop_front();
     }

@@ -139,9 +139,9 @@ fn a_window_is_recent_until_its_last_failure_is_findtime_old(rt: HostRuntime) ->
     let rows = [(100, 100, ""), (300, 300, ""), (200, 301, "")];
     let (window, _) = fed(rt.alloc(), 600, 9, &rows)?;
     for (now, recent) in [(301, true), (899, true), (900, false), (5000, false)] {
-        assert_eq!(rt; window.is_recent(now), recent, "at {now}");
+        assert_eq!(rt; window.failed_lately(now), recent, "at {now}");
     }
-    assert!(rt; !Window::new(rt.alloc(), 600, 9).is_recent(0));
+    assert!(rt; !Window::new(rt.alloc(), 600, 9).failed_lately(0));
     Ok(())
 }
 

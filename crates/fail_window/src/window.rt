@@ -5,9 +5,9 @@ ghost use Rattle.f2b_base.specs.declared.ban.Failure.{Failure};
 ghost use Rattle.f2b_model.specs.Full.{is_of};
 ghost use Rattle.f2b_model.specs.Lists.{AllOf};
 ghost use Rattle.fail_window.specs.Opened.{GoesOn, IsOpen, KeepsLimits, TellsFull};
-ghost use Rattle.fail_window.specs.Times.{is_recent};
+ghost use Rattle.fail_window.specs.Times.{is_within_findtime};
 
-use crate::runs::{drop_old, has_run_with, is_close, place_of};
+use crate::runs::{drop_old, has_run_with, is_close, make_room, place_of};
 use f2b_base::{Failure, NoMemory, Plain, Seq};
 use std::alloc::Global;
 use std::collections::VecDeque;
@@ -59,7 +59,7 @@ impl Window {
         ensures full { IfOk result (TellsFull now self.old failure) }
         ensures err { OnErr result (self.new ≡ self.old) }
     {
-        self.kept.reserve(1)?;
+        make_room(&mut self.kept)?;
         drop_old(&mut self.kept, now, self.findtime);
         let place = place_of(&self.kept, &failure);
         self.kept.insert(place, failure)?;
@@ -76,8 +76,8 @@ impl Window {
 
     /// Whether some failure is later than `findtime` seconds before a moment, in seconds since 1970. Takes no memory, and looks at the
     /// last failure alone.
-    pub fn is_recent(&self, now: u64) -> bool
-        ensures { result ≡ list_any (is_recent now self.now.findtime) self.now.failures }
+    pub fn failed_lately(&self, now: u64) -> bool
+        ensures { result ≡ list_any (is_within_findtime now self.now.findtime) self.now.failures }
     {
         match self.kept.back() {
             Some(last) => is_close(last.time, now, self.findtime),

@@ -22,10 +22,10 @@ each_passes true false false false h = absurd (let k : false ≡ true = h in cc)
 
 -- whether some jail is idle
 abbrev pub any_idle : Now → Bool
-any_idle n = list_any (λ (j : JailNow). j.idle) n.world.jails
+any_idle n = list_any (λ (j : JailNow). j.idle) n.jails.jails
 
 -- a configuration changes something exactly where one of four tests fails
-pub changes_is : (defs : Defs) (n : Now) (same kept : Bool) → AreFitDefs defs → AreWatched n.world → (IsTrue same ↔ (defs ≡ defs_now n))
+pub changes_is : (defs : Defs) (n : Now) (same kept : Bool) → AreFitDefs defs → AreWatched n.jails → (IsTrue same ↔ (defs ≡ defs_now n))
     → kept ≡ (same && (not n.lanes.stopping && (not (any_idle n) && are_just (lanes_of defs) n.lanes.up)))
     → IsTrue (not kept) ↔ (configured_now defs n ≢ n)
 changes_is defs n same kept fit watched same_is kept_is = (

@@ -22,12 +22,12 @@ same_names [] = refl
 same_names (j ∷ js) = ap (λ (names : List (List ℕ)). j.definition.name ∷ names) (same_names js)
 
 -- what can be stored, and watches just what is defined, has a view that can be stored
-pub view_storable : (n : Now) → IsStorable n → AreWatched n.world → AllOf (λ (v : JailView). AllOf (λ (f : Failure). f.time ≤ n.world.at) v.failures) (map jail_view n.world.jails)
+pub view_storable : (n : Now) → IsStorable n → AreWatched n.jails → AllOf (λ (v : JailView). AllOf (λ (f : Failure). f.time ≤ n.jails.at) v.failures) (map jail_view n.jails.jails)
     → IsStorableView (spread n)
 view_storable n storable watched times = record {
   now = subst IsStorable (sym (gathered_spread n)) storable;
-  named = same_names n.world.jails;
-  watched = subst (λ (m : Now). AreWatched m.world) (sym (gathered_spread n)) watched;
+  named = same_names n.jails.jails;
+  watched = subst (λ (m : Now). AreWatched m.jails) (sym (gathered_spread n)) watched;
   times = times;
 }
 

@@ -15,7 +15,7 @@ use Rattle.f2b_model.specs.Sound.{AreFitDefs, IsFit, IsFitWhat, same_kind}
 use Rattle.f2b_model.specs.Storable.{IsBase, IsWithin, AreStorableDefs, IsStorableDef, IsStorableInput, IsStorableRule, IsStorableWhat}
 use Rattle.f2b_model.proofs.StepLemmas.{all_of-more}
 use Rattle.jail_moves.specs.Rooms.{IsBounded}
-use Rattle.jail_rooms.specs.Kept.{IsBoundedWhat, IsTaken}
+use Rattle.jail_rooms.specs.Kept.{IsBoundedWhat, IsTakenInput}
 
 -- one more element
 all_more : (P : ℕ → Type 0) (x : ℕ) (xs : List ℕ) → P x → All P xs → (k : ℕ) (d : ℕ) → k < length (x ∷ xs) → P (get_or (x ∷ xs) k d)
@@ -65,5 +65,5 @@ what_bounded (Maxretry jail number) s = (s.1.0, omega (arith, s.1.1))
 what_bounded _ s = tt
 
 -- an input that can be stored can be taken
-pub storable_taken : (input : Input) → IsStorableInput input → IsTaken input
+pub storable_taken : (input : Input) → IsStorableInput input → IsTakenInput input
 storable_taken input s = record { fit = record { secs = s.secs; what = what_fit input.what s.what }; bounded = what_bounded input.what s.what }

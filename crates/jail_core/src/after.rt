@@ -14,14 +14,14 @@ ghost use Rattle.jail_rooms.specs.Kept.{IsBoundedWhat};
 use f2b_base::{Defs, NoMemory, Outcome, Seq, What};
 use f2b_model::{Happening, LaneHappening};
 use jail_rooms::Jails;
-use lane_moves::Actions;
+use lane_moves::LaneBook;
 use std::alloc::Global;
 
 /// The jails and the lanes after what happened, and what was told of the lanes.
 #[derive(Drop)]
 pub struct Aftermath {
     pub jails: Jails,
-    pub actions: Actions,
+    pub actions: LaneBook,
     pub told: Seq<LaneHappening>,
 }
 
@@ -29,7 +29,7 @@ pub struct Aftermath {
 fn of_jails(
     alloc: Global,
     jails: Jails,
-    mut actions: Actions,
+    mut actions: LaneBook,
     told: &mut Seq<Happening>,
     what: &What,
     word: u64,
@@ -56,7 +56,7 @@ fn of_jails(
 fn of_job(
     alloc: Global,
     jails: Jails,
-    mut actions: Actions,
+    mut actions: LaneBook,
     told: &Seq<Happening>,
     job: u64,
     outcome: Outcome,
@@ -80,7 +80,7 @@ fn of_job(
 fn of_check(
     alloc: Global,
     jails: Jails,
-    mut actions: Actions,
+    mut actions: LaneBook,
     told: &Seq<Happening>,
     job: u64,
     outcome: Outcome,
@@ -105,7 +105,7 @@ fn of_check(
 fn of_stop(
     alloc: Global,
     jails: Jails,
-    mut actions: Actions,
+    mut actions: LaneBook,
     told: &Seq<Happening>,
 ) -> Result<Aftermath, NoMemory>
     ensures jails { IfOk result (λ r. r.jails ≡ jails) }
@@ -127,7 +127,7 @@ fn of_stop(
 fn of_configuration(
     alloc: Global,
     jails: Jails,
-    mut actions: Actions,
+    mut actions: LaneBook,
     told: &Seq<Happening>,
     defs: &Defs,
 ) -> Result<Aftermath, NoMemory>
@@ -155,7 +155,7 @@ fn of_configuration(
 pub fn after(
     alloc: Global,
     jails: Jails,
-    actions: Actions,
+    actions: LaneBook,
     told: &mut Seq<Happening>,
     what: &What,
     word: u64,

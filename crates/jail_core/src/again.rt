@@ -6,7 +6,7 @@ ghost use Rattle.f2b_model.specs.Storable.{IsStorable, IsStorableInput};
 ghost use Rattle.f2b_model.specs.StorableViews.{IsStorableView};
 ghost use Rattle.f2b_model.specs.Views.{view_of};
 ghost use Rattle.f2b_model.specs.Whole.{State, steps, steps_now};
-ghost use Rattle.jail_rooms.specs.Kept.{IsTaken};
+ghost use Rattle.jail_rooms.specs.Kept.{IsTakenInput};
 
 use crate::state::Core;
 use f2b_base::{Input, NoMemory, View};
@@ -14,7 +14,7 @@ use std::alloc::Global;
 
 /// The state after these inputs, taken one after the other.
 fn core_after(core: Core, inputs: &[Input]) -> Result<Core, NoMemory>
-    requires { AllOf IsTaken inputs.now }
+    requires { AllOf IsTakenInput inputs.now }
     ensures core { IfOk result (λ after. after ≡ steps_now core inputs.now) }
     ensures storable { IsStorable core → AllOf IsStorableInput inputs.now → IfOk result IsStorable }
 {
@@ -30,7 +30,7 @@ fn core_after(core: Core, inputs: &[Input]) -> Result<Core, NoMemory>
 /// nothing, after the same inputs, whatever state the view is of.
 pub fn view_after(alloc: Global, view: &View, inputs: &[Input]) -> Result<View, NoMemory>
     requires view { IsStorableView view.now }
-    requires inputs { AllOf IsTaken inputs.now }
+    requires inputs { AllOf IsTakenInput inputs.now }
     ensures model { (s : State) → IsSound s → view_of s ≡ view.now → IfOk result (λ after. after ≡ view_of (steps s inputs.now)) }
     ensures storable { AllOf IsStorableInput inputs.now → IfOk result IsStorableView }
 {

@@ -13,7 +13,7 @@ ghost use Rattle.f2b_model.specs.Views.{empty_view, gathered, spread};
 ghost use Rattle.f2b_model.specs.Whole.{is_whole_spent, step_now, told_now};
 ghost use Rattle.f2b_model.specs.declared.jail_now.JailNow.{JailNow};
 ghost use Rattle.jail_rooms.specs.Configured.{configured_now};
-ghost use Rattle.jail_rooms.specs.Kept.{IsTaken};
+ghost use Rattle.jail_rooms.specs.Kept.{IsTakenInput};
 ghost use Rattle.jail_rooms.specs.Shown.{ban_from, lately_in, totals_of};
 ghost use Rattle.lane_moves.specs.CheckText.{check_text_of};
 
@@ -23,7 +23,7 @@ use f2b_base::{Ban, Defs, Input, JailDef, NoMemory, Plain, Seq, Text, UpLane, Vi
 use f2b_model::Told;
 use jail_moves::Totals;
 use jail_rooms::{Jails, same_defs};
-use lane_moves::Actions;
+use lane_moves::LaneBook;
 use std::alloc::Global;
 use std::marker::Model;
 
@@ -32,7 +32,7 @@ use std::marker::Model;
 pub struct Core {
     alloc: Global,
     jails: Jails,
-    actions: Actions,
+    actions: LaneBook,
 }
 
 impl Model for Core {
@@ -41,7 +41,7 @@ impl Model for Core {
 
     ghost Value = { Now };
 
-    ghost view = { λ c. record { world = c.jails; lanes = c.actions } };
+    ghost view = { λ c. record { jails = c.jails; lanes = c.actions } };
 
     ghost invariant = { λ c. AreWatched c.jails };
 }
@@ -66,9 +66,9 @@ fn stays(same: bool, stopping: bool, idle: bool, just: bool) -> bool
 
 impl Core {
     /// The state of these jails and lanes.
-    fn of_parts(alloc: Global, jails: Jails, actions: Actions) -> Core
+    fn of_parts(alloc: Global, jails: Jails, actions: LaneBook) -> Core
         requires { AreWatched jails }
-        ensures parts { result ≡ record { world = jails; lanes = actions } }
+        ensures parts { result ≡ record { jails = jails; lanes = actions } }
         ensures few { result.lanes.next_job ≤ most_numbers }
     {
         // Asked for what it ensures alone: no lanes give an id that could not be stored.
@@ -88,7 +88,7 @@ impl Core {
         Core {
             alloc,
             jails: Jails::empty(alloc),
-            actions: Actions::new(alloc),
+            actions: LaneBook::new(alloc),
         }
     }
 
@@ -104,7 +104,7 @@ impl Core {
         Ok(Core {
             alloc,
             jails: Jails::of(alloc, view)?,
-            actions: Actions::of(alloc, &view.up, view.stopping, &view.jobs, view.next_job)?,
+            actions: LaneBook::of(alloc, &view.up, view.stopping, &view.jobs, view.next_job)?,
         })
     }
 
@@ -127,14 +127,14 @@ impl Core {
 
     /// The greatest moment so far, in seconds since 1970. Takes no memory.
     pub fn now(&self) -> u64
-        ensures { result ≡ self.now.world.at }
+        ensures { result ≡ self.now.jails.at }
     {
         self.jails.now()
     }
 
     /// Whether some ban's end has come at a moment. Takes no memory.
     pub fn ban_due(&self, now: u64) -> bool
-        ensures { result ≡ is_ban_due moves_now now self.now.world }
+        ensures { result ≡ is_ban_due moves_now now self.now.jails }
     {
         self.jails.ban_due(now)
     }
@@ -166,28 +166,28 @@ impl Core {
 
     /// The definitions. Takes no memory.
     pub fn defs(&self) -> &Defs
-        ensures { result.now ≡ record { purge = self.now.world.purge; jails = map (λ (j : JailNow). j.definition) self.now.world.jails } }
+        ensures { result.now ≡ record { purge = self.now.jails.purge; jails = map (λ (j : JailNow). j.definition) self.now.jails.jails } }
     {
         self.jails.defs()
     }
 
     /// The definition of the jail of a name, if there is one. Takes no memory.
     pub fn jail(&self, name: &str) -> Option<&JailDef>
-        ensures { option_copied result ≡ option_map (λ (j : JailNow). j.definition) (find_jail moves_now name.now self.now.world.jails) }
+        ensures { option_copied result ≡ option_map (λ (j : JailNow). j.definition) (find_jail moves_now name.now self.now.jails.jails) }
     {
         self.jails.definition(name)
     }
 
     /// What happened in the jail of a name in numbers, and whether it is idle. Takes no memory.
     pub fn totals(&self, name: &str) -> Option<Totals>
-        ensures { result ≡ option_map totals_of (find_jail moves_now name.now self.now.world.jails) }
+        ensures { result ≡ option_map totals_of (find_jail moves_now name.now self.now.jails.jails) }
     {
         self.jails.totals(name)
     }
 
     /// The active ban of the least serial that is at least this one, in the jail of a name. Takes no memory.
     pub fn ban_from(&self, name: &str, serial: u64) -> Option<&Ban>
-        ensures { option_copied result ≡ option_and_then (ban_from serial) (find_jail moves_now name.now self.now.world.jails) }
+        ensures { option_copied result ≡ option_and_then (ban_from serial) (find_jail moves_now name.now self.now.jails.jails) }
     {
         self.jails.ban_from(name, serial)
     }
@@ -195,8 +195,8 @@ impl Core {
     /// How many addresses have an open failure in the jail of a name that is later than `findtime` before a moment. 0 where there is no
     /// such jail. It takes time by the addresses that have failures, and no memory.
     pub fn failed_lately(&self, name: &str, now: u64) -> u64
-        requires { self.now.world.at ≤ now }
-        ensures { result ≡ option_map_or (lately_in now) (find_jail moves_now name.now self.now.world.jails) 0 }
+        requires { self.now.jails.at ≤ now }
+        ensures { result ≡ option_map_or (lately_in now) (find_jail moves_now name.now self.now.jails.jails) 0 }
     {
         self.jails.failed_lately(name, now)
     }
@@ -224,7 +224,7 @@ impl Core {
     /// Takes an input, and tells what it did. Of the jails, in order: bans that ended by time, and then, one by one, failures that
     /// counted, bans that began, and bans that ended by command. Of the lanes: a try or a check that failed, and a lane that starts anew.
     pub fn take(self, input: &Input) -> Result<(Core, Told), NoMemory>
-        requires { IsTaken input.now }
+        requires { IsTakenInput input.now }
         ensures core { IfOk result (λ r. r.0 ≡ step_now self input.now) }
         ensures told { IfOk result (λ r. r.1 ≡ told_now self input.now) }
         ensures storable { IsStorable self → IsStorableInput input.now → IfOk result (λ r. IsStorable r.0) }

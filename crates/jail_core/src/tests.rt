@@ -8,13 +8,14 @@ ghost use Rattle.f2b_model.specs.Lists.{AllOf, AreDistinct};
 ghost use Rattle.f2b_model.specs.Sound.{same_kind};
 ghost use Rattle.f2b_model.specs.Storable.{patterns_of, IsJailName, IsStorable, IsStorableAction, IsStorableDef, IsStorableInput, IsStorablePlace, IsStorableRule, IsStorableWhat};
 ghost use Rattle.f2b_model.specs.StorableViews.{IsStorableView};
-ghost use Rattle.jail_rooms.specs.Kept.{IsTaken};
+ghost use Rattle.jail_rooms.specs.Kept.{IsTakenInput};
 
 mod checks;
 mod histories;
 mod inputs;
 mod lines;
 mod runs;
+mod shown;
 mod views;
 
 use crate::Core;
@@ -230,7 +231,7 @@ fn check_failed(job: u32) -> What
 #[tactic(auto, using(crate::proofs::TakenLemmas::storable_taken))]
 fn input(secs: u32, what: What) -> Input
     requires { IsStorableWhat what }
-    ensures taken { IsTaken result }
+    ensures taken { IsTakenInput result }
     ensures storable { IsStorableInput result }
 {
     Input {
@@ -268,7 +269,7 @@ impl Pair {
 
     /// Both take an input, and tell the same.
     fn take(self, rt: &impl Abort, input: &Input) -> Result<(Pair, Told), NoMemory>
-        requires { IsTaken input.now }
+        requires { IsTakenInput input.now }
         ensures { IsStorable self.again → IsStorableInput input.now → IfOk result (λ r. IsStorable r.0.again) }
     {
         let Pair { core, again } = self;

@@ -14,10 +14,10 @@ use Rattle.f2b_base.specs.declared.view.JailView.{JailView}
 use Rattle.f2b_model.specs.declared.happening.Happening.{Happening}
 use Rattle.f2b_model.specs.declared.happening.Happening.TheVariants.{Counts}
 use Rattle.f2b_model.specs.declared.jail_now.JailNow.{JailNow}
-use Rattle.f2b_model.specs.Full.{is_full, is_late, is_of}
+use Rattle.f2b_model.specs.Full.{is_full, is_recent, is_of}
 use Rattle.f2b_model.specs.Lists.{AllOf}
 use Rattle.f2b_model.specs.Matches.{matches_of}
-use Rattle.f2b_model.specs.Moves.{Out, counts, is_banned, is_near, new_ban, up_64}
+use Rattle.f2b_model.specs.Moves.{JailAndSerial, counts, is_banned, is_near, new_ban, plus_one_capped}
 use Rattle.f2b_model.specs.NowMoves.{banned_now, begun_now, counted_now, ended_now, found_now, shown_now}
 use Rattle.f2b_model.specs.Steps.{moves_now, end_all}
 use Rattle.f2b_model.specs.Told.{begins, told_banned, told_found, told_new}
@@ -28,7 +28,7 @@ use Rattle.f2b_model.proofs.ListLemmas.{by_test, filter_swap}
 use Rattle.f2b_model.proofs.OrderlyLemmas.{all_of-filter, all_of-kept, all_of-push}
 use Rattle.fail_window.specs.Opened.{Opened}
 use Rattle.jail_moves.specs.Added.{with_failure}
-use Rattle.jail_moves.specs.Rooms.{Contents, all_ended, jail_in, with_ban, with_count, IsBounded, IsCounted, IsKept, IsStored}
+use Rattle.jail_moves.specs.Rooms.{Contents, all_ended, jail_in, with_ban, with_count, IsBounded, IsCounted, IsKeptJail, IsStored}
 
 -- ---- lists
 
@@ -76,7 +76,7 @@ ended_all P moment (b ∷ bs) t a = ended_all P moment bs (ended b.addr (moment 
 -- ---- what always holds
 
 -- a jail stays as it is when time passes and serials rise
-pub kept_later : (before at from next : ℕ) (d : JailDef) (c : Contents) → IsKept before from d c → before ≤ at → from ≤ next → IsKept at next d c
+pub kept_later : (before at from next : ℕ) (d : JailDef) (c : Contents) → IsKeptJail before from d c → before ≤ at → from ≤ next → IsKeptJail at next d c
 kept_later before at from next d c kept le up = record {
   bounded = kept.bounded;
   findtime = kept.findtime;
@@ -87,7 +87,7 @@ kept_later before at from next d c kept le up = record {
 }
 
 -- ends keep it
-pub ended_kept : (moment : Ban → ℕ) (bs : List Ban) (at next : ℕ) (d : JailDef) (c : Contents) → IsKept at next d c → IsKept at next d (record c { bans = all_ended moment bs c.bans })
+pub ended_kept : (moment : Ban → ℕ) (bs : List Ban) (at next : ℕ) (d : JailDef) (c : Contents) → IsKeptJail at next d c → IsKeptJail at next d (record c { bans = all_ended moment bs c.bans })
 ended_kept moment bs at next d c kept = record {
   bounded = kept.bounded;
   findtime = kept.findtime;
@@ -98,8 +98,8 @@ ended_kept moment bs at next d c kept = record {
 }
 
 -- a ban keeps it, with the next serial
-pub with_ban_kept : (at word serial : ℕ) (addr : Addr) (failures : ℕ) (d : JailDef) (c : Contents) → IsKept at serial d c
-    → IsKept at (serial + 1) d (with_ban d at word serial addr failures c)
+pub with_ban_kept : (at word serial : ℕ) (addr : Addr) (failures : ℕ) (d : JailDef) (c : Contents) → IsKeptJail at serial d c
+    → IsKeptJail at (serial + 1) d (with_ban d at word serial addr failures c)
 with_ban_kept at word serial addr failures d c kept = record {
   bounded = kept.bounded;
   findtime = kept.findtime;
@@ -111,9 +111,9 @@ with_ban_kept at word serial addr failures d c kept = record {
 }
 
 -- so does a failure that was counted
-pub counted_kept : (at next : ℕ) (f : Failure) (d : JailDef) (c n : Contents) (full : Option (List Failure)) → IsKept at next d c → IsCounted at f c n full → IsKept at next d n
+pub counted_kept : (at next : ℕ) (f : Failure) (d : JailDef) (c n : Contents) (full : Option (List Failure)) → IsKeptJail at next d c → IsCounted at f c n full → IsKeptJail at next d n
 counted_kept at next f d c n full kept counted =
-    subst (IsKept at next d) (sym counted.room) (record {
+    subst (IsKeptJail at next d) (sym counted.room) (record {
       bounded = kept.bounded;
       findtime = counted.limits.findtime ∙ kept.findtime;
       maxretry = counted.limits.maxretry ∙ kept.maxretry;
@@ -130,25 +130,25 @@ pub uncounted : (at word serial : ℕ) (f : Failure) (d : JailDef) (c : Contents
 uncounted at word serial f d c e = rw e (refl, refl)
 
 -- a failure was counted, and its address is not full
-not_full : (at next : ℕ) (f : Failure) (d : JailDef) (c n : Contents) → IsKept at next d c → IsCounted at f c n None
+not_full : (at next : ℕ) (f : Failure) (d : JailDef) (c n : Contents) → IsKeptJail at next d c → IsCounted at f c n None
     → (counted_now at f (jail_in d c) ≡ jail_in d n) × (is_full d.findtime d.maxretry f.addr (counted_now at f (jail_in d c)).failures ≡ false)
 not_full at next f d c n kept counted =
-    let S : ℕ → Type 0 = λ t. filter (is_late at t) n.windows.failures ≡ with_failure c.moment at t f c.windows.failures in
+    let S : ℕ → Type 0 = λ t. filter (is_recent at t) n.windows.failures ≡ with_failure c.moment at t f c.windows.failures in
     let T : ℕ → ℕ → Type 0 = λ t m. false ≡ is_full t m f.addr (with_failure c.moment at t f c.windows.failures) in
     let stays : S d.findtime = subst S kept.findtime (counted.added.stays c.moment kept.moment refl) in
     let tells : T d.findtime d.maxretry = subst (T d.findtime) kept.maxretry (subst (λ t. T t c.windows.maxretry) kept.findtime (counted.added.tells c.moment kept.moment)) in (
-      sym (ap (jail_in d) counted.room ∙ ap (λ (fs : List Failure). record (jail_in d c) { total_failed = up_64 c.total_failed; moment = at; failures = fs }) stays),
+      sym (ap (jail_in d) counted.room ∙ ap (λ (fs : List Failure). record (jail_in d c) { total_failed = plus_one_capped c.total_failed; moment = at; failures = fs }) stays),
       sym tells,
     )
 
 -- a failure was counted, and its address is full
-is_filled : (at next word serial : ℕ) (near : List Failure) (f : Failure) (d : JailDef) (c n : Contents) → IsKept at next d c → IsCounted at f c n (Some near)
+is_filled : (at next word serial : ℕ) (near : List Failure) (f : Failure) (d : JailDef) (c n : Contents) → IsKeptJail at next d c → IsCounted at f c n (Some near)
     → (begun_now at word serial f.addr (length (filter (is_near d.findtime f) (counted_now at f (jail_in d c)).failures)) (counted_now at f (jail_in d c))
     ≡ jail_in d (with_ban d at word serial f.addr (length near) n))
     × (is_full d.findtime d.maxretry f.addr (counted_now at f (jail_in d c)).failures ≡ true)
     × (near ≡ filter (is_near d.findtime f) (counted_now at f (jail_in d c)).failures)
 is_filled at next word serial near f d c n kept counted =
-    let S : ℕ → Type 0 = λ t. filter (is_late at t) n.windows.failures ≡ filter (λ (g : Failure). not (is_of f.addr g)) (with_failure c.moment at t f c.windows.failures) in
+    let S : ℕ → Type 0 = λ t. filter (is_recent at t) n.windows.failures ≡ filter (λ (g : Failure). not (is_of f.addr g)) (with_failure c.moment at t f c.windows.failures) in
     let T : ℕ → ℕ → Type 0 = λ t m. true ≡ is_full t m f.addr (with_failure c.moment at t f c.windows.failures) in
     let N : ℕ → Type 0 = λ t. near ≡ filter (is_near t f) (with_failure c.moment at t f c.windows.failures) in
     let goes : S d.findtime = subst S kept.findtime (counted.added.goes c.moment kept.moment refl) in
@@ -162,7 +162,7 @@ is_filled at next word serial near f d c n kept counted =
     )
 
 -- a failure that counts and does not fill its address
-pub found_open : (at word serial : ℕ) (f : Failure) (d : JailDef) (c n : Contents) → IsKept at serial d c → counts at d c.bans.active f ≡ true → IsCounted at f c n None
+pub found_open : (at word serial : ℕ) (f : Failure) (d : JailDef) (c n : Contents) → IsKeptJail at serial d c → counts at d c.bans.active f ≡ true → IsCounted at f c n None
     → (found_now at word serial f (jail_in d c) ≡ record { jail = jail_in d n; next = serial })
     × (told_found moves_now at word f serial (jail_in d c) ≡ Counts d.name f.addr ∷ [])
 found_open at word serial f d c n kept is counted =
@@ -171,7 +171,7 @@ found_open at word serial f d c n kept is counted =
     let same : found_now at word serial f (jail_in d c) ≡ record { jail = jail_in d n; next = serial } =
     rw is (rw (least.1) (ap (λ (j : JailNow). record { jail = j; next = serial }) least.0)) in (
       same,
-      rw is (ap (λ (o : Out JailNow). Counts d.name f.addr ∷ told_new moves_now lines (jail_in d c) o.jail) (rw is at same)
+      rw is (ap (λ (o : JailAndSerial JailNow). Counts d.name f.addr ∷ told_new moves_now lines (jail_in d c) o.jail) (rw is at same)
           ∙ ap (λ (r : Contents). Counts d.name f.addr ∷ told_new moves_now lines (jail_in d c) (jail_in d r)) counted.room
           ∙ ap (λ (bs : List Ban). Counts d.name f.addr ∷ map (begins lines d.name) bs) (drop-length c.bans.active)),
     )
@@ -185,7 +185,7 @@ told_ban lines at word serial addr failures d c n same =
     ∙ ap (λ (bs : List Ban). map (begins lines d.name) bs) (drop-append_seam c.bans.active (ban ∷ []))
 
 -- a failure that counts and fills its address
-pub found_full : (at word serial : ℕ) (near : List Failure) (f : Failure) (d : JailDef) (c n : Contents) → IsKept at serial d c → counts at d c.bans.active f ≡ true
+pub found_full : (at word serial : ℕ) (near : List Failure) (f : Failure) (d : JailDef) (c n : Contents) → IsKeptJail at serial d c → counts at d c.bans.active f ≡ true
     → IsCounted at f c n (Some near)
     → (found_now at word serial f (jail_in d c) ≡ record { jail = jail_in d (with_ban d at word serial f.addr (length near) n); next = serial + 1 })
     × (told_found moves_now at word f serial (jail_in d c)
@@ -200,7 +200,7 @@ found_full at word serial near f d c n kept is counted =
     let same : found_now at word serial f (jail_in d c) ≡ record { jail = jail_in d (with_ban d at word serial f.addr (length near) n); next = serial + 1 } =
     rw is (rw (filled.1) (ap₂ (λ (j : JailNow) (k : ℕ). record { jail = j; next = k }) filled.0 up)) in (
       same,
-      rw is (ap (λ (o : Out JailNow). Counts d.name f.addr ∷ told_new moves_now lines (jail_in d c) o.jail) (rw is at same)
+      rw is (ap (λ (o : JailAndSerial JailNow). Counts d.name f.addr ∷ told_new moves_now lines (jail_in d c) o.jail) (rw is at same)
           ∙ ap (λ (r : List Happening). Counts d.name f.addr ∷ r) (told_ban lines at word serial f.addr (length near) d c n bans)
           ∙ ap (λ (r : List ℕ). Counts d.name f.addr ∷ begins r d.name ban ∷ []) shown),
     )
@@ -222,19 +222,19 @@ pub banned_anew : (at word serial : ℕ) (addr : Addr) (d : JailDef) (c : Conten
 banned_anew at word serial addr d c w e w_is =
     let n = record c { windows = w } in
     let up : suc serial ≡ serial + 1 = omega arith in
-    let swap : filter (λ (f : Failure). not (is_of addr f)) (filter (is_late c.moment d.findtime) c.windows.failures) ≡ filter (is_late c.moment d.findtime) w.failures =
-    filter_swap (is_late c.moment d.findtime) (λ (f : Failure). not (is_of addr f)) c.windows.failures ∙ ap (λ (o : Opened). filter (is_late c.moment d.findtime) o.failures) (sym w_is) in
+    let swap : filter (λ (f : Failure). not (is_of addr f)) (filter (is_recent c.moment d.findtime) c.windows.failures) ≡ filter (is_recent c.moment d.findtime) w.failures =
+    filter_swap (is_recent c.moment d.findtime) (λ (f : Failure). not (is_of addr f)) c.windows.failures ∙ ap (λ (o : Opened). filter (is_recent c.moment d.findtime) o.failures) (sym w_is) in
     let same : banned_now at word serial addr (jail_in d c) ≡ record { jail = jail_in d (with_ban d at word serial addr 0 n); next = serial + 1 } =
     rw e (ap₂ (λ (fs : List Failure) (k : ℕ). record { jail = record (jail_in d (with_ban d at word serial addr 0 n)) { failures = fs }; next = k }) swap up) in (
       same,
-      ap (λ (o : Out JailNow). told_new moves_now [] (jail_in d c) o.jail) same ∙ told_ban [] at word serial addr 0 d c n refl,
+      ap (λ (o : JailAndSerial JailNow). told_new moves_now [] (jail_in d c) o.jail) same ∙ told_ban [] at word serial addr 0 d c n refl,
     )
 
 -- forgotten failures keep what always holds
-pub forgotten_kept : (at next : ℕ) (addr : Addr) (d : JailDef) (c : Contents) (w : Opened) → IsKept at next d c
-    → w ≡ record (c.windows) { failures = filter (λ (f : Failure). not (is_of addr f)) c.windows.failures } → IsKept at next d (record c { windows = w })
+pub forgotten_kept : (at next : ℕ) (addr : Addr) (d : JailDef) (c : Contents) (w : Opened) → IsKeptJail at next d c
+    → w ≡ record (c.windows) { failures = filter (λ (f : Failure). not (is_of addr f)) c.windows.failures } → IsKeptJail at next d (record c { windows = w })
 forgotten_kept at next addr d c w kept w_is =
-    subst (λ (o : Opened). IsKept at next d (record c { windows = o })) (sym w_is) (record {
+    subst (λ (o : Opened). IsKeptJail at next d (record c { windows = o })) (sym w_is) (record {
       bounded = kept.bounded;
       findtime = kept.findtime;
       maxretry = kept.maxretry;
@@ -252,9 +252,9 @@ after_ends moment bs d c t e = ap (λ (r : BanLists). jail_in d (record c { bans
 
 -- what always holds after them, when time has passed too
 pub after_ends_kept : (moment : Ban → ℕ) (bs : List Ban) (before at next : ℕ) (d : JailDef) (c : Contents) (t : BanLists) → t ≡ all_ended moment bs c.bans
-    → IsKept before next d c → before ≤ at → IsKept at next d (record c { bans = t })
+    → IsKeptJail before next d c → before ≤ at → IsKeptJail at next d (record c { bans = t })
 after_ends_kept moment bs before at next d c t e kept le =
-    subst (λ (r : BanLists). IsKept at next d (record c { bans = r })) (sym e)
+    subst (λ (r : BanLists). IsKeptJail at next d (record c { bans = r })) (sym e)
     (ended_kept moment bs at next d c (kept_later before at next next d c kept le (omega arith)))
 
 -- ---- what was stored
@@ -276,18 +276,18 @@ pub stored_in : (at moment : ℕ) (d : JailDef) (v : JailView) (w : Opened) → 
     })
     ≡ jail_taken_up at d v
 stored_in at moment d v w moment_is w_is =
-    let late : AllOf (λ (f : Failure). is_late moment d.findtime f ≡ true) (failures_taken_up moment d v) =
-    all_of-filter (λ (f : Failure). is_late moment d.findtime f ≡ true) (λ (f : Failure). not (is_full d.findtime d.maxretry f.addr (filter (can_matter moment d.findtime) v.failures)))
+    let recent : AllOf (λ (f : Failure). is_recent moment d.findtime f ≡ true) (failures_taken_up moment d v) =
+    all_of-filter (λ (f : Failure). is_recent moment d.findtime f ≡ true) (λ (f : Failure). not (is_full d.findtime d.maxretry f.addr (filter (can_matter moment d.findtime) v.failures)))
     (filter (can_matter moment d.findtime) v.failures)
-    (all_of-kept (λ (f : Failure). is_late moment d.findtime f ≡ true) (can_matter moment d.findtime) v.failures (λ f h. (both_true (nat_le f.time moment) _ h).1)) in
-    let fs : filter (is_late moment d.findtime) w.failures ≡ failures_taken_up moment d v =
-    ap (λ (r : List Failure). filter (is_late moment d.findtime) r) w_is ∙ filter_all (is_late moment d.findtime) (failures_taken_up moment d v) late in
+    (all_of-kept (λ (f : Failure). is_recent moment d.findtime f ≡ true) (can_matter moment d.findtime) v.failures (λ f h. (both_true (nat_le f.time moment) _ h).1)) in
+    let fs : filter (is_recent moment d.findtime) w.failures ≡ failures_taken_up moment d v =
+    ap (λ (r : List Failure). filter (is_recent moment d.findtime) r) w_is ∙ filter_all (is_recent moment d.findtime) (failures_taken_up moment d v) recent in
     let taken : ℕ → List Failure → JailNow = λ k r. record (jail_of d v) { moment = k; failures = r; past = filter (is_over at v.bans) v.past } in
     ap (taken moment) fs ∙ ap (λ k. taken k (failures_taken_up k d v)) moment_is
 
 -- and what always holds of a jail holds of one that was stored
 pub stored_kept : (at next moment : ℕ) (d : JailDef) (c : Contents) (v : JailView) → IsBounded d → IsStored at next v → moment ≡ min v.moment at → c.moment ≡ moment
-    → c.bans.active ≡ v.bans → c.windows.findtime ≡ d.findtime → c.windows.maxretry ≡ d.maxretry → c.windows.failures ≡ failures_taken_up moment d v → IsKept at next d c
+    → c.bans.active ≡ v.bans → c.windows.findtime ≡ d.findtime → c.windows.maxretry ≡ d.maxretry → c.windows.failures ≡ failures_taken_up moment d v → IsKeptJail at next d c
 stored_kept at next moment d c v bounded stored moment_is c_moment bans findtime maxretry failures = record {
   bounded = bounded;
   findtime = findtime;

@@ -10,7 +10,7 @@ use Rattle.std.specs.Result.{IfOk, OnErr}
 use Rattle.ban_table.specs.Places.{pair_cmp, key_of}
 use Rattle.f2b_base.specs.declared.addr.Addr.{Addr}
 use Rattle.f2b_base.specs.declared.ban.Failure.{Failure}
-use Rattle.f2b_model.specs.Full.{is_of, IsFull, is_late}
+use Rattle.f2b_model.specs.Full.{is_of, IsFull, is_recent}
 use Rattle.f2b_model.specs.Lists.{AllOf, IsInOrder, in_order, placed}
 use Rattle.f2b_model.specs.Nows.{comes_before}
 use Rattle.f2b_model.specs.Stands.{StandsFor}
@@ -31,13 +31,13 @@ use Rattle.jail_moves.proofs.WindowEntries.{ChangesAt, IsSome, all_insert, all_s
 pub all_placed : (P : Failure → Type 0) (f : Failure) (fs : List Failure) → P f → AllOf P fs → AllOf P (placed comes_before f fs)
 all_placed P f fs here a = all_placed_all P comes_before fs (f ∷ []) a (here, tt)
 
--- a list in order stands for itself at a moment at which all of it is late, as it is at the first
+-- a list in order stands for itself at a moment at which all of it is recent, as it is at the first
 stands_itself : (findtime : ℕ) (fs : List Failure) → 1 ≤ findtime → IsInOrder comes_before fs → StandsFor 0 findtime fs fs
 stands_itself findtime fs long order =
-    let all = filter_all (is_late 0 findtime) fs (every fs) in
+    let all = filter_all (is_recent 0 findtime) fs (every fs) in
     record { is = sym (ap (λ r. in_order comes_before r) all ∙ in_order_same comes_before failures_order fs order) }
   where
-    every : (gs : List Failure) → AllOf (λ (g : Failure). is_late 0 findtime g ≡ true) gs
+    every : (gs : List Failure) → AllOf (λ (g : Failure). is_recent 0 findtime g ≡ true) gs
     every [] = tt
     every (g ∷ gs) = (true_lt 0 (g.time + 2 * findtime) (omega arith), every gs)
 
@@ -59,11 +59,11 @@ module _ (findtime maxretry now : ℕ) (f : Failure) (fs : List Failure) (old ne
   stands : StandsFor now findtime new.window.failures (fs ++ f ∷ [])
   stands = subst (λ (n : ℕ). StandsFor now n new.window.failures (fs ++ f ∷ [])) span (grows.stands 0 fs itself (omega arith))
 
-  -- its failures are those with one more, without what is no longer late
-  pub grown_is : new.window.failures ≡ filter (is_late now findtime) (placed comes_before f fs)
+  -- its failures are those with one more, without what is no longer recent
+  pub grown_is : new.window.failures ≡ filter (is_recent now findtime) (placed comes_before f fs)
   grown_is =
-      stands.is ∙ sym (in_order_filter comes_before failures_order (is_late now findtime) (fs ++ f ∷ []))
-      ∙ ap (λ r. filter (is_late now findtime) r) (placed_last f fs order)
+      stands.is ∙ sym (in_order_filter comes_before failures_order (is_recent now findtime) (fs ++ f ∷ []))
+      ∙ ap (λ r. filter (is_recent now findtime) r) (placed_last f fs order)
 
   -- it is still the address's window
   pub grown_own : IsOwn findtime maxretry f.addr (key_of f.addr, new)
@@ -77,12 +77,12 @@ module _ (findtime maxretry now : ℕ) (f : Failure) (fs : List Failure) (old ne
         span = grows.limits.findtime ∙ span;
         most = grows.limits.maxretry ∙ most;
         own = subst (λ (gs : List Failure). AllOf (λ (g : Failure). is_of f.addr g ≡ true) gs) back
-            (all_of-filter (λ (g : Failure). is_of f.addr g ≡ true) (is_late now findtime) (placed comes_before f fs) (all_placed (λ (g : Failure). is_of f.addr g ≡ true) f fs here own));
+            (all_of-filter (λ (g : Failure). is_of f.addr g ≡ true) (is_recent now findtime) (placed comes_before f fs) (all_placed (λ (g : Failure). is_of f.addr g ≡ true) f fs here own));
         in_order = subst (λ (gs : List Failure). IsInOrder comes_before gs) back
-            (filter_in_order comes_before failures_order (is_late now findtime) (placed comes_before f fs) (placed_in_order comes_before failures_order f fs order));
+            (filter_in_order comes_before failures_order (is_recent now findtime) (placed comes_before f fs) (placed_in_order comes_before failures_order f fs order));
         latest = subst (λ (n : ℕ). AllOf (λ (g : Failure). g.time ≤ n) new.window.failures) (sym grows.latest)
             (subst (λ (gs : List Failure). AllOf (λ (g : Failure). g.time ≤ max old.latest f.time) gs) back
-            (all_of-filter (λ (g : Failure). g.time ≤ max old.latest f.time) (is_late now findtime) (placed comes_before f fs)
+            (all_of-filter (λ (g : Failure). g.time ≤ max old.latest f.time) (is_recent now findtime) (placed comes_before f fs)
             (all_placed (λ (g : Failure). g.time ≤ max old.latest f.time) f fs time
             (all_of-more (λ (g : Failure). g.time ≤ old.latest) (λ (g : Failure). g.time ≤ max old.latest f.time) (λ g h. omega arith) fs latest))));
       }

@@ -4,7 +4,7 @@ use Rattle.std.specs.List.{filter}
 use Rattle.f2b_base.specs.declared.addr.Addr.{Addr}
 use Rattle.f2b_base.specs.declared.ban.Failure.{Failure}
 use Rattle.f2b_base.specs.Addresses.{same_addr}
-use Rattle.f2b_model.specs.Full.{is_of, in_span, IsFull, is_full, is_late}
+use Rattle.f2b_model.specs.Full.{is_of, in_span, IsFull, is_full, is_recent}
 use Rattle.f2b_model.specs.Lists.{AllOf, IsInOrder, placed}
 use Rattle.f2b_model.specs.Moves.{is_near}
 use Rattle.f2b_model.specs.Nows.{comes_before}
@@ -12,7 +12,7 @@ use Rattle.f2b_model.proofs.EndLemmas.{same_addr_same}
 use Rattle.f2b_model.proofs.FullLemmas.{both_true, stands, full_of_part, full_of_test, test_of_full, same_test, true_lt}
 use Rattle.f2b_model.proofs.ListLemmas.{by_test, filter_both, filter_swap, filter_in_order, placed_filter, placed_filter_no, placed_in_order}
 use Rattle.f2b_model.proofs.MarkLemmas.{failures_order}
-use Rattle.f2b_model.proofs.MoveLemmas.{late_before}
+use Rattle.f2b_model.proofs.MoveLemmas.{recent_before}
 use Rattle.f2b_model.proofs.OrderlyLemmas.{same_addr_sym}
 use Rattle.f2b_model.proofs.PartLemmas.{known_by_parts}
 use Rattle.f2b_model.proofs.SoundLemmas.{same_addr_true}
@@ -71,60 +71,60 @@ pub full_by_own : (findtime maxretry : ℕ) (addr : Addr) (fs gs : List Failure)
 full_by_own findtime maxretry addr fs gs same full =
     full_of_part (is_of addr) findtime maxretry addr gs (subst (λ (r : List Failure). IsFull findtime maxretry addr r) same (full_to_own findtime maxretry addr fs full))
 
--- a new failure is late
-pub new_is_late : (now findtime : ℕ) (f : Failure) → now < f.time + findtime → is_late now findtime f ≡ true
-new_is_late now findtime f new = true_lt now (f.time + 2 * findtime) (omega arith)
+-- a new failure is recent
+pub new_is_recent : (now findtime : ℕ) (f : Failure) → now < f.time + findtime → is_recent now findtime f ≡ true
+new_is_recent now findtime f new = true_lt now (f.time + 2 * findtime) (omega arith)
 
 -- what matters after one more failure does not hang on the moment before
 pub with_failure_is : (last now findtime : ℕ) (f : Failure) (fs : List Failure) → last ≤ now → now < f.time + findtime → IsInOrder comes_before fs
-    → with_failure last now findtime f fs ≡ placed comes_before f (filter (is_late now findtime) fs)
+    → with_failure last now findtime f fs ≡ placed comes_before f (filter (is_recent now findtime) fs)
 with_failure_is last now findtime f fs le new order =
-    placed_filter comes_before failures_order (is_late now findtime) f (new_is_late now findtime f new) (filter (is_late last findtime) fs)
-    (filter_in_order comes_before failures_order (is_late last findtime) fs order)
-    ∙ ap (λ r. placed comes_before f r) (filter_both (is_late last findtime) (is_late now findtime) (late_before last now findtime le) fs)
+    placed_filter comes_before failures_order (is_recent now findtime) f (new_is_recent now findtime f new) (filter (is_recent last findtime) fs)
+    (filter_in_order comes_before failures_order (is_recent last findtime) fs order)
+    ∙ ap (λ r. placed comes_before f r) (filter_both (is_recent last findtime) (is_recent now findtime) (recent_before last now findtime le) fs)
 
 -- the address's failures among those that matter then
 pub own_with : (now findtime : ℕ) (f : Failure) (fs : List Failure) → now < f.time + findtime → IsInOrder comes_before fs
-    → filter (is_of f.addr) (placed comes_before f (filter (is_late now findtime) fs)) ≡ own_after now findtime f fs
+    → filter (is_of f.addr) (placed comes_before f (filter (is_recent now findtime) fs)) ≡ own_after now findtime f fs
 own_with now findtime f fs new order =
-    let late = is_late now findtime in
-    placed_filter comes_before failures_order (is_of f.addr) f (same_addr_same f.addr) (filter late fs) (filter_in_order comes_before failures_order late fs order)
-    ∙ ap (λ r. placed comes_before f r) (filter_swap late (is_of f.addr) fs)
-    ∙ sym (placed_filter comes_before failures_order late f (new_is_late now findtime f new) (filter (is_of f.addr) fs)
+    let recent = is_recent now findtime in
+    placed_filter comes_before failures_order (is_of f.addr) f (same_addr_same f.addr) (filter recent fs) (filter_in_order comes_before failures_order recent fs order)
+    ∙ ap (λ r. placed comes_before f r) (filter_swap recent (is_of f.addr) fs)
+    ∙ sym (placed_filter comes_before failures_order recent f (new_is_recent now findtime f new) (filter (is_of f.addr) fs)
     (filter_in_order comes_before failures_order (is_of f.addr) fs order))
 
 -- and those of another address
 pub other_with : (now findtime : ℕ) (f : Failure) (fs : List Failure) (other : Addr) → same_addr f.addr other ≡ false
-    → filter (is_of other) (placed comes_before f (filter (is_late now findtime) fs)) ≡ filter (is_late now findtime) (filter (is_of other) fs)
+    → filter (is_of other) (placed comes_before f (filter (is_recent now findtime) fs)) ≡ filter (is_recent now findtime) (filter (is_of other) fs)
 other_with now findtime f fs other e =
-    placed_filter_no comes_before failures_order (is_of other) f e (filter (is_late now findtime) fs) ∙ filter_swap (is_late now findtime) (is_of other) fs
+    placed_filter_no comes_before failures_order (is_of other) f e (filter (is_recent now findtime) fs) ∙ filter_swap (is_recent now findtime) (is_of other) fs
 
--- where the address's failures are those with one more, and others stay, so are all that are late
-pub late_with : (now findtime : ℕ) (f : Failure) (old new : List Failure) → now < f.time + findtime → IsInOrder comes_before old → IsInOrder comes_before new
+-- where the address's failures are those with one more, and others stay, so are all that are recent
+pub recent_with : (now findtime : ℕ) (f : Failure) (old new : List Failure) → now < f.time + findtime → IsInOrder comes_before old → IsInOrder comes_before new
     → filter (is_of f.addr) new ≡ own_after now findtime f old → KeepsOthers f.addr old new
-    → filter (is_late now findtime) new ≡ placed comes_before f (filter (is_late now findtime) old)
-late_with now findtime f old new recent order after own others =
-    known_by_parts (filter late new) (placed comes_before f (filter late old)) (filter_in_order comes_before failures_order late new after)
-    (placed_in_order comes_before failures_order f (filter late old) (filter_in_order comes_before failures_order late old order))
-    (λ addr. filter_swap late (is_of addr) new ∙ by_test (same_addr f.addr addr) _ (same addr) (apart addr))
+    → filter (is_recent now findtime) new ≡ placed comes_before f (filter (is_recent now findtime) old)
+recent_with now findtime f old new recent order after own others =
+    known_by_parts (filter is_new new) (placed comes_before f (filter is_new old)) (filter_in_order comes_before failures_order is_new new after)
+    (placed_in_order comes_before failures_order f (filter is_new old) (filter_in_order comes_before failures_order is_new old order))
+    (λ addr. filter_swap is_new (is_of addr) new ∙ by_test (same_addr f.addr addr) _ (same addr) (apart addr))
   where
-    late : Failure → Bool
-    late = is_late now findtime
+    is_new : Failure → Bool
+    is_new = is_recent now findtime
 
-    here : filter (is_late now findtime) (filter (is_of f.addr) new) ≡ filter (is_of f.addr) (placed comes_before f (filter (is_late now findtime) old))
+    here : filter (is_recent now findtime) (filter (is_of f.addr) new) ≡ filter (is_of f.addr) (placed comes_before f (filter (is_recent now findtime) old))
     here =
-        ap (λ r. filter (is_late now findtime) r) own ∙ filter_twice (is_late now findtime) (placed comes_before f (filter (is_of f.addr) old))
+        ap (λ r. filter (is_recent now findtime) r) own ∙ filter_twice (is_recent now findtime) (placed comes_before f (filter (is_of f.addr) old))
         ∙ sym (own_with now findtime f old recent order)
 
     same : (addr : Addr) → same_addr f.addr addr ≡ true
-        → filter (is_late now findtime) (filter (is_of addr) new) ≡ filter (is_of addr) (placed comes_before f (filter (is_late now findtime) old))
+        → filter (is_recent now findtime) (filter (is_of addr) new) ≡ filter (is_of addr) (placed comes_before f (filter (is_recent now findtime) old))
     same addr e =
-        subst (λ (a : Addr). filter (is_late now findtime) (filter (is_of a) new) ≡ filter (is_of a) (placed comes_before f (filter (is_late now findtime) old)))
+        subst (λ (a : Addr). filter (is_recent now findtime) (filter (is_of a) new) ≡ filter (is_of a) (placed comes_before f (filter (is_recent now findtime) old)))
         (same_addr_true f.addr addr e) here
 
     apart : (addr : Addr) → same_addr f.addr addr ≡ false
-        → filter (is_late now findtime) (filter (is_of addr) new) ≡ filter (is_of addr) (placed comes_before f (filter (is_late now findtime) old))
-    apart addr e = ap (λ r. filter (is_late now findtime) r) (others addr e) ∙ sym (other_with now findtime f old addr e)
+        → filter (is_recent now findtime) (filter (is_of addr) new) ≡ filter (is_of addr) (placed comes_before f (filter (is_recent now findtime) old))
+    apart addr e = ap (λ r. filter (is_recent now findtime) r) (others addr e) ∙ sym (other_with now findtime f old addr e)
 
 -- without an address's failures it has none
 pub own_gone : (addr : Addr) (fs : List Failure) → filter (is_of addr) (filter (λ (g : Failure). not (is_of addr g)) fs) ≡ []
@@ -157,10 +157,10 @@ rest_is addr old new order after own others =
 -- an address is full by what matters exactly where it is by its own failures with one more
 pub full_with : (findtime maxretry now : ℕ) (f : Failure) (fs : List Failure) (full : Bool) → 1 ≤ maxretry → now < f.time + findtime → IsInOrder comes_before fs
     → full ≡ is_full findtime maxretry f.addr (own_after now findtime f fs)
-    → full ≡ is_full findtime maxretry f.addr (placed comes_before f (filter (is_late now findtime) fs))
+    → full ≡ is_full findtime maxretry f.addr (placed comes_before f (filter (is_recent now findtime) fs))
 full_with findtime maxretry now f fs full one recent order is =
     let own = own_with now findtime f fs recent order in
-    let ws = placed comes_before f (filter (is_late now findtime) fs) in
+    let ws = placed comes_before f (filter (is_recent now findtime) fs) in
     let two : filter (is_of f.addr) ws ≡ filter (is_of f.addr) (own_after now findtime f fs) =
     sym (filter_twice (is_of f.addr) ws) ∙ ap (λ r. filter (is_of f.addr) r) own in
     is ∙ same_test _ _
@@ -169,7 +169,7 @@ full_with findtime maxretry now f fs full one recent order is =
 
 -- the failures that are near the new one are all its address's
 pub near_with : (findtime now : ℕ) (f : Failure) (fs : List Failure) → now < f.time + findtime → IsInOrder comes_before fs
-    → filter (is_near findtime f) (own_after now findtime f fs) ≡ filter (is_near findtime f) (placed comes_before f (filter (is_late now findtime) fs))
+    → filter (is_near findtime f) (own_after now findtime f fs) ≡ filter (is_near findtime f) (placed comes_before f (filter (is_recent now findtime) fs))
 near_with findtime now f fs recent order =
     ap (λ r. filter (is_near findtime f) r) (sym (own_with now findtime f fs recent order))
-    ∙ filter_both (is_of f.addr) (is_near findtime f) (λ g h. (both_true (is_of f.addr g) _ h).0) (placed comes_before f (filter (is_late now findtime) fs))
+    ∙ filter_both (is_of f.addr) (is_near findtime f) (λ g h. (both_true (is_of f.addr g) _ h).0) (placed comes_before f (filter (is_recent now findtime) fs))

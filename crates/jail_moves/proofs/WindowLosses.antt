@@ -1,4 +1,4 @@
--- A window is taken out, where its address is full or by itself; and windows that hold nothing late go.
+-- A window is taken out, where its address is full or by itself; and windows that hold nothing recent go.
 use Rattle.std.proofs.Common.{◌≡◌, ℕ, ◌+◌, ◌*◌, ◌≤◌, Bool, true, false, nat_lt, Option, Some, None, List, [], ◌∷◌, ◌++◌, length, refl, sym, ◌∙◌, ap, subst, arith, length-append}
 use Rattle.std.specs.BTreeMap.{is_at}
 use Rattle.std.specs.List.{filter}
@@ -9,7 +9,7 @@ use Rattle.ban_table.specs.Places.{pair_cmp, key_of}
 use Rattle.f2b_base.specs.declared.addr.Addr.{Addr}
 use Rattle.f2b_base.specs.declared.ban.Failure.{Failure}
 use Rattle.f2b_base.specs.Addresses.{same_addr}
-use Rattle.f2b_model.specs.Full.{is_of, in_span, how_many, IsFull, is_full, is_late}
+use Rattle.f2b_model.specs.Full.{is_of, in_span, how_many, IsFull, is_full, is_recent}
 use Rattle.f2b_model.specs.Lists.{AllOf}
 use Rattle.f2b_model.specs.Moves.{is_near, is_near_to}
 use Rattle.f2b_model.proofs.FullLemmas.{full_of_part, full_of_test, not_true_both, same_test, test_of_full}
@@ -105,26 +105,26 @@ counted_out findtime maxretry now f old mid new full near held is_full_now enter
 
 -- ---- old windows go
 
--- where the latest failure is not late, none is
-none_late : (now findtime latest : ℕ) (fs : List Failure) → nat_lt now (latest + 2 * findtime) ≡ false → AllOf (λ (f : Failure). f.time ≤ latest) fs
-    → AllOf (λ (f : Failure). is_late now findtime f ≡ false) fs
-none_late now findtime latest [] old a = tt
-none_late now findtime latest (f ∷ fs) old a = (older f.time a.0, none_late now findtime latest fs old a.1)
+-- where the latest failure is not recent, none is
+none_recent : (now findtime latest : ℕ) (fs : List Failure) → nat_lt now (latest + 2 * findtime) ≡ false → AllOf (λ (f : Failure). f.time ≤ latest) fs
+    → AllOf (λ (f : Failure). is_recent now findtime f ≡ false) fs
+none_recent now findtime latest [] old a = tt
+none_recent now findtime latest (f ∷ fs) old a = (older f.time a.0, none_recent now findtime latest fs old a.1)
   where
     older : (time : ℕ) → time ≤ latest → nat_lt now (time + 2 * findtime) ≡ false
     older time le = grind (arith, nat_tests)
 
--- all that is late stays
-late_live : (findtime maxretry now : ℕ) (es : List Entry) → AllOf (IsSome findtime maxretry) es
-    → filter (is_late now findtime) (failures_in (filter (is_live now findtime) es)) ≡ filter (is_late now findtime) (failures_in es)
-late_live findtime maxretry now [] each = refl
-late_live findtime maxretry now (e ∷ es) each =
-    let rest = late_live findtime maxretry now es each.1 in
-    let apart = filter-append (is_late now findtime) e.1.window.failures in
+-- all that is recent stays
+recent_live : (findtime maxretry now : ℕ) (es : List Entry) → AllOf (IsSome findtime maxretry) es
+    → filter (is_recent now findtime) (failures_in (filter (is_live now findtime) es)) ≡ filter (is_recent now findtime) (failures_in es)
+recent_live findtime maxretry now [] each = refl
+recent_live findtime maxretry now (e ∷ es) each =
+    let rest = recent_live findtime maxretry now es each.1 in
+    let apart = filter-append (is_recent now findtime) e.1.window.failures in
     by_test (is_live now findtime e) _
-    (λ t. rw t (apart (failures_in (filter (is_live now findtime) es)) ∙ ap (λ r. filter (is_late now findtime) e.1.window.failures ++ r) rest ∙ sym (apart (failures_in es))))
+    (λ t. rw t (apart (failures_in (filter (is_live now findtime) es)) ∙ ap (λ r. filter (is_recent now findtime) e.1.window.failures ++ r) rest ∙ sym (apart (failures_in es))))
     (λ t. rw t (rest ∙ sym (apart (failures_in es)
-    ∙ ap (λ r. r ++ filter (is_late now findtime) (failures_in es)) (filter_none (is_late now findtime) e.1.window.failures (none_late now findtime e.1.latest e.1.window.failures t each.0.1.latest)))))
+    ∙ ap (λ r. r ++ filter (is_recent now findtime) (failures_in es)) (filter_none (is_recent now findtime) e.1.window.failures (none_recent now findtime e.1.latest e.1.window.failures t each.0.1.latest)))))
 
 -- what holds of each failure holds of those that stay
 all_live : (P : Failure → Type 0) (p : Entry → Bool) (es : List Entry) → AllOf P (failures_in es) → AllOf P (failures_in (filter p es))
@@ -166,7 +166,7 @@ swept findtime maxretry now old new held is rising = record {
           many = (let many = full.many in let fewer = fewer_live addr full.start findtime (is_live now findtime) old in omega arith);
         }));
   };
-  late = ap (λ r. filter (is_late now findtime) (failures_in r)) is ∙ late_live findtime maxretry now old held.windows.each;
+  recent = ap (λ r. filter (is_recent now findtime) (failures_in r)) is ∙ recent_live findtime maxretry now old held.windows.each;
   times = λ moment a.
       subst (λ (r : List Entry). AllOf (λ (f : Failure). f.time ≤ moment) (failures_in r)) (sym is) (all_live (λ (f : Failure). f.time ≤ moment) (is_live now findtime) old a);
 }

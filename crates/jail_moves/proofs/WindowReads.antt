@@ -11,7 +11,7 @@ use Rattle.ban_table.specs.Places.{pair_cmp}
 use Rattle.f2b_base.specs.declared.addr.Addr.{Addr}
 use Rattle.f2b_base.specs.declared.ban.Failure.{Failure}
 use Rattle.f2b_base.specs.Addresses.{same_addr}
-use Rattle.f2b_model.specs.Full.{is_of, IsFull, is_full, is_late}
+use Rattle.f2b_model.specs.Full.{is_of, IsFull, is_full, is_recent}
 use Rattle.f2b_model.specs.Lists.{AllOf, IsInOrder, NoneBefore, in_order, placed}
 use Rattle.f2b_model.specs.Nows.{addr_before, comes_before}
 use Rattle.f2b_model.specs.StorableViews.{can_matter, unfilled}
@@ -135,11 +135,11 @@ module _ (findtime maxretry moment : ℕ) (gs rest : List Failure) (f : Failure)
       let nothing : filter (is_of addr) (f ∷ []) ≡ [] = rw e refl in
       filter-append (is_of addr) gs (f ∷ []) ∙ ap (λ hs. filter (is_of addr) gs ++ hs) nothing ∙ append-nil (filter (is_of addr) gs)
 
-  -- each is late at the last one's time
-  each_late : AllOf (λ (g : Failure). is_late f.time findtime g ≡ true) (gs ++ f ∷ [])
-  each_late =
+  -- each is recent at the last one's time
+  each_recent : AllOf (λ (g : Failure). is_recent f.time findtime g ≡ true) (gs ++ f ∷ [])
+  each_recent =
       let by : f.time ≤ moment = le_true f.time moment (both_true (nat_le f.time moment) _ matters).0 in
-      all_of-more (λ (g : Failure). can_matter moment findtime g ≡ true) (λ (g : Failure). is_late f.time findtime g ≡ true)
+      all_of-more (λ (g : Failure). can_matter moment findtime g ≡ true) (λ (g : Failure). is_recent f.time findtime g ≡ true)
       (λ g m. let recent : moment < g.time + 2 * findtime = lt_true moment (g.time + 2 * findtime) (both_true (nat_le g.time moment) _ m).1 in
       true_lt f.time (g.time + 2 * findtime) (omega arith))
       (gs ++ f ∷ []) (all_of-push (λ (g : Failure). can_matter moment findtime g ≡ true) gs f matter matters)
@@ -149,11 +149,11 @@ module _ (findtime maxretry moment : ℕ) (gs rest : List Failure) (f : Failure)
   own_is unnoted =
       let own = filter_in_order comes_before failures_order (is_of f.addr) gs front in
       let all = filter_in_order comes_before failures_order (is_of f.addr) (gs ++ f ∷ []) order in
-      ap (λ hs. filter (is_late f.time findtime) (placed comes_before f hs)) (before.others f.addr unnoted)
-      ∙ ap (λ hs. filter (is_late f.time findtime) hs) (sym (placed_last f (filter (is_of f.addr) gs) own) ∙ ap (λ hs. in_order comes_before hs) (sym own_more)
+      ap (λ hs. filter (is_recent f.time findtime) (placed comes_before f hs)) (before.others f.addr unnoted)
+      ∙ ap (λ hs. filter (is_recent f.time findtime) hs) (sym (placed_last f (filter (is_of f.addr) gs) own) ∙ ap (λ hs. in_order comes_before hs) (sym own_more)
       ∙ in_order_same comes_before failures_order (filter (is_of f.addr) (gs ++ f ∷ [])) all)
-      ∙ filter_all (is_late f.time findtime) (filter (is_of f.addr) (gs ++ f ∷ []))
-      (all_of-filter (λ (g : Failure). is_late f.time findtime g ≡ true) (is_of f.addr) (gs ++ f ∷ []) each_late)
+      ∙ filter_all (is_recent f.time findtime) (filter (is_of f.addr) (gs ++ f ∷ []))
+      (all_of-filter (λ (g : Failure). is_recent f.time findtime g ≡ true) (is_of f.addr) (gs ++ f ∷ []) each_recent)
 
   -- none that is left comes before one that is kept
   order_more : AllOf (λ (g : Failure). NoneBefore comes_before g rest) (failures_in new)

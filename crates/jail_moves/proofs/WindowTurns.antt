@@ -8,7 +8,7 @@ use Rattle.f2b_base.specs.declared.addr.Addr.{Addr}
 use Rattle.f2b_base.specs.declared.ban.Failure.{Failure}
 use Rattle.f2b_base.specs.declared.memory.NoMemory.{NoMemory}
 use Rattle.f2b_base.specs.Addresses.{same_addr}
-use Rattle.f2b_model.specs.Full.{is_of, IsFull, is_full, is_late}
+use Rattle.f2b_model.specs.Full.{is_of, IsFull, is_full, is_recent}
 use Rattle.f2b_model.specs.Lists.{AllOf, IsInOrder, placed}
 use Rattle.f2b_model.specs.Moves.{is_near}
 use Rattle.f2b_model.specs.Nows.{comes_before}
@@ -19,7 +19,7 @@ use Rattle.f2b_model.proofs.OrderlyLemmas.{all_of-filter}
 use Rattle.f2b_model.proofs.SoundLemmas.{same_addr_true}
 use Rattle.jail_moves.specs.Added.{with_failure, IsAdded}
 use Rattle.jail_moves.specs.Addresses.{Entry, failures_in, Counts, IsHeld, Loses, Sweeps}
-use Rattle.jail_moves.proofs.WindowLists.{all_by_parts, full_with, late_with, near_with, other_with, rest_is, with_failure_is}
+use Rattle.jail_moves.proofs.WindowLists.{all_by_parts, full_with, recent_with, near_with, other_with, rest_is, with_failure_is}
 use Rattle.jail_moves.proofs.WindowEntries.{in_order_of}
 use Rattle.jail_moves.proofs.WindowCounts.{all_placed, own_in}
 
@@ -52,7 +52,7 @@ all_counted findtime maxretry now f old new full P here a counts =
         by_test (is_some full) _
         (λ t. subst (λ (gs : List Failure). AllOf P gs) (sym (counts.goes t)) tt)
         (λ t. subst (λ (gs : List Failure). AllOf P gs) (sym (counts.stays t))
-        (all_of-filter P (is_late now findtime) (placed comes_before f (own_in f.addr old)) (all_placed P f (own_in f.addr old) here (all_of-filter P (is_of f.addr) (failures_in old) a))))
+        (all_of-filter P (is_recent now findtime) (placed comes_before f (own_in f.addr old)) (all_placed P f (own_in f.addr old) here (all_of-filter P (is_of f.addr) (failures_in old) a))))
 
     same : (addr : Addr) → same_addr f.addr addr ≡ true → AllOf P (own_in addr new)
     same addr e = subst (λ (a : Addr). AllOf P (own_in a new)) (same_addr_true f.addr addr e) own
@@ -83,23 +83,23 @@ module _ (findtime maxretry now : ℕ) (f : Failure) (old mid new : List Entry) 
   new_order = in_order_of findtime maxretry new counts.held.windows
 
   -- what matters then, whatever the moment was before
-  matters_is : (last : ℕ) → last ≤ now → placed comes_before f (filter (is_late now findtime) (failures_in mid)) ≡ with_failure last now findtime f (failures_in old)
-  matters_is last le = ap (λ gs. placed comes_before f gs) sweeps.late ∙ sym (with_failure_is last now findtime f (failures_in old) le recent old_order)
+  matters_is : (last : ℕ) → last ≤ now → placed comes_before f (filter (is_recent now findtime) (failures_in mid)) ≡ with_failure last now findtime f (failures_in old)
+  matters_is last le = ap (λ gs. placed comes_before f gs) sweeps.recent ∙ sym (with_failure_is last now findtime f (failures_in old) le recent old_order)
 
-  -- where the address is not full, what is late is what matters then
-  stays : is_some full ≡ false → filter (is_late now findtime) (failures_in new) ≡ placed comes_before f (filter (is_late now findtime) (failures_in mid))
-  stays none = late_with now findtime f (failures_in mid) (failures_in new) recent mid_order new_order (counts.stays none) counts.others
+  -- where the address is not full, what is recent is what matters then
+  stays : is_some full ≡ false → filter (is_recent now findtime) (failures_in new) ≡ placed comes_before f (filter (is_recent now findtime) (failures_in mid))
+  stays none = recent_with now findtime f (failures_in mid) (failures_in new) recent mid_order new_order (counts.stays none) counts.others
 
   -- where it is full, that without the address's
   goes : is_some full ≡ true
-      → filter (is_late now findtime) (failures_in new) ≡ filter (λ (g : Failure). not (is_of f.addr g)) (placed comes_before f (filter (is_late now findtime) (failures_in mid)))
+      → filter (is_recent now findtime) (failures_in new) ≡ filter (λ (g : Failure). not (is_of f.addr g)) (placed comes_before f (filter (is_recent now findtime) (failures_in mid)))
   goes some =
-      rest_is f.addr (placed comes_before f (filter (is_late now findtime) (failures_in mid))) (filter (is_late now findtime) (failures_in new))
-      (placed_in_order comes_before failures_order f _ (filter_in_order comes_before failures_order (is_late now findtime) (failures_in mid) mid_order))
-      (filter_in_order comes_before failures_order (is_late now findtime) (failures_in new) new_order)
-      (filter_swap (is_late now findtime) (is_of f.addr) (failures_in new) ∙ ap (λ gs. filter (is_late now findtime) gs) (counts.goes some))
+      rest_is f.addr (placed comes_before f (filter (is_recent now findtime) (failures_in mid))) (filter (is_recent now findtime) (failures_in new))
+      (placed_in_order comes_before failures_order f _ (filter_in_order comes_before failures_order (is_recent now findtime) (failures_in mid) mid_order))
+      (filter_in_order comes_before failures_order (is_recent now findtime) (failures_in new) new_order)
+      (filter_swap (is_recent now findtime) (is_of f.addr) (failures_in new) ∙ ap (λ gs. filter (is_recent now findtime) gs) (counts.goes some))
       (λ other e.
-      filter_swap (is_late now findtime) (is_of other) (failures_in new) ∙ ap (λ gs. filter (is_late now findtime) gs) (counts.others other e)
+      filter_swap (is_recent now findtime) (is_of other) (failures_in new) ∙ ap (λ gs. filter (is_recent now findtime) gs) (counts.others other e)
       ∙ sym (other_with now findtime f (failures_in mid) other e))
 
   -- all this is what one more failure does

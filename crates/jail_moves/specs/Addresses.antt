@@ -8,7 +8,7 @@ use Rattle.ban_table.specs.Places.{pair_cmp, key_of}
 use Rattle.f2b_base.specs.declared.addr.Addr.{Addr}
 use Rattle.f2b_base.specs.declared.ban.Failure.{Failure}
 use Rattle.f2b_base.specs.Addresses.{same_addr}
-use Rattle.f2b_model.specs.Full.{IsFull, is_full, is_late, is_of}
+use Rattle.f2b_model.specs.Full.{IsFull, is_full, is_recent, is_of}
 use Rattle.f2b_model.specs.Lists.{AllOf, IsInOrder, placed}
 use Rattle.f2b_model.specs.Moves.{is_near}
 use Rattle.f2b_model.specs.Nows.{comes_before}
@@ -56,9 +56,9 @@ pub record Grows (now : ℕ) (f : Failure) (old new : AddrWindow) (full : Bool) 
   pub tells : TellsFull now old.window f full
   pub latest : new.latest ≡ max old.latest f.time
 
--- an address's failures after one more, without those that are no longer late
+-- an address's failures after one more, without those that are no longer recent
 abbrev pub own_after : ℕ → ℕ → Failure → List Failure → List Failure
-own_after now findtime f fs = filter (is_late now findtime) (placed comes_before f (filter (is_of f.addr) fs))
+own_after now findtime f fs = filter (is_recent now findtime) (placed comes_before f (filter (is_of f.addr) fs))
 
 -- the failures of other addresses stay
 abbrev pub KeepsOthers : Addr → List Failure → List Failure → Type 0
@@ -85,10 +85,10 @@ pub record LosesEach (findtime maxretry : ℕ) (addrs : List Addr) (old new : Li
   pub windows : AreWindows findtime maxretry new
   pub failures : failures_in new ≡ filter (λ (f : Failure). not (is_of_some addrs f)) (failures_in old)
 
--- windows that hold nothing late are taken out
+-- windows that hold nothing recent are taken out
 pub record Sweeps (findtime maxretry now : ℕ) (old new : List Entry) : Type 0 where
   pub held : IsHeld findtime maxretry new
-  pub late : filter (is_late now findtime) (failures_in new) ≡ filter (is_late now findtime) (failures_in old)
+  pub recent : filter (is_recent now findtime) (failures_in new) ≡ filter (is_recent now findtime) (failures_in old)
   pub times : (moment : ℕ) → AllOf (λ (f : Failure). f.time ≤ moment) (failures_in old) → AllOf (λ (f : Failure). f.time ≤ moment) (failures_in new)
 
 -- One more failure is counted. Where its address is then full its window is taken out, and it is told which of its failures are near.
@@ -100,6 +100,6 @@ pub record Counts (findtime maxretry now : ℕ) (f : Failure) (old new : List En
   pub goes : is_some full ≡ true → filter (is_of f.addr) (failures_in new) ≡ []
   pub others : KeepsOthers f.addr (failures_in old) (failures_in new)
 
--- whether an address's latest failure is late at a moment
+-- whether an address's latest failure is recent at a moment
 abbrev pub is_live : ℕ → ℕ → Entry → Bool
 is_live now findtime e = nat_lt now (e.1.latest + 2 * findtime)

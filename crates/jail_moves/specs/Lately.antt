@@ -4,7 +4,7 @@ use Rattle.std.specs.List.{list_any}
 use Rattle.f2b_base.specs.declared.addr.Addr.{Addr}
 use Rattle.f2b_base.specs.declared.ban.Failure.{Failure}
 use Rattle.f2b_base.specs.Addresses.{same_addr}
-use Rattle.fail_window.specs.Times.{is_recent}
+use Rattle.fail_window.specs.Times.{is_within_findtime}
 
 -- each address of a list once
 abbrev pub each_once : List Addr → List Addr
@@ -13,4 +13,4 @@ each_once (addr ∷ addrs) = cond (list_any (same_addr addr) addrs) (each_once a
 
 -- how many addresses have a failure that is later than `findtime` before a moment
 abbrev pub failed_lately : ℕ → ℕ → List Failure → ℕ
-failed_lately now findtime fs = length (each_once (map (λ (f : Failure). f.addr) (filter (is_recent now findtime) fs)))
+failed_lately now findtime fs = length (each_once (map (λ (f : Failure). f.addr) (filter (is_within_findtime now findtime) fs)))

@@ -10,9 +10,9 @@ use Rattle.f2b_base.specs.declared.view.JailView.{JailView}
 use Rattle.f2b_base.specs.declared.view.WatchView.{WatchView}
 use Rattle.f2b_base.specs.Span.{IsRule}
 use Rattle.f2b_model.specs.declared.jail_now.JailNow.{JailNow}
-use Rattle.f2b_model.specs.Full.{is_late}
+use Rattle.f2b_model.specs.Full.{is_recent}
 use Rattle.f2b_model.specs.Lists.{AllOf, IsInOrder}
-use Rattle.f2b_model.specs.Moves.{new_ban, up_64}
+use Rattle.f2b_model.specs.Moves.{new_ban, plus_one_capped}
 use Rattle.f2b_model.specs.Nows.{comes_before}
 use Rattle.f2b_model.specs.Sound.{IsOnceEach, IsRisingSerials}
 use Rattle.fail_window.specs.Opened.{KeepsLimits, Opened}
@@ -29,7 +29,7 @@ pub record Contents : Type 0 where
   pub windows : Opened
   pub bans : BanLists
 
--- the middle state of a jail with a definition: of the kept failures those matter that are late at the last one that counted
+-- the middle state of a jail with a definition: of the kept failures those matter that are recent at the last one that counted
 abbrev pub jail_in : JailDef → Contents → JailNow
 jail_in d c = record {
   definition = d;
@@ -38,7 +38,7 @@ jail_in d c = record {
   total_banned = c.total_banned;
   moment = c.moment;
   watches = c.watches;
-  failures = filter (is_late c.moment d.findtime) c.windows.failures;
+  failures = filter (is_recent c.moment d.findtime) c.windows.failures;
   bans = c.bans.active;
   past = c.bans.past;
 }
@@ -52,7 +52,7 @@ pub record IsBounded (d : JailDef) : Type 0 where
 
 -- What always holds of a jail at a moment, where the ban to come has that serial: the definition is bounded and its limits are those
 -- of the windows, nothing is to come, and each active ban has a lower serial.
-pub record IsKept (at next : ℕ) (d : JailDef) (c : Contents) : Type 0 where
+pub record IsKeptJail (at next : ℕ) (d : JailDef) (c : Contents) : Type 0 where
   pub bounded : IsBounded d
   pub findtime : c.windows.findtime ≡ d.findtime
   pub maxretry : c.windows.maxretry ≡ d.maxretry
@@ -68,13 +68,13 @@ all_ended moment (b ∷ bs) t = all_ended moment bs (ended b.addr (moment b) t)
 -- a ban of an address begins, to which so many failures led
 abbrev pub with_ban : JailDef → ℕ → ℕ → ℕ → Addr → ℕ → Contents → Contents
 with_ban d at word serial addr failures c = record c {
-  total_banned = up_64 c.total_banned;
+  total_banned = plus_one_capped c.total_banned;
   bans = record (c.bans) { active = c.bans.active ++ new_ban d c.bans.past at word serial addr failures ∷ [] };
 }
 
 -- a failure was counted at a moment, and these are the windows after it
 abbrev pub with_count : ℕ → Opened → Contents → Contents
-with_count at w c = record c { total_failed = up_64 c.total_failed; moment = at; windows = w }
+with_count at w c = record c { total_failed = plus_one_capped c.total_failed; moment = at; windows = w }
 
 -- a failure was counted, and it was told whether its address is full, and by which failures
 pub record IsCounted (at : ℕ) (f : Failure) (old new : Contents) (full : Option (List Failure)) : Type 0 where

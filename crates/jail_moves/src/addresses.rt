@@ -1,7 +1,7 @@
 //! The windows of a jail by address: what goes in, what comes out, and what is too old.
 ghost use Rattle.std.specs.Prelude.{◌≡◌, ℕ, ◌+◌, ◌*◌, ◌<◌, ◌≤◌, [], ◌∷◌, ◌++◌, None, true, nat_lt, filter, OnOk, OnErr, IfOk};
 ghost use Rattle.f2b_base.specs.declared.ban.Failure.{Failure};
-ghost use Rattle.f2b_model.specs.Full.{is_late, is_of};
+ghost use Rattle.f2b_model.specs.Full.{is_recent, is_of};
 ghost use Rattle.f2b_model.specs.Lists.{AllOf};
 ghost use Rattle.f2b_model.specs.Moves.{is_near_to};
 ghost use Rattle.f2b_model.specs.StorableViews.{can_matter};
@@ -35,7 +35,7 @@ fn key_of(addr: Addr) -> (u8, u128)
 }
 
 /// Whether a time is later than two `findtime` before a moment.
-fn is_late(at: u64, findtime: u64, time: u64) -> bool
+fn is_recent(at: u64, findtime: u64, time: u64) -> bool
     ensures { result ≡ nat_lt at (time + 2 * findtime) }
 {
     at < time || (at - time) / 2 < findtime
@@ -45,7 +45,7 @@ fn is_late(at: u64, findtime: u64, time: u64) -> bool
 pub fn can_matter(moment: u64, findtime: u64, failure: &Failure) -> bool
     ensures { result ≡ can_matter moment findtime failure.now }
 {
-    failure.time <= moment && is_late(moment, findtime, failure.time)
+    failure.time <= moment && is_recent(moment, findtime, failure.time)
 }
 
 /// Whether a moment is less than `findtime` seconds after another.
@@ -200,11 +200,11 @@ pub fn count(
     Ok(None)
 }
 
-/// Takes out each window of which nothing is late at a moment.
+/// Takes out each window of which nothing is recent at a moment.
 fn sweep(windows: &mut ByAddr, now: u64, findtime: u64)
     ensures { (maxretry : ℕ) → IsHeld findtime maxretry windows.old.entries → Sweeps findtime maxretry now windows.old.entries windows.new.entries }
 {
-    windows.retain(|_, window| is_late(now, findtime, window.latest));
+    windows.retain(|_, window| is_recent(now, findtime, window.latest));
 }
 
 /// Sweeps once as many failures came in as there were windows after the last sweep, so that each failure pays for one window.
@@ -219,49 +219,49 @@ pub fn sweep_in_turn(windows: &mut ByAddr, until_sweep: &mut u64, now: u64, find
     }
 }
 
-/// Copies a failure behind others where it is late at a moment.
-fn push_late(
+/// Copies a failure behind others where it is recent at a moment.
+fn push_recent(
     failures: &mut Seq<Failure>,
     failure: &Failure,
     moment: u64,
     findtime: u64,
 ) -> Result<(), NoMemory>
-    ensures { OnOk result (failures.new ≡ failures.old ++ filter (is_late moment findtime) (failure.now ∷ [])) }
+    ensures { OnOk result (failures.new ≡ failures.old ++ filter (is_recent moment findtime) (failure.now ∷ [])) }
 {
-    if is_late(moment, findtime, failure.time) {
+    if is_recent(moment, findtime, failure.time) {
         failures.push(failure.copy()?)?;
     }
     Ok(())
 }
 
-/// Copies the failures of a window that are late at a moment behind others.
-fn copy_late(
+/// Copies the failures of a window that are recent at a moment behind others.
+fn copy_recent(
     failures: &mut Seq<Failure>,
     window: &Window,
     moment: u64,
     findtime: u64,
 ) -> Result<(), NoMemory>
-    ensures { OnOk result (failures.new ≡ failures.old ++ filter (is_late moment findtime) window.now.failures) }
+    ensures { OnOk result (failures.new ≡ failures.old ++ filter (is_recent moment findtime) window.now.failures) }
 {
     let own = window.failures()?;
     for failure in own.as_slice() {
-        push_late(failures, failure, moment, findtime)?;
+        push_recent(failures, failure, moment, findtime)?;
     }
     Ok(())
 }
 
-/// A copy of the failures that are late at a moment, by address, time, and arrival.
-pub fn late_failures(
+/// A copy of the failures that are recent at a moment, by address, time, and arrival.
+pub fn recent_failures(
     windows: &ByAddr,
     alloc: Global,
     moment: u64,
     findtime: u64,
 ) -> Result<Seq<Failure>, NoMemory>
-    ensures { IfOk result (λ failures. failures ≡ filter (is_late moment findtime) (failures_in windows.now.entries)) }
+    ensures { IfOk result (λ failures. failures ≡ filter (is_recent moment findtime) (failures_in windows.now.entries)) }
 {
     let mut failures = Seq::new(alloc);
     for address in windows.values() {
-        copy_late(&mut failures, &address.window, moment, findtime)?;
+        copy_recent(&mut failures, &address.window, moment, findtime)?;
     }
     Ok(failures)
 }

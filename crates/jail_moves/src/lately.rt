@@ -12,6 +12,6 @@ pub fn failed_lately(windows: &ByAddr, now: u64) -> u64
 {
     windows
         .values()
-        .filter(|address| address.window.is_recent(now))
+        .filter(|address| address.window.failed_lately(now))
         .count() as u64
 }

@@ -1,6 +1,6 @@
 //! Worked rows of the lines that a ban shows, through `matches_of` and the calls of `Room`.
 ghost use Rattle.std.specs.Prelude.{◌≡◌, IfOk};
-ghost use Rattle.jail_moves.specs.Rooms.{IsBounded, IsKept, IsStored};
+ghost use Rattle.jail_moves.specs.Rooms.{IsBounded, IsKeptJail, IsStored};
 
 use crate::matches::matches_of;
 use crate::room::Room;
@@ -153,7 +153,7 @@ fn told_of(
     failures: &[(Addr, u64, &str)],
     banned: Addr,
 ) -> Result<Text, NoMemory>
-    requires { IsKept 300 0 definition.now room }
+    requires { IsKeptJail 300 0 definition.now room }
 {
     let mut told = Seq::new(alloc);
     let mut serial = 0;
@@ -168,7 +168,7 @@ fn told_of(
 /// The jail before its first failure.
 fn fresh(alloc: Global, definition: &JailDef) -> Result<Room, NoMemory>
     requires { IsBounded definition.now }
-    ensures { IfOk result (IsKept 300 0 definition.now) }
+    ensures { IfOk result (IsKeptJail 300 0 definition.now) }
 {
     Room::fresh(alloc, definition)
 }
@@ -215,7 +215,7 @@ fn stored(alloc: Global) -> Result<JailView, NoMemory>
 /// The jail that is taken up from what was stored.
 fn taken_up(alloc: Global, definition: &JailDef) -> Result<Room, NoMemory>
     requires { IsBounded definition.now }
-    ensures { IfOk result (IsKept 300 0 definition.now) }
+    ensures { IfOk result (IsKeptJail 300 0 definition.now) }
 {
     let view = stored(alloc)?;
     Room::of(alloc, definition, &view, 300)

@@ -15,7 +15,7 @@ ghost use Rattle.f2b_model.specs.Views.{jail_view};
 ghost use Rattle.f2b_model.specs.Watches.{is_watched, with_place};
 ghost use Rattle.f2b_model.specs.declared.happening.Happening.TheVariants.{Ends};
 ghost use Rattle.jail_moves.specs.Lately.{failed_lately};
-ghost use Rattle.jail_moves.specs.Rooms.{jail_in, with_ban, IsBounded, IsCounted, IsKept, IsStored};
+ghost use Rattle.jail_moves.specs.Rooms.{jail_in, with_ban, IsBounded, IsCounted, IsKeptJail, IsStored};
 
 use crate::bans::{begin, drop_past, end_due, unban};
 use crate::matches::matches_of;
@@ -73,7 +73,7 @@ impl Room {
     pub fn fresh(alloc: Global, definition: &JailDef) -> Result<Room, NoMemory>
         requires { IsBounded definition.now }
         ensures jail { IfOk result (λ room. jail_in definition.now room ≡ fresh_now definition.now) }
-        ensures kept { IfOk result (λ room. (at next : ℕ) → IsKept at next definition.now room) }
+        ensures kept { IfOk result (λ room. (at next : ℕ) → IsKeptJail at next definition.now room) }
     {
         Ok(Room {
             idle: false,
@@ -98,7 +98,7 @@ impl Room {
         requires bounded { IsBounded definition.now }
         requires stored { (next : ℕ) × IsStored at next view.now }
         ensures jail { IfOk result (λ room. jail_in definition.now room ≡ jail_taken_up at definition.now view.now) }
-        ensures kept { IfOk result (λ room. (next : ℕ) → IsStored at next view.now → IsKept at next definition.now room) }
+        ensures kept { IfOk result (λ room. (next : ℕ) → IsStored at next view.now → IsKeptJail at next definition.now room) }
     {
         let moment = view.moment.min(at);
         let windows = Windows::of(
@@ -256,11 +256,11 @@ impl Room {
         serial: u64,
         failure: &Failure,
     ) -> Result<u64, NoMemory>
-        requires kept { IsKept at serial definition.now self.old }
+        requires kept { IsKeptJail at serial definition.now self.old }
         requires room { serial + 1 < 2 ^ 64 }
         ensures jail { IfOk result (λ next. found_now at word serial failure.now (jail_in definition.now self.old) ≡ record { jail = jail_in definition.now self.new; next = next }) }
         ensures told { OnOk result (told.new ≡ told.old ++ told_found moves_now at word failure.now serial (jail_in definition.now self.old)) }
-        ensures kept { IfOk result (λ next. IsKept at next definition.now self.new) }
+        ensures kept { IfOk result (λ next. IsKeptJail at next definition.now self.new) }
         ensures next { IfOk result (λ next. (serial ≤ next) × (next ≤ serial + 1)) }
     {
         if !self.counts(definition, at, failure) {
@@ -298,11 +298,11 @@ impl Room {
         serial: u64,
         addr: Addr,
     ) -> Result<u64, NoMemory>
-        requires kept { IsKept at serial definition.now self.old }
+        requires kept { IsKeptJail at serial definition.now self.old }
         requires room { serial + 1 < 2 ^ 64 }
         ensures jail { IfOk result (λ next. banned_now at word serial addr (jail_in definition.now self.old) ≡ record { jail = jail_in definition.now self.new; next = next }) }
         ensures told { OnOk result (told.new ≡ told.old ++ told_banned moves_now at word addr serial (jail_in definition.now self.old)) }
-        ensures kept { IfOk result (λ next. IsKept at next definition.now self.new) }
+        ensures kept { IfOk result (λ next. IsKeptJail at next definition.now self.new) }
         ensures next { IfOk result (λ next. (serial ≤ next) × (next ≤ serial + 1)) }
     {
         if self.is_banned(addr) {
@@ -323,7 +323,7 @@ impl Room {
         requires { at ≤ last_moment }
         ensures jail { OnOk result (jail_in definition.now self.new ≡ ended_by_time moves_now at (jail_in definition.now self.old)) }
         ensures told { OnOk result (told.new ≡ told.old ++ told_ends moves_now at (jail_in definition.now self.old)) }
-        ensures kept { (before next : ℕ) → IsKept before next definition.now self.old → before ≤ at → OnOk result (IsKept at next definition.now self.new) }
+        ensures kept { (before next : ℕ) → IsKeptJail before next definition.now self.old → before ≤ at → OnOk result (IsKeptJail at next definition.now self.new) }
     {
         end_due(&mut self.bans, told, &definition.name, at)?;
         Ok(())
@@ -340,7 +340,7 @@ impl Room {
         requires { at ≤ last_moment }
         ensures jail { OnOk result (jail_in definition.now self.new ≡ unbanned moves_now at addrs.now (jail_in definition.now self.old)) }
         ensures told { OnOk result (told.new ≡ told.old ++ map (Ends definition.now.name) (filter (is_meant addrs.now) self.old.bans.active)) }
-        ensures kept { (next : ℕ) → IsKept at next definition.now self.old → OnOk result (IsKept at next definition.now self.new) }
+        ensures kept { (next : ℕ) → IsKeptJail at next definition.now self.old → OnOk result (IsKeptJail at next definition.now self.new) }
     {
         unban(&mut self.bans, told, &definition.name, addrs, at)?;
         Ok(())
@@ -349,7 +349,7 @@ impl Room {
     /// Drops what is over for `purge` seconds or more at a moment. Takes no memory.
     pub fn drop_past(&mut self, definition: &JailDef, at: u64, purge: u64)
         ensures jail { jail_in definition.now self.new ≡ dropped_now at purge (jail_in definition.now self.old) }
-        ensures kept { (next : ℕ) → IsKept at next definition.now self.old → IsKept at next definition.now self.new }
+        ensures kept { (next : ℕ) → IsKeptJail at next definition.now self.old → IsKeptJail at next definition.now self.new }
     {
         drop_past(&mut self.bans, at, purge);
     }
@@ -360,7 +360,7 @@ impl Room {
         requires maxretry { 1 ≤ maxretry }
         requires most { maxretry < 2 ^ 32 }
         ensures jail { jail_in definition.new self.new ≡ limited_now findtime maxretry (jail_in definition.old self.old) }
-        ensures kept { (at next : ℕ) → IsKept at next definition.old self.old → IsKept at next definition.new self.new }
+        ensures kept { (at next : ℕ) → IsKeptJail at next definition.old self.old → IsKeptJail at next definition.new self.new }
     {
         if findtime == definition.findtime && maxretry == definition.maxretry {
             return;
@@ -380,7 +380,7 @@ impl Room {
     ) -> Result<(), NoMemory>
         requires { IsBounded definition.now }
         ensures jail { OnOk result (jail_in definition.now self.new ≡ kept_now definition.now (jail_in before.now self.old)) }
-        ensures kept { (at next : ℕ) → IsKept at next before.now self.old → OnOk result (IsKept at next definition.now self.new) }
+        ensures kept { (at next : ℕ) → IsKeptJail at next before.now self.old → OnOk result (IsKeptJail at next definition.now self.new) }
     {
         self.watches = watches_of(
             alloc,

@@ -1,7 +1,7 @@
 //! The failures of a jail that can still fill an address: a window for each address.
 ghost use Rattle.std.specs.Prelude.{◌≡◌, ℕ, ◌≤◌, ◌<◌, ◌+◌, [], not, filter, OnOk, IfOk};
 ghost use Rattle.f2b_base.specs.declared.ban.Failure.{Failure};
-ghost use Rattle.f2b_model.specs.Full.{is_late, is_of};
+ghost use Rattle.f2b_model.specs.Full.{is_recent, is_of};
 ghost use Rattle.f2b_model.specs.Lists.{AllOf, IsInOrder};
 ghost use Rattle.f2b_model.specs.Nows.{comes_before};
 ghost use Rattle.f2b_model.specs.StorableViews.{can_matter, unfilled};
@@ -10,7 +10,7 @@ ghost use Rattle.jail_moves.specs.Added.{IsAdded};
 ghost use Rattle.jail_moves.specs.Lately.{failed_lately};
 
 use crate::addresses::{
-    ByAddr, can_matter, count, late_failures, remove, remove_each, sweep_in_turn,
+    ByAddr, can_matter, count, recent_failures, remove, remove_each, sweep_in_turn,
 };
 use crate::lately::failed_lately;
 use f2b_base::{Addr, Failure, NoMemory, Plain, Seq};
@@ -132,10 +132,10 @@ impl Windows {
         failed_lately(&self.by_addr, now)
     }
 
-    /// A copy of the failures that are late at a moment.
+    /// A copy of the failures that are recent at a moment.
     pub fn failures(&self, moment: u64) -> Result<Seq<Failure>, NoMemory>
-        ensures { IfOk result (λ failures. failures ≡ filter (is_late moment self.now.findtime) self.now.failures) }
+        ensures { IfOk result (λ failures. failures ≡ filter (is_recent moment self.now.findtime) self.now.failures) }
     {
-        late_failures(&self.by_addr, self.alloc, moment, self.findtime)
+        recent_failures(&self.by_addr, self.alloc, moment, self.findtime)
     }
 }

@@ -113,7 +113,7 @@ fn addresses_fill_each_for_itself(rt: HostRuntime) -> Result<(), Fail> {
     Ok(())
 }
 
-/// How many failures are kept in all: at the first moment all of them are late.
+/// How many failures are kept in all: at the first moment all of them are recent.
 fn count_kept(windows: &Windows) -> Result<usize, NoMemory> {
     Ok(windows.failures(0)?.len())
 }

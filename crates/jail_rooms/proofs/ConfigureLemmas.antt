@@ -36,13 +36,13 @@ use Rattle.jail_rooms.specs.Kept.{jails_in}
 
 -- the definitions of a middle state
 abbrev pub defs_now : Now → Defs
-defs_now n = record { purge = n.world.purge; jails = map (λ (j : JailNow). j.definition) n.world.jails }
+defs_now n = record { purge = n.jails.purge; jails = map (λ (j : JailNow). j.definition) n.jails.jails }
 
 -- a middle state is as these definitions make it
 pub record IsConfigured (defs : Defs) (n : Now) : Type 0 where
   pub defs_are : defs ≡ defs_now n
   pub not_stopping : n.lanes.stopping ≡ false
-  pub none_idle : list_any (λ (j : JailNow). j.idle) n.world.jails ≡ false
+  pub none_idle : list_any (λ (j : JailNow). j.idle) n.jails.jails ≡ false
   pub just : are_just (lanes_of defs) n.lanes.up ≡ true
 
 -- ---- lists
@@ -235,35 +235,35 @@ configured_goes_on at mid after new l =
 -- ---- the law
 
 -- a configuration that gives what stands changes nothing
-pub configured_stays : (defs : Defs) (n : Now) → AreFitDefs defs → AreWatched n.world → IsConfigured defs n → configured_now defs n ≡ n
+pub configured_stays : (defs : Defs) (n : Now) → AreFitDefs defs → AreWatched n.jails → IsConfigured defs n → configured_now defs n ≡ n
 configured_stays defs n fit watched stands =
-    let js = n.world.jails in
+    let js = n.jails.jails in
     let ds : List JailDef = map (λ (j : JailNow). j.definition) js in
     let defs_jails : defs.jails ≡ ds = ap (λ (d : Defs). d.jails) stands.defs_are in
-    let purge : defs.purge ≡ n.world.purge = ap (λ (d : Defs). d.purge) stands.defs_are in
+    let purge : defs.purge ≡ n.jails.purge = ap (λ (d : Defs). d.purge) stands.defs_are in
     let names : AreDistinct bytes_eq (map (λ (d : JailDef). d.name) ds) = subst (λ (es : List JailDef). AreDistinct bytes_eq (map (λ (d : JailDef). d.name) es)) defs_jails fit.names in
     let paths : AllOf (λ (d : JailDef). AreDistinct bytes_eq (map (λ (w : WatchDef). w.path) d.watches)) ds =
     subst (AllOf (λ (d : JailDef). AreDistinct bytes_eq (map (λ (w : WatchDef). w.path) d.watches))) defs_jails fit.paths in
     let jails : configured moves_now defs.jails js ≡ js = ap (λ (es : List JailDef). configured moves_now es js) defs_jails ∙ jails_stay js names paths watched stands.none_idle in
-    let world : done moves_now 0 (Config defs) n.world ≡ n.world = ap₂ (λ (p : ℕ) (ks : List JailNow). let w : JailsNow = record (n.world) { purge = p; jails = ks } in w) purge jails in
-    let lanes : lanes_configured books_now n.world.at (held moves_now n.world) (held moves_now (done moves_now 0 (Config defs) n.world)) (lanes_of defs) n.lanes ≡ n.lanes =
-    lanes_stay n.world.at (held moves_now n.world) (held moves_now (done moves_now 0 (Config defs) n.world)) (lanes_of defs) n.lanes stands.not_stopping stands.just in
-    ap₂ (λ (w : JailsNow) (l : Lanes (List Job)). let m : Now = record { world = w; lanes = l } in m) world lanes
+    let jails : done moves_now 0 (Config defs) n.jails ≡ n.jails = ap₂ (λ (p : ℕ) (ks : List JailNow). let w : JailsNow = record (n.jails) { purge = p; jails = ks } in w) purge jails in
+    let lanes : lanes_configured books_now n.jails.at (held moves_now n.jails) (held moves_now (done moves_now 0 (Config defs) n.jails)) (lanes_of defs) n.lanes ≡ n.lanes =
+    lanes_stay n.jails.at (held moves_now n.jails) (held moves_now (done moves_now 0 (Config defs) n.jails)) (lanes_of defs) n.lanes stands.not_stopping stands.just in
+    ap₂ (λ (w : JailsNow) (l : Lanes (List Job)). let m : Now = record { jails = w; lanes = l } in m) jails lanes
 
 -- and one that changes nothing gives what stands
 pub stays_configured : (defs : Defs) (n : Now) → configured_now defs n ≡ n → IsConfigured defs n
 stays_configured defs n same =
-    let js = n.world.jails in
-    let after : List Held = held moves_now (done moves_now 0 (Config defs) n.world) in
-    let jails : configured moves_now defs.jails js ≡ js = ap (λ (m : Now). m.world.jails) same in
-    let purge : defs.purge ≡ n.world.purge = ap (λ (m : Now). m.world.purge) same in
-    let lanes : lanes_configured books_now n.world.at (held moves_now n.world) after (lanes_of defs) n.lanes ≡ n.lanes = ap (λ (m : Now). m.lanes) same in
+    let js = n.jails.jails in
+    let after : List Held = held moves_now (done moves_now 0 (Config defs) n.jails) in
+    let jails : configured moves_now defs.jails js ≡ js = ap (λ (m : Now). m.jails.jails) same in
+    let purge : defs.purge ≡ n.jails.purge = ap (λ (m : Now). m.jails.purge) same in
+    let lanes : lanes_configured books_now n.jails.at (held moves_now n.jails) after (lanes_of defs) n.lanes ≡ n.lanes = ap (λ (m : Now). m.lanes) same in
     let ds : defs.jails ≡ map (λ (j : JailNow). j.definition) js = sym (own_definitions defs.jails js) ∙ ap (map (λ (j : JailNow). j.definition)) jails in
     record {
       defs_are = ap₂ (λ (p : ℕ) (es : List JailDef). let d : Defs = record { purge = p; jails = es } in d) purge ds;
-      not_stopping = sym (ap (λ (l : Lanes (List Job)). l.stopping) lanes) ∙ configured_goes_on n.world.at (held moves_now n.world) after (lanes_of defs) n.lanes;
+      not_stopping = sym (ap (λ (l : Lanes (List Job)). l.stopping) lanes) ∙ configured_goes_on n.jails.at (held moves_now n.jails) after (lanes_of defs) n.lanes;
       none_idle = sym (ap (list_any (λ (j : JailNow). j.idle)) jails) ∙ are_busy defs.jails js;
-      just = lanes_were_just n.world.at (held moves_now n.world) after (lanes_of defs) n.lanes (ap (λ (l : Lanes (List Job)). l.next_job) lanes);
+      just = lanes_were_just n.jails.at (held moves_now n.jails) after (lanes_of defs) n.lanes (ap (λ (l : Lanes (List Job)). l.next_job) lanes);
     }
 
 -- ---- the jails of a core

@@ -9,10 +9,10 @@ use Rattle.f2b_model.specs.Lists.{AllOf, AreDistinct}
 use Rattle.f2b_model.specs.Steps.{find_jail, moves_now}
 use Rattle.f2b_model.proofs.ListLemmas.{by_test}
 use Rattle.f2b_model.proofs.SameLemmas.{bytes_eq-true}
-use Rattle.jail_moves.specs.Rooms.{Contents, jail_in, IsBounded, IsKept}
+use Rattle.jail_moves.specs.Rooms.{Contents, jail_in, IsBounded, IsKeptJail}
 use Rattle.jail_rooms.specs.Kept.{jails_in, AreKept}
 use Rattle.jail_rooms.specs.Left.{jail_left, find_left, IsLeftKept, AreLeftKept}
-use Rattle.jail_rooms.specs.Reading.{jail_place}
+use Rattle.jail_rooms.specs.LogRead.{jail_place}
 
 -- where no jail has the name, none is left
 pub none_left : (name : List ℕ) (ds : List JailDef) (os : List (Option Contents)) → length ds ≤ jail_place name ds → find_left name ds os ≡ None
@@ -132,9 +132,9 @@ one_more_jail f (suc i) (e ∷ ds) (b ∷ cs) d c lt same d_is so is =
 
 -- and what always holds of it
 pub one_more_kept : (at next i : ℕ) (ds : List JailDef) (cs : List Contents) (d : JailDef) (c : Contents) → i < length ds → length cs ≡ i → d ≡ get_or ds i d
-    → AreKept at next (take i ds) cs → IsKept at next d c → AreKept at next (take (suc i) ds) (cs ++ c ∷ [])
+    → AreKept at next (take i ds) cs → IsKeptJail at next d c → AreKept at next (take (suc i) ds) (cs ++ c ∷ [])
 one_more_kept at next i [] cs d c lt same d_is so is = absurd (omega arith)
-one_more_kept at next zero (e ∷ ds) [] d c lt same d_is so is = (subst (λ (x : JailDef). IsKept at next x c) d_is is, tt)
+one_more_kept at next zero (e ∷ ds) [] d c lt same d_is so is = (subst (λ (x : JailDef). IsKeptJail at next x c) d_is is, tt)
 one_more_kept at next zero (e ∷ ds) (b ∷ cs) d c lt same d_is so is = absurd (omega arith)
 one_more_kept at next (suc i) (e ∷ ds) [] d c lt same d_is so is = absurd (omega arith)
 one_more_kept at next (suc i) (e ∷ ds) (b ∷ cs) d c lt same d_is so is = (so.0, one_more_kept at next i ds cs d c (omega arith) (omega arith) d_is so.1 is)

@@ -3,7 +3,7 @@ use Rattle.std.proofs.Common.{◌≡◌, ℕ, true, false, [], ◌∷◌, refl, 
 use Rattle.f2b_base.specs.declared.input.What.{What}
 use Rattle.f2b_base.specs.declared.input.What.TheVariants.{Tick, Read, Ended, Config, Stop, Ban as BanThese, Unban, Attempt, Ignore, Findtime, Bantime, Maxretry, Idle, CheckFailed}
 use Rattle.f2b_model.specs.Nows.{JailsNow}
-use Rattle.f2b_model.specs.Steps.{moves_now, with_outs, done}
+use Rattle.f2b_model.specs.Steps.{moves_now, with_serial, done}
 use Rattle.f2b_model.specs.Told.{told_done}
 use Rattle.jail_rooms.specs.Happened.{happened, told_happened}
 use Rattle.jail_rooms.specs.Jails.{is_of_jails}
@@ -11,7 +11,7 @@ use Rattle.jail_rooms.proofs.LogLemmas.{read_at_once, told_read_at_once}
 use Rattle.jail_rooms.proofs.ReadLemmas.{banned_at_once, found_at_once, told_at_once, told_banned_at_once}
 
 -- what is done of an input of the jails alone
-pub done_is : (word : ℕ) (what : What) (w : JailsNow) → is_of_jails what ≡ true → done moves_now word what w ≡ with_outs w (happened w.at word what w.next_ban w.jails)
+pub done_is : (word : ℕ) (what : What) (w : JailsNow) → is_of_jails what ≡ true → done moves_now word what w ≡ with_serial w (happened w.at word what w.next_ban w.jails)
 done_is word Tick w alone = refl
 done_is word (Read jail path place found) w alone = read_at_once word jail path place found w
 done_is word (Ended job outcome) w alone = absurd (let k : false ≡ true = alone in cc)

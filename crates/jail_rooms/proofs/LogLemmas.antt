@@ -7,18 +7,18 @@ use Rattle.f2b_base.specs.declared.jail.Place.{Place}
 use Rattle.f2b_base.specs.declared.view.WatchView.{WatchView}
 use Rattle.f2b_model.specs.declared.happening.Happening.{Happening}
 use Rattle.f2b_model.specs.declared.jail_now.JailNow.{JailNow}
-use Rattle.f2b_model.specs.Moves.{Out}
+use Rattle.f2b_model.specs.Moves.{JailAndSerial}
 use Rattle.f2b_model.specs.Nows.{JailsNow}
 use Rattle.f2b_model.specs.NowMoves.{followed_now}
-use Rattle.f2b_model.specs.Steps.{Outs, moves_now, with_outs, in_jail, at_jail, alone, find_jail, watches_path, is_followed, followed_to, read_all}
+use Rattle.f2b_model.specs.Steps.{JailsAndSerial, moves_now, with_serial, in_jail, at_jail, alone, find_jail, watches_path, is_followed, followed_to, read_all}
 use Rattle.f2b_model.specs.Told.{told_in, told_done}
 use Rattle.f2b_model.specs.Watches.{is_watched, with_place}
 use Rattle.f2b_model.proofs.ListLemmas.{by_test}
-use Rattle.jail_rooms.specs.Reading.{found_each, read_each, told_each_found, told_read}
+use Rattle.jail_rooms.specs.LogRead.{found_each, read_each, told_each_found, told_read}
 use Rattle.jail_rooms.proofs.ReadLemmas.{in_jail_twice, found_at_once, told_at_once}
 
 -- a move on the jail of a name, where it watches the path
-in_jail_watching : (name path : List ℕ) (f : ℕ → JailNow → Out JailNow) (n : ℕ) (js : List JailNow)
+in_jail_watching : (name path : List ℕ) (f : ℕ → JailNow → JailAndSerial JailNow) (n : ℕ) (js : List JailNow)
     → in_jail moves_now name (λ m (j : JailNow). cond (is_watched path j.watches) (f m j) (record { jail = j; next = m })) n js
     ≡ cond (watches_path moves_now path (find_jail moves_now name js)) (in_jail moves_now name f n js) (record { jails = js; next = n })
 in_jail_watching name path f n [] = refl
@@ -26,8 +26,8 @@ in_jail_watching name path f n (j ∷ js) =
     by_test (bytes_eq j.definition.name name) _
     (λ t. rw t (by_test (is_watched path j.watches) _ (λ u. rw u refl) (λ u. rw u refl)))
     (λ t. rw t (by_test (watches_path moves_now path (find_jail moves_now name js)) _
-    (λ u. let e = rw u at (in_jail_watching name path f n js) in rw u (ap (λ (o : Outs JailNow). record { jails = j ∷ o.jails; next = o.next }) e))
-    (λ u. let e = rw u at (in_jail_watching name path f n js) in rw u (ap (λ (o : Outs JailNow). record { jails = j ∷ o.jails; next = o.next }) e))))
+    (λ u. let e = rw u at (in_jail_watching name path f n js) in rw u (ap (λ (o : JailsAndSerial JailNow). record { jails = j ∷ o.jails; next = o.next }) e))
+    (λ u. let e = rw u at (in_jail_watching name path f n js) in rw u (ap (λ (o : JailsAndSerial JailNow). record { jails = j ∷ o.jails; next = o.next }) e))))
 
 told_in_watching : (name path : List ℕ) (t : JailNow → List Happening) (js : List JailNow)
     → told_in moves_now name (λ (j : JailNow). cond (is_watched path j.watches) (t j) []) js
@@ -41,14 +41,14 @@ told_in_watching name path t (j ∷ js) =
 pub read_at_once : (word : ℕ) (name path : List ℕ) (place : Place) (fs : List Failure) (w : JailsNow)
     → read_all moves_now word name path place fs w ≡ at_jail moves_now name (read_each w.at word path place fs) w
 read_at_once word name path place fs w =
-    let f : ℕ → JailNow → Out JailNow = λ n j. found_each w.at word fs n (followed_now path place j) in
+    let f : ℕ → JailNow → JailAndSerial JailNow = λ n j. found_each w.at word fs n (followed_now path place j) in
     let inner = in_jail_watching name path f w.next_ban w.jails in
     by_test (is_followed moves_now name path w) _
     (λ t. let e = rw t at inner in
     rw t (found_at_once word name fs (followed_to moves_now name path place w)
-    ∙ ap (λ (o : Outs JailNow). with_outs w o)
+    ∙ ap (λ (o : JailsAndSerial JailNow). with_serial w o)
     (in_jail_twice name (alone moves_now (followed_now path place)) (found_each w.at word fs) (λ n j. refl) w.next_ban w.jails ∙ sym e)))
-    (λ t. let e = rw t at inner in rw t (ap (λ (o : Outs JailNow). with_outs w o) (sym e)))
+    (λ t. let e = rw t at inner in rw t (ap (λ (o : JailsAndSerial JailNow). with_serial w o) (sym e)))
 
 -- a move that takes no serial
 alone_next : (name : List ℕ) (f : JailNow → JailNow) (n : ℕ) (js : List JailNow) → (in_jail moves_now name (alone moves_now f) n js).next ≡ n
@@ -77,7 +77,7 @@ told_read_at_once word name path place fs w =
     (λ b. let e = rw b at inner in rw b (sym e))
 
 -- a move that takes no serial, done
-pub alone_is : (n : ℕ) (k j : JailNow) → k ≡ j → ◌≡◌ {A = Out JailNow} (record { jail = j; next = n }) (record { jail = k; next = n })
+pub alone_is : (n : ℕ) (k j : JailNow) → k ≡ j → ◌≡◌ {A = JailAndSerial JailNow} (record { jail = j; next = n }) (record { jail = k; next = n })
 alone_is n k j e = ap (λ (r : JailNow). record { jail = r; next = n }) (sym e)
 
 -- a path that is not watched has no place to set

@@ -8,7 +8,7 @@ use Rattle.f2b_base.specs.declared.jail.JailDef.{JailDef}
 use Rattle.f2b_model.specs.declared.jail_now.JailNow.{JailNow}
 use Rattle.f2b_model.specs.Steps.{find_jail, moves_now}
 use Rattle.f2b_model.proofs.ListLemmas.{by_test}
-use Rattle.jail_moves.specs.Rooms.{Contents, jail_in, IsKept}
+use Rattle.jail_moves.specs.Rooms.{Contents, jail_in, IsKeptJail}
 use Rattle.jail_rooms.specs.Kept.{jails_in, AreKept}
 
 -- a definition, and what is kept beside it
@@ -31,12 +31,12 @@ find_pair name (d ∷ ds) (c ∷ cs) = by_test (bytes_eq d.name name) _ (λ t. r
 
 -- and it is kept where all are
 pub pair_kept : (at next : ℕ) (name : List ℕ) (ds : List JailDef) (cs : List Contents) (p : Pair) → AreKept at next ds cs → find (is_pair_of name) (zip ds cs) ≡ Some p
-    → IsKept at next p.0 p.1
+    → IsKeptJail at next p.0 p.1
 pair_kept at next name [] cs p kept h = absurd (cc)
 pair_kept at next name (d ∷ ds) [] p kept h = absurd kept
 pair_kept at next name (d ∷ ds) (c ∷ cs) p kept h =
     by_test (bytes_eq d.name name) _
-    (λ t. let here : Some (d, c) ≡ Some p = rw t at h in let same : (d, c) ≡ p = cc in subst (λ (q : Pair). IsKept at next q.0 q.1) same kept.0)
+    (λ t. let here : Some (d, c) ≡ Some p = rw t at h in let same : (d, c) ≡ p = cc in subst (λ (q : Pair). IsKeptJail at next q.0 q.1) same kept.0)
     (λ t. let rest : find (is_pair_of name) (zip ds cs) ≡ Some p = rw t at h in pair_kept at next name ds cs p kept.1 rest)
 
 -- what a pair of references lends
@@ -50,6 +50,6 @@ lent_jail name ds cs None h = sym (ap (λ o. option_map pair_now o) h ∙ find_p
 lent_jail name ds cs (Some p) h = sym (ap (λ o. option_map pair_now o) h ∙ find_pair name ds cs)
 
 pub lent_kept : (at next : ℕ) (name : List ℕ) (ds : List JailDef) (cs : List Contents) (r : Option (Bor JailDef × Bor Contents)) → option_map lent r ≡ find (is_pair_of name) (zip ds cs)
-    → AreKept at next ds cs → IfSome r (λ p. IsKept at next p.0.now p.1.now)
+    → AreKept at next ds cs → IfSome r (λ p. IsKeptJail at next p.0.now p.1.now)
 lent_kept at next name ds cs None h kept = tt
 lent_kept at next name ds cs (Some p) h kept = pair_kept at next name ds cs (lent p) kept (sym h)

@@ -3,12 +3,12 @@ use Rattle.std.proofs.Common.{◌≡◌, ℕ, zero, suc, ◌<◌, ◌≤◌, Lis
 use Rattle.f2b_base.specs.declared.ban.Failure.{Failure}
 use Rattle.f2b_base.specs.declared.jail.JailDef.{JailDef}
 use Rattle.f2b_base.specs.declared.view.JailView.{JailView}
-use Rattle.f2b_model.specs.Full.{is_late}
+use Rattle.f2b_model.specs.Full.{is_recent}
 use Rattle.f2b_model.specs.Lists.{AllOf}
 use Rattle.f2b_model.specs.StorableViews.{jail_taken_up, jails_taken_up}
 use Rattle.f2b_model.specs.Views.{jail_view}
 use Rattle.f2b_model.proofs.OrderlyLemmas.{all_of-filter}
-use Rattle.jail_moves.specs.Rooms.{Contents, jail_in, IsBounded, IsKept, IsStored}
+use Rattle.jail_moves.specs.Rooms.{Contents, jail_in, IsBounded, IsKeptJail, IsStored}
 use Rattle.jail_rooms.specs.Kept.{jails_in, AreKept}
 use Rattle.jail_rooms.specs.Stored.{AreStored}
 
@@ -16,11 +16,11 @@ use Rattle.jail_rooms.specs.Stored.{AreStored}
 
 -- what always holds of jails holds of each
 pub kept_at : (at next i : ℕ) (ds : List JailDef) (cs : List Contents) (d : JailDef) (c : Contents) → i < length ds → AreKept at next ds cs → d ≡ get_or ds i d
-    → c ≡ get_or cs i c → IsKept at next d c
+    → c ≡ get_or cs i c → IsKeptJail at next d c
 kept_at at next i [] cs d c within kept d_is c_is = absurd (omega arith)
 kept_at at next i (e ∷ ds) [] d c within kept d_is c_is = absurd kept
 kept_at at next zero (e ∷ ds) (b ∷ cs) d c within kept d_is c_is =
-    subst (λ (x : JailDef). IsKept at next x c) (sym d_is) (subst (λ (y : Contents). IsKept at next e y) (sym c_is) kept.0)
+    subst (λ (x : JailDef). IsKeptJail at next x c) (sym d_is) (subst (λ (y : Contents). IsKeptJail at next e y) (sym c_is) kept.0)
 kept_at at next (suc i) (e ∷ ds) (b ∷ cs) d c within kept d_is c_is = kept_at at next i ds cs d c (omega arith) kept.1 d_is c_is
 
 -- one more is stored
@@ -46,14 +46,14 @@ pub view_times : (at next : ℕ) (ds : List JailDef) (cs : List Contents) → Ar
 view_times at next [] cs kept = tt
 view_times at next (d ∷ ds) [] kept = absurd kept
 view_times at next (d ∷ ds) (c ∷ cs) kept =
-    (all_of-filter (λ (f : Failure). f.time ≤ at) (is_late c.moment d.findtime) c.windows.failures kept.0.times, view_times at next ds cs kept.1)
+    (all_of-filter (λ (f : Failure). f.time ≤ at) (is_recent c.moment d.findtime) c.windows.failures kept.0.times, view_times at next ds cs kept.1)
 
 -- ---- jails that were stored
 
 -- a jail that was stored
 pub record IsBack (at : ℕ) (d : JailDef) (v : JailView) (c : Contents) : Type 0 where
   pub jail : jail_in d c ≡ jail_taken_up at d v
-  pub kept : (next : ℕ) → IsStored at next v → IsKept at next d c
+  pub kept : (next : ℕ) → IsStored at next v → IsKeptJail at next d c
 
 -- the first jails that were stored
 abbrev pub AreBack : ℕ → List JailDef → List JailView → List Contents → Type 0

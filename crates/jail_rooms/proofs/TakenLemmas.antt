@@ -12,11 +12,11 @@ use Rattle.f2b_base.specs.declared.jail.JailDef.{JailDef}
 use Rattle.f2b_base.specs.declared.view.JailView.{JailView}
 use Rattle.f2b_base.specs.declared.view.View.{View}
 use Rattle.f2b_model.specs.declared.jail_now.JailNow.{JailNow}
-use Rattle.f2b_model.specs.Full.{IsFull, is_full, is_late}
+use Rattle.f2b_model.specs.Full.{IsFull, is_full, is_recent}
 use Rattle.f2b_model.specs.Laws.{AreWatched, IsWatched}
 use Rattle.f2b_model.specs.Lists.{AllOf, AreDistinct}
 use Rattle.f2b_model.specs.Nows.{comes_before, jail_from, jail_now}
-use Rattle.f2b_model.specs.Sound.{IsGoodJail, IsNotBefore, IsNumbered, IsOver, IsSoundView}
+use Rattle.f2b_model.specs.Sound.{IsGoodJail, IsNotBefore, IsNumbered, IsPastBan, IsSoundView}
 use Rattle.f2b_model.specs.State.{kept_of}
 use Rattle.f2b_model.specs.Steps.{moves_now, names}
 use Rattle.f2b_model.specs.Storable.{AreFewPatterns, IsStorable, IsStorableFailure, IsStorableJail, IsStorablePast}
@@ -31,13 +31,13 @@ use Rattle.f2b_model.proofs.StandLemmas.{shown_bounds}
 
 -- ---- what a sound view shows is taken up whole
 
--- failures that are no later than a moment, and late at it, can all matter
-all_matter : (moment findtime : ℕ) (fs : List Failure) → AllOf (λ (f : Failure). f.time ≤ moment) fs → AllOf (λ (f : Failure). is_late moment findtime f ≡ true) fs
+-- failures that are no later than a moment, and recent at it, can all matter
+all_matter : (moment findtime : ℕ) (fs : List Failure) → AllOf (λ (f : Failure). f.time ≤ moment) fs → AllOf (λ (f : Failure). is_recent moment findtime f ≡ true) fs
     → filter (can_matter moment findtime) fs ≡ fs
-all_matter moment findtime [] before late = refl
-all_matter moment findtime (f ∷ fs) before late =
-    let here : can_matter moment findtime f ≡ true = true_both _ _ (true_le f.time moment before.0) late.0 in
-    rw here (ap (λ (gs : List Failure). f ∷ gs) (all_matter moment findtime fs before.1 late.1))
+all_matter moment findtime [] before recent = refl
+all_matter moment findtime (f ∷ fs) before recent =
+    let here : can_matter moment findtime f ≡ true = true_both _ _ (true_le f.time moment before.0) recent.0 in
+    rw here (ap (λ (gs : List Failure). f ∷ gs) (all_matter moment findtime fs before.1 recent.1))
 
 -- where no address is full, none is left out for its address
 none_filled : (findtime maxretry : ℕ) (whole fs : List Failure) → ((addr : Addr) → IsFull findtime maxretry addr whole → ⊥)
@@ -59,7 +59,7 @@ none_before_passes moment [] h = refl
 none_before_passes moment (b ∷ bs) h = true_both _ _ (not_before_passes moment b.until h.0) (none_before_passes moment bs h.1)
 
 -- past bans that are over all stay
-all_over : (at : ℕ) (bs : List Ban) (ps : List Past) → AllOf (IsOver at bs) ps → filter (is_over at bs) ps ≡ ps
+all_over : (at : ℕ) (bs : List Ban) (ps : List Past) → AllOf (IsPastBan at bs) ps → filter (is_over at bs) ps ≡ ps
 all_over at bs [] over = refl
 all_over at bs (p ∷ ps) over =
     let here : is_over at bs p ≡ true = true_both _ _ (true_le p.end at over.0.0) (none_before_passes p.end bs over.0.1) in
@@ -76,14 +76,14 @@ jail_whole at d v good same =
     let shown : (jail_now (jail_from (jail_of d v))).failures ≡ v.failures = ap (λ (w : JailView). w.failures) same in
     let moment : min v.moment at ≡ v.moment = first_is_least v.moment at good.sound.moment in
     let before = subst (λ (fs : List Failure). AllOf (λ (f : Failure). f.time ≤ v.moment) fs) opened good.orderly.by_moment in
-    let late = subst (λ (fs : List Failure). AllOf (λ (f : Failure). is_late v.moment d.findtime f ≡ true) fs) shown (shown_bounds at (jail_from (jail_of d v)) good).late in
+    let recent = subst (λ (fs : List Failure). AllOf (λ (f : Failure). is_recent v.moment d.findtime f ≡ true) fs) shown (shown_bounds at (jail_from (jail_of d v)) good).recent in
     let none : (addr : Addr) → IsFull d.findtime d.maxretry addr v.failures → ⊥ =
     λ addr full. good.sound.none_full addr (subst (λ (fs : List Failure). IsFull d.findtime d.maxretry addr fs) (sym opened) full) in
-    let over = subst (λ (ps : List Past). AllOf (IsOver at v.bans) ps) (kept_of-all v.past)
-    (subst (λ (bs : List Ban). AllOf (IsOver at bs) (kept_of (jail_from (jail_of d v)).endings)) (active_of-all v.bans) good.orderly.over) in
+    let over = subst (λ (ps : List Past). AllOf (IsPastBan at v.bans) ps) (kept_of-all v.past)
+    (subst (λ (bs : List Ban). AllOf (IsPastBan at bs) (kept_of (jail_from (jail_of d v)).endings)) (active_of-all v.bans) good.orderly.over) in
     let failures : unfilled d.findtime d.maxretry (filter (can_matter (min v.moment at) d.findtime) v.failures) ≡ v.failures =
     ap (λ (m : ℕ). unfilled d.findtime d.maxretry (filter (can_matter m d.findtime) v.failures)) moment
-    ∙ ap (unfilled d.findtime d.maxretry) (all_matter v.moment d.findtime v.failures before late)
+    ∙ ap (unfilled d.findtime d.maxretry) (all_matter v.moment d.findtime v.failures before recent)
     ∙ none_filled d.findtime d.maxretry v.failures v.failures none in
     let past : filter (is_over at v.bans) v.past ≡ v.past = all_over at v.bans v.past over in
     let of_moment : ℕ → JailNow = λ m. record (jail_taken_up at d v) { moment = m } in
@@ -105,7 +105,7 @@ jails_whole at (d ∷ ds) (v ∷ vs) good same =
 -- a sound view is taken up whole
 pub sound_taken_up : (v : View) → IsSoundView v → taken_up v ≡ gathered v
 sound_taken_up v sound =
-    let with_jails : List JailNow → Now = λ js. record (gathered v) { world = record (gathered v).world { jails = js } } in
+    let with_jails : List JailNow → Now = λ js. record (gathered v) { jails = record (gathered v).jails { jails = js } } in
     ap with_jails (jails_whole v.at v.defs.jails v.jails sound.sound.from.jails.jails (ap (λ (w : View). w.jails) sound.same))
 
 -- ---- what is taken up can be stored
@@ -174,5 +174,5 @@ taken_up_storable v view =
     }
 
 -- and its jails watch the paths of their definitions
-pub taken_up_watched : (v : View) → IsStorableView v → AreWatched (taken_up v).world
+pub taken_up_watched : (v : View) → IsStorableView v → AreWatched (taken_up v).jails
 taken_up_watched v view = each_taken_up (λ (j : JailNow). IsWatched j.definition.watches j.watches) v.at (λ d w watched. watched) v.defs.jails v.jails view.watched

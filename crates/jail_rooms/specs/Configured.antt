@@ -9,5 +9,5 @@ use Rattle.f2b_model.specs.Whole.{Now}
 -- the middle state after these definitions were taken, ends by time and drops left aside
 abbrev pub configured_now : Defs → Now → Now
 configured_now defs n =
-    let w = done moves_now 0 (Config defs) n.world in
-    record { world = w; lanes = lanes_configured books_now n.world.at (held moves_now n.world) (held moves_now w) (lanes_of defs) n.lanes }
+    let w = done moves_now 0 (Config defs) n.jails in
+    record { jails = w; lanes = lanes_configured books_now n.jails.at (held moves_now n.jails) (held moves_now w) (lanes_of defs) n.lanes }

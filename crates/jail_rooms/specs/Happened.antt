@@ -5,12 +5,12 @@ use Rattle.f2b_base.specs.declared.input.What.TheVariants.{Read, Ban, Unban, Att
 use Rattle.f2b_model.specs.declared.happening.Happening.{Happening}
 use Rattle.f2b_model.specs.declared.jail_now.JailNow.{JailNow}
 use Rattle.f2b_model.specs.NowMoves.{limited_now}
-use Rattle.f2b_model.specs.Steps.{Outs, alone, in_jail, is_meant_jail, moves_now, unbanned}
+use Rattle.f2b_model.specs.Steps.{JailsAndSerial, alone, in_jail, is_meant_jail, moves_now, unbanned}
 use Rattle.f2b_model.specs.Told.{told_each, told_in, told_unbanned}
-use Rattle.jail_rooms.specs.Reading.{banned_each, found_each, read_each, told_each_banned, told_each_found, told_read}
+use Rattle.jail_rooms.specs.LogRead.{banned_each, found_each, read_each, told_each_banned, told_each_found, told_read}
 
 -- the jails after it, and the next serial
-abbrev pub happened : ℕ → ℕ → What → ℕ → List JailNow → Outs JailNow
+abbrev pub happened : ℕ → ℕ → What → ℕ → List JailNow → JailsAndSerial JailNow
 happened at word (Read jail path place found) n js = in_jail moves_now jail (read_each at word path place found) n js
 happened at word (Ban jail addrs) n js = in_jail moves_now jail (banned_each at word addrs) n js
 happened at word (Unban jail addrs) n js = record { jails = map (λ (j : JailNow). cond (is_meant_jail jail j.definition) (unbanned moves_now at addrs j) j) js; next = n }

@@ -7,7 +7,7 @@ use Rattle.f2b_base.specs.declared.jail.JailDef.{JailDef}
 use Rattle.f2b_model.specs.declared.jail_now.JailNow.{JailNow}
 use Rattle.f2b_model.specs.Lists.{AllOf}
 use Rattle.f2b_model.specs.Sound.{IsFit}
-use Rattle.jail_moves.specs.Rooms.{Contents, jail_in, IsBounded, IsKept}
+use Rattle.jail_moves.specs.Rooms.{Contents, jail_in, IsBounded, IsKeptJail}
 
 -- the middle states of jails, by their definitions and what is kept of each
 abbrev pub jails_in : List JailDef → List Contents → List JailNow
@@ -20,7 +20,7 @@ abbrev pub AreKept : ℕ → ℕ → List JailDef → List Contents → Type 0
 AreKept at next [] [] = Unit {0}
 AreKept at next [] (c ∷ cs) = ⊥
 AreKept at next (d ∷ ds) [] = ⊥
-AreKept at next (d ∷ ds) (c ∷ cs) = IsKept at next d c × AreKept at next ds cs
+AreKept at next (d ∷ ds) (c ∷ cs) = IsKeptJail at next d c × AreKept at next ds cs
 
 -- the numbers of what happened are within their bounds
 abbrev pub IsBoundedWhat : What → Type 0
@@ -31,6 +31,6 @@ IsBoundedWhat (Maxretry jail number) = (1 ≤ number) × (number < 2 ^ 32)
 IsBoundedWhat _ = Unit {0}
 
 -- an input that the core takes: one that the model takes, with its numbers within their bounds
-pub record IsTaken (input : Input) : Type 0 where
+pub record IsTakenInput (input : Input) : Type 0 where
   pub fit : IsFit input
   pub bounded : IsBoundedWhat input.what

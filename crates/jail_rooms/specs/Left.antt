@@ -2,7 +2,7 @@
 use Rattle.std.specs.Prelude.{ℕ, cond, List, [], ◌∷◌, Option, Some, None, bytes_eq}
 use Rattle.f2b_base.specs.declared.jail.JailDef.{JailDef}
 use Rattle.f2b_model.specs.declared.jail_now.JailNow.{JailNow}
-use Rattle.jail_moves.specs.Rooms.{Contents, jail_in, IsKept}
+use Rattle.jail_moves.specs.Rooms.{Contents, jail_in, IsKeptJail}
 
 -- the middle state of a jail, where what is kept of it is left
 abbrev pub jail_left : JailDef → Option Contents → Option JailNow
@@ -18,7 +18,7 @@ find_left name (d ∷ ds) (o ∷ os) = cond (bytes_eq d.name name) (jail_left d 
 -- what always holds of a jail holds where it is left
 abbrev pub IsLeftKept : ℕ → ℕ → JailDef → Option Contents → Type 0
 IsLeftKept at next d None = Unit {0}
-IsLeftKept at next d (Some c) = IsKept at next d c
+IsLeftKept at next d (Some c) = IsKeptJail at next d c
 
 -- and so of each that is left
 abbrev pub AreLeftKept : ℕ → ℕ → List JailDef → List (Option Contents) → Type 0

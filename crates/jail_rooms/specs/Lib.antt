@@ -4,6 +4,6 @@ pub mod Happened
 pub mod Jails
 pub mod Kept
 pub mod Left
-pub mod Reading
+pub mod LogRead
 pub mod Stored
 pub mod Shown

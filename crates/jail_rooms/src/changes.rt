@@ -6,7 +6,7 @@ ghost use Rattle.f2b_model.specs.Steps.{alone, in_jail, moves_now};
 ghost use Rattle.f2b_model.specs.declared.jail_now.JailNow.{JailNow};
 ghost use Rattle.std.specs.Option.{unwrap_or};
 ghost use Rattle.jail_rooms.specs.Kept.{jails_in, AreKept};
-ghost use Rattle.jail_moves.specs.Rooms.{jail_in, Contents, IsBounded, IsKept};
+ghost use Rattle.jail_moves.specs.Rooms.{jail_in, Contents, IsBounded, IsKeptJail};
 
 use crate::definitions::{ignore, place_of};
 use f2b_base::{Cidr, JailDef, NoMemory, Plain, Seq, Text};
@@ -74,7 +74,7 @@ fn limit(
     requires findtime { IfSome findtime (λ secs. 1 ≤ secs) }
     requires maxretry { IfSome maxretry (λ number. (1 ≤ number) × (number < 2 ^ 32)) }
     ensures jail { jail_in definition.new room.new ≡ limited_now (unwrap_or findtime definition.old.findtime) (unwrap_or maxretry definition.old.maxretry) (jail_in definition.old room.old) }
-    ensures kept { (at next : ℕ) → IsKept at next definition.old room.old → IsKept at next definition.new room.new }
+    ensures kept { (at next : ℕ) → IsKeptJail at next definition.old room.old → IsKeptJail at next definition.new room.new }
 {
     let findtime = findtime.unwrap_or(definition.findtime);
     let maxretry = maxretry.unwrap_or(definition.maxretry);

@@ -4,10 +4,10 @@ ghost use Rattle.f2b_base.specs.declared.jail.JailDef.{JailDef};
 ghost use Rattle.f2b_model.specs.Lists.{AllOf, AreDistinct};
 ghost use Rattle.f2b_model.specs.NowMoves.{fresh_now};
 ghost use Rattle.f2b_model.specs.Steps.{configured, kept_or_fresh, moves_now};
-ghost use Rattle.jail_moves.specs.Rooms.{jail_in, IsBounded, IsKept};
+ghost use Rattle.jail_moves.specs.Rooms.{jail_in, IsBounded, IsKeptJail};
 ghost use Rattle.jail_rooms.specs.Kept.{jails_in, AreKept};
 ghost use Rattle.jail_rooms.specs.Left.{find_left, AreLeftKept};
-ghost use Rattle.jail_rooms.specs.Reading.{jail_place};
+ghost use Rattle.jail_rooms.specs.LogRead.{jail_place};
 
 use crate::definitions::place_of;
 use f2b_base::{JailDef, NoMemory};
@@ -36,7 +36,7 @@ fn room_of(
     requires bounded { IsBounded definition.now }
     ensures jail { IfOk result (λ room. jail_in definition.now room ≡ kept_or_fresh moves_now definition.now (find_left definition.now.name before.now left.old)) }
     ensures left { IfOk result (λ room. left.new ≡ slice_set left.old (jail_place definition.now.name before.now) None) }
-    ensures kept { (at next : ℕ) → AreLeftKept at next before.now left.old → IfOk result (IsKept at next definition.now) }
+    ensures kept { (at next : ℕ) → AreLeftKept at next before.now left.old → IfOk result (IsKeptJail at next definition.now) }
 {
     let place = place_of(before, &definition.name);
     if place == before.len() {

@@ -7,7 +7,7 @@ ghost use Rattle.jail_rooms.specs.Kept.{jails_in, AreKept, IsBoundedWhat};
 
 use crate::changes::{idle_in, ignore_in, limit_among, span_in};
 use crate::each::unban_all;
-use crate::reads::{Reading, Turn};
+use crate::reads::{InputStamp, LogRead};
 use crate::within::{ban_in, find_in, read_in};
 use f2b_base::{Addr, Failure, JailDef, NoMemory, Seq, Text, What};
 use f2b_model::Happening;
@@ -22,17 +22,17 @@ fn attempt_in(
     told: &mut Seq<Happening>,
     name: &Text,
     addr: Addr,
-    turn: Turn,
+    stamp: InputStamp,
 ) -> Result<u64, NoMemory>
-    requires kept { AreKept turn.at turn.serial definitions.now rooms.old.items }
-    requires serial { turn.serial ≤ 2 ^ 62 }
-    ensures jails { IfOk result (λ next. happened turn.at turn.word (What.Attempt name.now addr) turn.serial (jails_in definitions.now rooms.old.items) ≡ record { jails = jails_in definitions.now rooms.new.items; next = next }) }
-    ensures told { OnOk result (told.new ≡ told.old ++ told_happened turn.at turn.word (What.Attempt name.now addr) turn.serial (jails_in definitions.now rooms.old.items)) }
-    ensures kept { IfOk result (λ next. AreKept turn.at next definitions.now rooms.new.items) }
+    requires kept { AreKept stamp.at stamp.serial definitions.now rooms.old.items }
+    requires serial { stamp.serial ≤ 2 ^ 62 }
+    ensures jails { IfOk result (λ next. happened stamp.at stamp.word (What.Attempt name.now addr) stamp.serial (jails_in definitions.now rooms.old.items) ≡ record { jails = jails_in definitions.now rooms.new.items; next = next }) }
+    ensures told { OnOk result (told.new ≡ told.old ++ told_happened stamp.at stamp.word (What.Attempt name.now addr) stamp.serial (jails_in definitions.now rooms.old.items)) }
+    ensures kept { IfOk result (λ next. AreKept stamp.at next definitions.now rooms.new.items) }
 {
     let failure = Failure {
         addr,
-        time: turn.at,
+        time: stamp.at,
         line: Text::new(alloc),
     };
     let next = find_in(
@@ -41,7 +41,7 @@ fn attempt_in(
         told,
         name,
         &[failure],
-        turn,
+        stamp,
     )?;
     Ok(next)
 }
@@ -53,16 +53,16 @@ pub fn happen(
     rooms: &mut Vec<Room>,
     told: &mut Seq<Happening>,
     what: &What,
-    turn: Turn,
+    stamp: InputStamp,
 ) -> Result<u64, NoMemory>
-    requires kept { AreKept turn.at turn.serial definitions.old rooms.old.items }
-    requires at { turn.at ≤ last_moment }
-    requires serial { turn.serial ≤ 2 ^ 62 }
+    requires kept { AreKept stamp.at stamp.serial definitions.old rooms.old.items }
+    requires at { stamp.at ≤ last_moment }
+    requires serial { stamp.serial ≤ 2 ^ 62 }
     requires bounded { IsBoundedWhat what.now }
     requires alone { is_of_jails what.now ≡ true }
-    ensures jails { IfOk result (λ next. happened turn.at turn.word what.now turn.serial (jails_in definitions.old rooms.old.items) ≡ record { jails = jails_in definitions.new rooms.new.items; next = next }) }
-    ensures told { OnOk result (told.new ≡ told.old ++ told_happened turn.at turn.word what.now turn.serial (jails_in definitions.old rooms.old.items)) }
-    ensures kept { IfOk result (λ next. AreKept turn.at next definitions.new rooms.new.items) }
+    ensures jails { IfOk result (λ next. happened stamp.at stamp.word what.now stamp.serial (jails_in definitions.old rooms.old.items) ≡ record { jails = jails_in definitions.new rooms.new.items; next = next }) }
+    ensures told { OnOk result (told.new ≡ told.old ++ told_happened stamp.at stamp.word what.now stamp.serial (jails_in definitions.old rooms.old.items)) }
+    ensures kept { IfOk result (λ next. AreKept stamp.at next definitions.new rooms.new.items) }
 {
     match what {
         What::Read {
@@ -72,7 +72,7 @@ pub fn happen(
             found,
         } => {
             let failures = found.as_slice();
-            let reading = Reading {
+            let reading = LogRead {
                 path,
                 place,
                 failures,
@@ -83,7 +83,7 @@ pub fn happen(
                 told,
                 jail,
                 &reading,
-                turn,
+                stamp,
             )?;
             Ok(next)
         }
@@ -94,13 +94,13 @@ pub fn happen(
                 told,
                 jail,
                 addrs.as_slice(),
-                turn,
+                stamp,
             )?;
             Ok(next)
         }
         What::Unban { jail, addrs } => {
-            unban_all(definitions.as_slice(), rooms, told, jail, addrs, turn.at)?;
-            Ok(turn.serial)
+            unban_all(definitions.as_slice(), rooms, told, jail, addrs, stamp.at)?;
+            Ok(stamp.serial)
         }
         What::Attempt { jail, addr } => {
             let next = attempt_in(
@@ -110,30 +110,30 @@ pub fn happen(
                 told,
                 jail,
                 *addr,
-                turn,
+                stamp,
             )?;
             Ok(next)
         }
         What::Ignore { jail, cidr, add } => {
             ignore_in(definitions, jail, *cidr, *add)?;
-            Ok(turn.serial)
+            Ok(stamp.serial)
         }
         What::Findtime { jail, secs } => {
             limit_among(alloc, definitions, rooms, jail, Some(*secs), None)?;
-            Ok(turn.serial)
+            Ok(stamp.serial)
         }
         What::Bantime { jail, secs } => {
             span_in(definitions, jail, *secs)?;
-            Ok(turn.serial)
+            Ok(stamp.serial)
         }
         What::Maxretry { jail, number } => {
             limit_among(alloc, definitions, rooms, jail, None, Some(*number))?;
-            Ok(turn.serial)
+            Ok(stamp.serial)
         }
         What::Idle { jail, idle } => {
             idle_in(definitions.as_slice(), rooms.as_mut_slice(), jail, *idle);
-            Ok(turn.serial)
+            Ok(stamp.serial)
         }
-        _ => Ok(turn.serial),
+        _ => Ok(stamp.serial),
     }
 }

@@ -18,13 +18,13 @@ ghost use Rattle.f2b_model.specs.declared.jail_now.JailNow.{JailNow};
 ghost use Rattle.jail_rooms.specs.Jails.{is_of_jails};
 ghost use Rattle.jail_rooms.specs.Kept.{jails_in, IsBoundedWhat};
 ghost use Rattle.jail_rooms.specs.Shown.{ban_from, lately_in, totals_of};
-ghost use Rattle.jail_moves.specs.Rooms.{jail_in, Contents, IsBounded, IsKept};
+ghost use Rattle.jail_moves.specs.Rooms.{jail_in, Contents, IsBounded, IsKeptJail};
 ghost use Rattle.lane_moves.specs.Held.{held_of};
 
 use crate::configure::configure;
 use crate::each::{drop_all, end_all, is_ban_due};
 use crate::happen::happen;
-use crate::reads::Turn;
+use crate::reads::InputStamp;
 use crate::shown::jail_of;
 use crate::stored::{rooms_of, views};
 use f2b_base::{Ban, DEFAULT_PURGE, Defs, JailDef, JailView, NoMemory, Plain, Seq, View, What};
@@ -106,7 +106,7 @@ impl Jails {
     /// The jails of a view. Of one that is not that of a sound state, failures and past bans are left out that no step could have left.
     pub fn of(alloc: Global, view: &View) -> Result<Jails, NoMemory>
         requires { IsStorableView view.now }
-        ensures jails { IfOk result (λ jails. jails ≡ (taken_up view.now).world) }
+        ensures jails { IfOk result (λ jails. jails ≡ (taken_up view.now).jails) }
     {
         let defs = view.defs.copy()?;
         let rooms = rooms_of(
@@ -163,7 +163,7 @@ impl Jails {
     /// The jail of a name, if there is one: its definition, and what is kept of it.
     fn jail_of(&self, name: &str) -> Option<(&JailDef, &Room)>
         ensures jail { MatchOption result (find_jail moves_now name.now self.now.jails ≡ None) (λ p. find_jail moves_now name.now self.now.jails ≡ Some (jail_in p.0.now p.1.now)) }
-        ensures kept { IfSome result (λ p. IsKept self.now.at self.now.next_ban p.0.now p.1.now) }
+        ensures kept { IfSome result (λ p. IsKeptJail self.now.at self.now.next_ban p.0.now p.1.now) }
     {
         jail_of(self.defs.jails.as_slice(), self.rooms.as_slice(), name)
     }
@@ -266,12 +266,12 @@ impl Jails {
             mut rooms,
             next_ban,
         } = self;
-        let turn = Turn {
+        let stamp = InputStamp {
             at,
             word,
             serial: next_ban,
         };
-        let next_ban = happen(alloc, &mut defs.jails, &mut rooms, told, what, turn)?;
+        let next_ban = happen(alloc, &mut defs.jails, &mut rooms, told, what, stamp)?;
         Ok(Jails {
             alloc,
             at,

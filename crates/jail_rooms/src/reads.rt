@@ -1,7 +1,7 @@
 //! What an input does in one jail: failures found in a log, and bans by command.
 ghost use Rattle.std.specs.Prelude.{◌≡◌, ◌≤◌, ◌<◌, ◌+◌, ◌^◌, ◌++◌, length, OnOk, IfOk};
-ghost use Rattle.jail_rooms.specs.Reading.{banned_each, found_each, read_each, told_each_banned, told_each_found, told_read};
-ghost use Rattle.jail_moves.specs.Rooms.{jail_in, IsKept};
+ghost use Rattle.jail_rooms.specs.LogRead.{banned_each, found_each, read_each, told_each_banned, told_each_found, told_read};
+ghost use Rattle.jail_moves.specs.Rooms.{jail_in, IsKeptJail};
 
 use f2b_base::{Addr, Failure, JailDef, NoMemory, Place, Seq, Text};
 use f2b_model::Happening;
@@ -9,7 +9,7 @@ use jail_moves::Room;
 
 /// When an input came: its moment in seconds since 1970, the word of the last reading of the clock, and the serial of the ban to come.
 #[derive(Clone, Copy)]
-pub struct Turn {
+pub struct InputStamp {
     pub at: u64,
     pub word: u64,
     pub serial: u64,
@@ -21,18 +21,18 @@ pub fn find(
     room: &mut Room,
     told: &mut Seq<Happening>,
     failures: &[Failure],
-    turn: Turn,
+    stamp: InputStamp,
 ) -> Result<u64, NoMemory>
-    requires kept { IsKept turn.at turn.serial definition.now room.old }
-    requires room { turn.serial + length failures.now < 2 ^ 64 }
-    ensures jail { IfOk result (λ next. found_each turn.at turn.word failures.now turn.serial (jail_in definition.now room.old) ≡ record { jail = jail_in definition.now room.new; next = next }) }
-    ensures told { OnOk result (told.new ≡ told.old ++ told_each_found turn.at turn.word failures.now turn.serial (jail_in definition.now room.old)) }
-    ensures kept { IfOk result (λ next. IsKept turn.at next definition.now room.new) }
-    ensures next { IfOk result (λ next. turn.serial ≤ next) }
+    requires kept { IsKeptJail stamp.at stamp.serial definition.now room.old }
+    requires room { stamp.serial + length failures.now < 2 ^ 64 }
+    ensures jail { IfOk result (λ next. found_each stamp.at stamp.word failures.now stamp.serial (jail_in definition.now room.old) ≡ record { jail = jail_in definition.now room.new; next = next }) }
+    ensures told { OnOk result (told.new ≡ told.old ++ told_each_found stamp.at stamp.word failures.now stamp.serial (jail_in definition.now room.old)) }
+    ensures kept { IfOk result (λ next. IsKeptJail stamp.at next definition.now room.new) }
+    ensures next { IfOk result (λ next. stamp.serial ≤ next) }
 {
-    let mut next = turn.serial;
+    let mut next = stamp.serial;
     for failure in failures {
-        next = room.found(definition, told, turn.at, turn.word, next, failure)?;
+        next = room.found(definition, told, stamp.at, stamp.word, next, failure)?;
     }
     Ok(next)
 }
@@ -43,25 +43,25 @@ pub fn ban(
     room: &mut Room,
     told: &mut Seq<Happening>,
     addrs: &[Addr],
-    turn: Turn,
+    stamp: InputStamp,
 ) -> Result<u64, NoMemory>
-    requires kept { IsKept turn.at turn.serial definition.now room.old }
-    requires room { turn.serial + length addrs.now < 2 ^ 64 }
-    ensures jail { IfOk result (λ next. banned_each turn.at turn.word addrs.now turn.serial (jail_in definition.now room.old) ≡ record { jail = jail_in definition.now room.new; next = next }) }
-    ensures told { OnOk result (told.new ≡ told.old ++ told_each_banned turn.at turn.word addrs.now turn.serial (jail_in definition.now room.old)) }
-    ensures kept { IfOk result (λ next. IsKept turn.at next definition.now room.new) }
-    ensures next { IfOk result (λ next. turn.serial ≤ next) }
+    requires kept { IsKeptJail stamp.at stamp.serial definition.now room.old }
+    requires room { stamp.serial + length addrs.now < 2 ^ 64 }
+    ensures jail { IfOk result (λ next. banned_each stamp.at stamp.word addrs.now stamp.serial (jail_in definition.now room.old) ≡ record { jail = jail_in definition.now room.new; next = next }) }
+    ensures told { OnOk result (told.new ≡ told.old ++ told_each_banned stamp.at stamp.word addrs.now stamp.serial (jail_in definition.now room.old)) }
+    ensures kept { IfOk result (λ next. IsKeptJail stamp.at next definition.now room.new) }
+    ensures next { IfOk result (λ next. stamp.serial ≤ next) }
 {
-    let mut next = turn.serial;
+    let mut next = stamp.serial;
     for addr in addrs {
-        next = room.ban(definition, told, turn.at, turn.word, next, *addr)?;
+        next = room.ban(definition, told, stamp.at, stamp.word, next, *addr)?;
     }
     Ok(next)
 }
 
 /// What was read of a log: how far it was followed, and the failures that were found.
 #[derive(Clone, Copy)]
-pub struct Reading<'a> {
+pub struct LogRead<'a> {
     pub path: &'a Text,
     pub place: &'a Place,
     pub failures: &'a [Failure],
@@ -72,19 +72,19 @@ pub fn read(
     definition: &JailDef,
     room: &mut Room,
     told: &mut Seq<Happening>,
-    reading: &Reading<'_>,
-    turn: Turn,
+    reading: &LogRead<'_>,
+    stamp: InputStamp,
 ) -> Result<u64, NoMemory>
-    requires kept { IsKept turn.at turn.serial definition.now room.old }
-    requires room { turn.serial + length reading.now.failures.now < 2 ^ 64 }
-    ensures jail { IfOk result (λ next. read_each turn.at turn.word reading.now.path.now reading.now.place.now reading.now.failures.now turn.serial (jail_in definition.now room.old) ≡ record { jail = jail_in definition.now room.new; next = next }) }
-    ensures told { OnOk result (told.new ≡ told.old ++ told_read turn.at turn.word reading.now.path.now reading.now.place.now reading.now.failures.now turn.serial (jail_in definition.now room.old)) }
-    ensures kept { IfOk result (λ next. IsKept turn.at next definition.now room.new) }
-    ensures next { IfOk result (λ next. turn.serial ≤ next) }
+    requires kept { IsKeptJail stamp.at stamp.serial definition.now room.old }
+    requires room { stamp.serial + length reading.now.failures.now < 2 ^ 64 }
+    ensures jail { IfOk result (λ next. read_each stamp.at stamp.word reading.now.path.now reading.now.place.now reading.now.failures.now stamp.serial (jail_in definition.now room.old) ≡ record { jail = jail_in definition.now room.new; next = next }) }
+    ensures told { OnOk result (told.new ≡ told.old ++ told_read stamp.at stamp.word reading.now.path.now reading.now.place.now reading.now.failures.now stamp.serial (jail_in definition.now room.old)) }
+    ensures kept { IfOk result (λ next. IsKeptJail stamp.at next definition.now room.new) }
+    ensures next { IfOk result (λ next. stamp.serial ≤ next) }
 {
     if !room.follow(reading.path, reading.place)? {
-        return Ok(turn.serial);
+        return Ok(stamp.serial);
     }
-    let next = find(definition, room, told, reading.failures, turn)?;
+    let next = find(definition, room, told, reading.failures, stamp)?;
     Ok(next)
 }

@@ -3,10 +3,10 @@ ghost use Rattle.std.specs.Prelude.{◌≡◌, ◌<◌, ◌+◌, ◌^◌, ◌++�
 ghost use Rattle.f2b_model.specs.Steps.{in_jail, moves_now};
 ghost use Rattle.f2b_model.specs.Told.{told_in};
 ghost use Rattle.jail_rooms.specs.Kept.{jails_in, AreKept};
-ghost use Rattle.jail_rooms.specs.Reading.{banned_each, found_each, read_each, told_each_banned, told_each_found, told_read};
+ghost use Rattle.jail_rooms.specs.LogRead.{banned_each, found_each, read_each, told_each_banned, told_each_found, told_read};
 
 use crate::definitions::place_of;
-use crate::reads::{Reading, Turn, ban, find, read};
+use crate::reads::{InputStamp, LogRead, ban, find, read};
 use f2b_base::{Addr, Failure, JailDef, NoMemory, Seq, Text};
 use f2b_model::Happening;
 use jail_moves::Room;
@@ -17,22 +17,22 @@ pub fn read_in(
     rooms: &mut [Room],
     told: &mut Seq<Happening>,
     name: &Text,
-    reading: &Reading<'_>,
-    turn: Turn,
+    reading: &LogRead<'_>,
+    stamp: InputStamp,
 ) -> Result<u64, NoMemory>
-    requires kept { AreKept turn.at turn.serial definitions.now rooms.old }
-    requires room { turn.serial + length reading.now.failures.now < 2 ^ 64 }
-    ensures jails { IfOk result (λ next. in_jail moves_now name.now (read_each turn.at turn.word reading.now.path.now reading.now.place.now reading.now.failures.now) turn.serial (jails_in definitions.now rooms.old)
+    requires kept { AreKept stamp.at stamp.serial definitions.now rooms.old }
+    requires room { stamp.serial + length reading.now.failures.now < 2 ^ 64 }
+    ensures jails { IfOk result (λ next. in_jail moves_now name.now (read_each stamp.at stamp.word reading.now.path.now reading.now.place.now reading.now.failures.now) stamp.serial (jails_in definitions.now rooms.old)
         ≡ record { jails = jails_in definitions.now rooms.new; next = next }) }
-    ensures told { OnOk result (told.new ≡ told.old ++ told_in moves_now name.now (told_read turn.at turn.word reading.now.path.now reading.now.place.now reading.now.failures.now turn.serial) (jails_in definitions.now rooms.old)) }
-    ensures kept { IfOk result (λ next. AreKept turn.at next definitions.now rooms.new) }
+    ensures told { OnOk result (told.new ≡ told.old ++ told_in moves_now name.now (told_read stamp.at stamp.word reading.now.path.now reading.now.place.now reading.now.failures.now stamp.serial) (jails_in definitions.now rooms.old)) }
+    ensures kept { IfOk result (λ next. AreKept stamp.at next definitions.now rooms.new) }
 {
     let place = place_of(definitions, name);
     if place < definitions.len() {
-        let next = read(&definitions[place], &mut rooms[place], told, reading, turn)?;
+        let next = read(&definitions[place], &mut rooms[place], told, reading, stamp)?;
         return Ok(next);
     }
-    Ok(turn.serial)
+    Ok(stamp.serial)
 }
 
 /// Failures found in the jail of a name, if there is one. Gives the next serial.
@@ -42,21 +42,27 @@ pub fn find_in(
     told: &mut Seq<Happening>,
     name: &Text,
     failures: &[Failure],
-    turn: Turn,
+    stamp: InputStamp,
 ) -> Result<u64, NoMemory>
-    requires kept { AreKept turn.at turn.serial definitions.now rooms.old }
-    requires room { turn.serial + length failures.now < 2 ^ 64 }
-    ensures jails { IfOk result (λ next. in_jail moves_now name.now (found_each turn.at turn.word failures.now) turn.serial (jails_in definitions.now rooms.old)
+    requires kept { AreKept stamp.at stamp.serial definitions.now rooms.old }
+    requires room { stamp.serial + length failures.now < 2 ^ 64 }
+    ensures jails { IfOk result (λ next. in_jail moves_now name.now (found_each stamp.at stamp.word failures.now) stamp.serial (jails_in definitions.now rooms.old)
         ≡ record { jails = jails_in definitions.now rooms.new; next = next }) }
-    ensures told { OnOk result (told.new ≡ told.old ++ told_in moves_now name.now (told_each_found turn.at turn.word failures.now turn.serial) (jails_in definitions.now rooms.old)) }
-    ensures kept { IfOk result (λ next. AreKept turn.at next definitions.now rooms.new) }
+    ensures told { OnOk result (told.new ≡ told.old ++ told_in moves_now name.now (told_each_found stamp.at stamp.word failures.now stamp.serial) (jails_in definitions.now rooms.old)) }
+    ensures kept { IfOk result (λ next. AreKept stamp.at next definitions.now rooms.new) }
 {
     let place = place_of(definitions, name);
     if place < definitions.len() {
-        let next = find(&definitions[place], &mut rooms[place], told, failures, turn)?;
+        let next = find(
+            &definitions[place],
+            &mut rooms[place],
+            told,
+            failures,
+            stamp,
+        )?;
         return Ok(next);
     }
-    Ok(turn.serial)
+    Ok(stamp.serial)
 }
 
 /// Bans by command in the jail of a name, if there is one. Gives the next serial.
@@ -66,19 +72,19 @@ pub fn ban_in(
     told: &mut Seq<Happening>,
     name: &Text,
     addrs: &[Addr],
-    turn: Turn,
+    stamp: InputStamp,
 ) -> Result<u64, NoMemory>
-    requires kept { AreKept turn.at turn.serial definitions.now rooms.old }
-    requires room { turn.serial + length addrs.now < 2 ^ 64 }
-    ensures jails { IfOk result (λ next. in_jail moves_now name.now (banned_each turn.at turn.word addrs.now) turn.serial (jails_in definitions.now rooms.old)
+    requires kept { AreKept stamp.at stamp.serial definitions.now rooms.old }
+    requires room { stamp.serial + length addrs.now < 2 ^ 64 }
+    ensures jails { IfOk result (λ next. in_jail moves_now name.now (banned_each stamp.at stamp.word addrs.now) stamp.serial (jails_in definitions.now rooms.old)
         ≡ record { jails = jails_in definitions.now rooms.new; next = next }) }
-    ensures told { OnOk result (told.new ≡ told.old ++ told_in moves_now name.now (told_each_banned turn.at turn.word addrs.now turn.serial) (jails_in definitions.now rooms.old)) }
-    ensures kept { IfOk result (λ next. AreKept turn.at next definitions.now rooms.new) }
+    ensures told { OnOk result (told.new ≡ told.old ++ told_in moves_now name.now (told_each_banned stamp.at stamp.word addrs.now stamp.serial) (jails_in definitions.now rooms.old)) }
+    ensures kept { IfOk result (λ next. AreKept stamp.at next definitions.now rooms.new) }
 {
     let place = place_of(definitions, name);
     if place < definitions.len() {
-        let next = ban(&definitions[place], &mut rooms[place], told, addrs, turn)?;
+        let next = ban(&definitions[place], &mut rooms[place], told, addrs, stamp)?;
         return Ok(next);
     }
-    Ok(turn.serial)
+    Ok(stamp.serial)
 }

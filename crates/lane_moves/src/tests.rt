@@ -1,6 +1,6 @@
 //! What bans, configurations and stops order, as the jobs with their commands, by the rules for actions.
 
-use crate::{Actions, JailBans};
+use crate::{JailBans, LaneBook};
 use f2b_base::{
     ActionDef, Addr, Ban, BanRule, DateSpec, Defs, Family, JailDef, NoMemory, Outcome, Seq, Text,
     Until,
@@ -121,7 +121,7 @@ fn ends(alloc: Global, jail: &str, ban: Ban) -> Result<Happening, NoMemory> {
 }
 
 /// The jobs, one a line: id, kind, failed tries, command.
-fn shown(alloc: Global, actions: &Actions) -> Result<String, NoMemory> {
+fn shown(alloc: Global, actions: &LaneBook) -> Result<String, NoMemory> {
     let jobs = actions.jobs().jobs(alloc)?;
     let mut out = String::new(alloc);
     for job in jobs.as_slice() {
@@ -139,7 +139,7 @@ fn shown(alloc: Global, actions: &Actions) -> Result<String, NoMemory> {
 pub(crate) fn expect_jobs(
     rt: &impl Abort,
     alloc: Global,
-    actions: &Actions,
+    actions: &LaneBook,
     want: &str,
 ) -> Result<(), Fail> {
     let jobs = shown(alloc, actions)?;
@@ -184,15 +184,15 @@ pub(crate) fn lanes_up(
     alloc: Global,
     families: &[Family],
     held: &[JailBans],
-) -> Result<Actions, NoMemory> {
+) -> Result<LaneBook, NoMemory> {
     let defs = defs_of(alloc, families, "old")?;
-    let mut actions = Actions::new(alloc);
+    let mut actions = LaneBook::new(alloc);
     actions.missing_up(held, &defs, 900)?;
     Ok(actions)
 }
 
 /// Two bans begin in the jail and one in another, and one of the jail's ends.
-fn tell(alloc: Global, actions: &mut Actions) -> Result<(), NoMemory> {
+fn tell(alloc: Global, actions: &mut LaneBook) -> Result<(), NoMemory> {
     let told = [
         begins(alloc, "sshd", SHORT)?,
         begins(alloc, "nginx", SHORT)?,
@@ -269,7 +269,7 @@ fn a_stop_and_failed_tries(rt: HostRuntime) -> Result<(), Fail> {
     let held = [held_of(alloc, "sshd", ENDLESS)?];
     let before = lanes_up(alloc, &[Family::Inet6], &[])?;
     let up = Seq::from(before.up().to_vec(alloc)?);
-    let mut actions = Actions::of(alloc, &up, false, &Seq::new(alloc), 70)?;
+    let mut actions = LaneBook::of(alloc, &up, false, &Seq::new(alloc), 70)?;
     actions.stop(&held, 1000)?;
     assert!(rt; actions.is_stopping() && actions.up().is_empty());
 

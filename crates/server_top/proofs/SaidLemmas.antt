@@ -80,7 +80,7 @@ moved_lengthens : (point : Point) (event : Event) (r : Run) → Lengthens r (mov
 moved_lengthens AtConfig (Config root answer) r = config_lengthens answer r
 moved_lengthens (AtMake definition k) (Make text answer) r = made_lengthens definition k answer r
 moved_lengthens (AtStart definition) (Clock answer) r = record { more = _; lines = refl; said = refl }
-moved_lengthens (AtClock f) (Clock answer) r = ticked_lengthens (is_ban_due moves (read_at answer f).now f.state.world) (read_at answer f) r
+moved_lengthens (AtClock f) (Clock answer) r = ticked_lengthens (is_ban_due moves (read_at answer f).now f.state.jails) (read_at answer f) r
 moved_lengthens (AtLook f) (LookAt path head from max answer) r = looked_lengthens answer f r
 moved_lengthens (AtPause f) (Pause ms) r = record { more = []; lines = sym (append-nil r.lines); said = refl }
 moved_lengthens _ _ r = same_lines r

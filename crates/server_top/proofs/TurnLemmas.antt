@@ -88,8 +88,8 @@ any_map : (at : ℕ) (js : List Jail) → list_any (λ (j : Jail). list_any (is_
 any_map at [] = refl
 any_map at (j ∷ js) = ap₂ ◌||◌ refl (any_map at js)
 
-due_same : (at : ℕ) (s : State) → is_ban_due moves at s.world ≡ is_ban_due moves_now at (now_of s).world
-due_same at s = any_map at s.world.jails
+due_same : (at : ℕ) (s : State) → is_ban_due moves at s.jails ≡ is_ban_due moves_now at (now_of s).jails
+due_same at s = any_map at s.jails.jails
 
 read_keeps : (before mid : Follow) (answer : Reading) (f : Following) → ReadsAt before answer mid → Keeps f before → Keeps (read_at answer f) mid
 read_keeps before mid answer f reads keeps = record {
@@ -101,11 +101,11 @@ read_keeps before mid answer f reads keeps = record {
   watch = (let P : Follower → Type 0 = λ x. StandsFor x f.watch in subst P (sym reads.follower) keeps.watch);
 }
 
-due_is : (mid : Follow) (f : Following) (due : Bool) → Keeps f mid → due ≡ is_ban_due moves_now mid.now mid.core.world → is_ban_due moves f.now f.state.world ≡ due
-due_is mid f due keeps is = due_same f.now f.state ∙ sym (is ∙ ap₂ (λ at (n : Now). is_ban_due moves_now at n.world) keeps.now keeps.core)
+due_is : (mid : Follow) (f : Following) (due : Bool) → Keeps f mid → due ≡ is_ban_due moves_now mid.now mid.core.jails → is_ban_due moves f.now f.state.jails ≡ due
+due_is mid f due keeps is = due_same f.now f.state ∙ sym (is ∙ ap₂ (λ at (n : Now). is_ban_due moves_now at n.jails) keeps.now keeps.core)
 
 pub tick_takes : (a b c : Standing) (reading : Reading) (before mid after : Follow) (due : Bool) → Called a (Clock reading) b → ReadsAt before reading mid
-    → due ≡ is_ban_due moves_now mid.now mid.core.world → due ≡ true → Takes b c Tick mid after → Moves a c AtClock AtLook before after
+    → due ≡ is_ban_due moves_now mid.now mid.core.jails → due ≡ true → Takes b c Tick mid after → Moves a c AtClock AtLook before after
 tick_takes a b c reading before mid after due call reads due_now is_due_now took = record {
   runs = λ r f at keeps.
       at_standing (λ x. Reaches a c x AtLook f.left after) r (AtClock f) at (
@@ -117,7 +117,7 @@ tick_takes a b c reading before mid after due call reads due_now is_due_now took
 }
 
 pub tick_fails : (a b c : Standing) (reading : Reading) (before mid : Follow) (due : Bool) (status : Status) → Called a (Clock reading) b → ReadsAt before reading mid
-    → due ≡ is_ban_due moves_now mid.now mid.core.world → due ≡ true → TakeFails b c Tick mid status → MoveFails a c AtClock before status
+    → due ≡ is_ban_due moves_now mid.now mid.core.jails → due ≡ true → TakeFails b c Tick mid status → MoveFails a c AtClock before status
 tick_fails a b c reading before mid due status call reads due_now is_due_now fails = record {
   runs = λ r f at keeps.
       at_standing (λ x. Halts a.told c.told x status) r (AtClock f) at (
@@ -129,7 +129,7 @@ tick_fails a b c reading before mid due status call reads due_now is_due_now fai
 }
 
 pub tick_none : (a b : Standing) (reading : Reading) (before mid : Follow) (due : Bool) → Called a (Clock reading) b → ReadsAt before reading mid
-    → due ≡ is_ban_due moves_now mid.now mid.core.world → due ≡ false → Moves a b AtClock AtLook before mid
+    → due ≡ is_ban_due moves_now mid.now mid.core.jails → due ≡ false → Moves a b AtClock AtLook before mid
 tick_none a b reading before mid due call reads due_now is_not = record {
   runs = λ r f at keeps.
       at_standing (λ x. Reaches a b x AtLook f.left mid) r (AtClock f) at (

@@ -220,7 +220,7 @@ ticked true f r = takes Tick AtLook f r
 ticked false f r = record r { point = AtLook f }
 
 abbrev pub clocked : Following → Run → Run
-clocked f r = ticked (is_ban_due moves f.now f.state.world) f r
+clocked f r = ticked (is_ban_due moves f.now f.state.jails) f r
 
 -- The failures among the findings of the lines. They keep no line: the flat form has no actions, and so no command that shows lines.
 abbrev pub failure_in : Finding → List Failure

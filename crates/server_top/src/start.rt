@@ -2,7 +2,7 @@
 ghost use Rattle.std.specs.Prelude.{◌≡◌, IfErr, IfOk, OnOk};
 ghost use Rattle.filter_regex.specs.Rules.{rules_of};
 ghost use Rattle.flat_form.specs.FlatText.{IsFlatJail};
-ghost use Rattle.jail_rooms.specs.Kept.{IsTaken};
+ghost use Rattle.jail_rooms.specs.Kept.{IsTakenInput};
 ghost use Rattle.server_top.specs.Law.{Halts, first_input, opening};
 ghost use Rattle.server_top.specs.Starts.{BuildsAll, BuildFails, Configures, IsDecided, IsFirst, Starts, StartFails};
 ghost use Rattle.server_top.specs.Stages.{HasCause, IsSteady};
@@ -78,7 +78,7 @@ pub fn build<W: World>(alloc: Global, world: &mut W, definition: &JailDef) -> Re
 fn configuration(alloc: Global, definition: &JailDef, reading: Reading) -> Result<Input, NoMemory>
     requires { IsFlatJail definition.now }
     ensures value { IfOk result (λ input. input ≡ first_input definition.now reading) }
-    ensures taken { IfOk result IsTaken }
+    ensures taken { IfOk result IsTakenInput }
 {
     let mut jails = Seq::new(alloc);
     jails.push(definition.copy()?)?;

@@ -5,7 +5,7 @@ ghost use Rattle.f2b_base.specs.Limits.{last_moment};
 ghost use Rattle.f2b_model.specs.Lists.{AllOf, AreDistinct};
 ghost use Rattle.f2b_model.specs.Sound.{same_kind};
 ghost use Rattle.f2b_model.specs.Storable.{patterns_of, IsJailName, IsStorableAction, IsStorableDef, IsStorableFailure, IsStorableInput, IsStorableOutcome, IsStorableWhat};
-ghost use Rattle.jail_rooms.specs.Kept.{IsTaken};
+ghost use Rattle.jail_rooms.specs.Kept.{IsTakenInput};
 
 use crate::Core;
 use crate::tests::{ADD, PATH, action, configuration_of, definition, place, text};
@@ -329,7 +329,7 @@ impl Source {
     /// The next input for the core.
     #[tactic(auto, using(crate::proofs::TakenLemmas::storable_taken))]
     pub(crate) fn next_input(&mut self, core: &Core) -> Result<Input, NoMemory>
-        ensures taken { IfOk result IsTaken }
+        ensures taken { IfOk result IsTakenInput }
         ensures storable { IfOk result IsStorableInput }
     {
         let secs = self.secs();

@@ -2,7 +2,7 @@
 ghost use Rattle.std.specs.Prelude.{IfOk};
 ghost use Rattle.f2b_model.specs.Storable.{IsStorable, IsStorableWhat};
 ghost use Rattle.f2b_model.specs.StorableViews.{IsStorableView};
-ghost use Rattle.jail_rooms.specs.Kept.{IsTaken};
+ghost use Rattle.jail_rooms.specs.Kept.{IsTakenInput};
 
 use crate::tests::{
     ADDR, JAIL, NEXT, Pair, banning, check_failed, configuration, ended, input, jail, place,
@@ -66,7 +66,7 @@ fn with_all(alloc: Global) -> Result<Core, NoMemory>
 
 /// What happens first then: a third failure fills its address.
 fn third_failure(alloc: Global) -> Result<Input, NoMemory>
-    ensures { IfOk result IsTaken }
+    ensures { IfOk result IsTakenInput }
 {
     let found = reading(alloc, OTHER, 1005, "sshd[813]: c")?;
     Ok(input(1005, found))
@@ -74,14 +74,14 @@ fn third_failure(alloc: Global) -> Result<Input, NoMemory>
 
 /// And then: the check of the job fails.
 fn failed_check() -> Input
-    ensures { IsTaken result }
+    ensures { IsTakenInput result }
 {
     input(1005, check_failed(3))
 }
 
 /// And then: the ban from before ends.
 fn later() -> Input
-    ensures { IsTaken result }
+    ensures { IsTakenInput result }
 {
     input(1604, What::Tick)
 }

@@ -1,6 +1,6 @@
 use Rattle.std.proofs.Common.{◌≡◌, not, drop, arith, rules, ◌∙◌, ap}
 use Rattle.std.proofs.lemmas.List.Sorted.{IsPartitionPoint-from_clause}
-use Rattle.f2b_model.specs.Full.{is_late}
+use Rattle.f2b_model.specs.Full.{is_recent}
 use Rattle.fail_window.proofs.PlaceLemmas.{drop_more, filter_behind, parted_old}
 use Rattle.fail_window.proofs.runs.drop_old.Goals as goal
 
@@ -17,6 +17,6 @@ returns-clause-kept c =
     let findtime = c.args.findtime in
     let fs = c.args.kept.now.items in
     let parted = parted_old at findtime fs c.requires in
-    let point = IsPartitionPoint-from_clause (λ f. not (is_late at findtime f)) _ _ c.partition_point-old.ensures.partitioned parted (λ a r f k. search rules) in
+    let point = IsPartitionPoint-from_clause (λ f. not (is_recent at findtime f)) _ _ c.partition_point-old.ensures.partitioned parted (λ a r f k. search rules) in
     let all : c.drops.counter ≡ c.partition_point-old.result = omega arith in
-    c.drops.invariant.items ∙ ap (λ k. drop k fs) all ∙ filter_behind (is_late at findtime) fs c.partition_point-old.result (omega arith) point
+    c.drops.invariant.items ∙ ap (λ k. drop k fs) all ∙ filter_behind (is_recent at findtime) fs c.partition_point-old.result (omega arith) point

@@ -2,7 +2,7 @@ use Rattle.std.proofs.Common.{◌≡◌, List, length, sym, ◌∙◌, ap, subst
 use Rattle.std.specs.Option.{unwrap_or}
 use Rattle.f2b_model.specs.declared.jail_now.JailNow.{JailNow}
 use Rattle.f2b_model.specs.NowMoves.{limited_now}
-use Rattle.f2b_model.specs.Steps.{Outs, alone, in_jail, moves_now}
+use Rattle.f2b_model.specs.Steps.{JailsAndSerial, alone, in_jail, moves_now}
 use Rattle.jail_moves.specs.Rooms.{Contents}
 use Rattle.jail_rooms.specs.Kept.{jails_in, AreKept}
 use Rattle.jail_rooms.proofs.EachLemmas.{as_a_whole}
@@ -16,7 +16,7 @@ returns-clause-jails c n =
     let whole = as_a_whole c.limit_in.new.rooms c.args.rooms.now.items _ same (search rules) in
     ap (λ (cs : List Contents). in_jail moves_now c.args.name.now (alone moves_now g) n (jails_in c.args.definitions.now cs)) (sym slice)
     ∙ c.in_ok-limit_in.ensures.jails n
-    ∙ ap (λ (cs : List Contents). let o : Outs JailNow = record { jails = jails_in c.limit_in.new.definitions cs; next = n } in o) (sym whole)
+    ∙ ap (λ (cs : List Contents). let o : JailsAndSerial JailNow = record { jails = jails_in c.limit_in.new.definitions cs; next = n } in o) (sym whole)
 
 pub returns-clause-kept : goal.returns-clause-kept
 returns-clause-kept c at next kept =

@@ -1,9 +1,9 @@
 use Rattle.std.proofs.Common.{◌≡◌, ◌<◌, ◌≤◌, ℕ, Some, None, Option, length, get_or, arith, sym, ◌∙◌, ap, subst}
 use Rattle.std.proofs.lemmas.Result.{IfOk-weaker}
 use Rattle.f2b_base.specs.declared.jail.JailDef.{JailDef}
-use Rattle.jail_moves.specs.Rooms.{Contents, jail_in, IsKept}
+use Rattle.jail_moves.specs.Rooms.{Contents, jail_in, IsKeptJail}
 use Rattle.jail_rooms.specs.Left.{find_left, jail_left, IsLeftKept}
-use Rattle.jail_rooms.specs.Reading.{jail_place}
+use Rattle.jail_rooms.specs.LogRead.{jail_place}
 use Rattle.jail_rooms.proofs.ConfigureRooms.{left_there, left_kept_at, none_left}
 use Rattle.jail_rooms.proofs.configure.room_of.Goals as goal
 
@@ -16,7 +16,7 @@ returns-then-place-before-clause-jail c =
 
 pub returns-then-place-before-clause-kept : goal.returns-then-place-before-clause-kept
 returns-then-place-before-clause-kept c =
-    λ at next kept. IfOk-weaker c.fresh.result (λ room. (a n : ℕ) → IsKept a n c.args.definition.now room) (IsKept at next c.args.definition.now) (λ room all. all at next) c.fresh.ensures.kept
+    λ at next kept. IfOk-weaker c.fresh.result (λ room. (a n : ℕ) → IsKeptJail a n c.args.definition.now room) (IsKeptJail at next c.args.definition.now) (λ room all. all at next) c.fresh.ensures.kept
 
 pub returns-in-None-clause-jail : goal.returns-in-None-clause-jail
 returns-in-None-clause-jail c =
@@ -30,7 +30,7 @@ returns-in-None-clause-jail c =
 
 pub returns-in-None-clause-kept : goal.returns-in-None-clause-kept
 returns-in-None-clause-kept c =
-    λ at next kept. IfOk-weaker c.fresh-in-None.result (λ room. (a n : ℕ) → IsKept a n c.args.definition.now room) (IsKept at next c.args.definition.now) (λ room all. all at next) c.fresh-in-None.ensures.kept
+    λ at next kept. IfOk-weaker c.fresh-in-None.result (λ room. (a n : ℕ) → IsKeptJail a n c.args.definition.now room) (IsKeptJail at next c.args.definition.now) (λ room all. all at next) c.fresh-in-None.ensures.kept
 
 pub returns-in_ok-keep-in-Some-clause-jail : goal.returns-in_ok-keep-in-Some-clause-jail
 returns-in_ok-keep-in-Some-clause-jail c =

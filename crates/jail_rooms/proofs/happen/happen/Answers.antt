@@ -10,33 +10,33 @@ use Rattle.jail_rooms.proofs.happen.happen.Goals as goal
 
 pub unban_all-requires-clause-same : goal.unban_all-requires-clause-same
 unban_all-requires-clause-same c =
-    kept_length c.args.turn.at c.args.turn.serial c.args.definitions.now c.args.rooms.now.items c.requires.kept ∙ ap length (sym c.as_slice-in-Unban.ensures)
+    kept_length c.args.stamp.at c.args.stamp.serial c.args.definitions.now c.args.rooms.now.items c.requires.kept ∙ ap length (sym c.as_slice-in-Unban.ensures)
 
 pub idle_in-requires : goal.idle_in-requires
 idle_in-requires c =
     let slice : c.as_mut_slice-in-Idle.result.now ≡ c.args.rooms.now.items = search rules in
-    ap length slice ∙ kept_length c.args.turn.at c.args.turn.serial c.args.definitions.now c.args.rooms.now.items c.requires.kept ∙ ap length (sym c.as_slice-in-Idle.ensures)
+    ap length slice ∙ kept_length c.args.stamp.at c.args.stamp.serial c.args.definitions.now c.args.rooms.now.items c.requires.kept ∙ ap length (sym c.as_slice-in-Idle.ensures)
 
 pub returns-in_ok-ignore_in-in-Ignore-clause-jails : goal.returns-in_ok-ignore_in-in-Ignore-clause-jails
 returns-in_ok-ignore_in-in-Ignore-clause-jails c =
-    let same = kept_length c.args.turn.at c.args.turn.serial c.args.definitions.now c.args.rooms.now.items c.requires.kept in
-    ap (λ (w : What). happened c.args.turn.at c.args.turn.word w c.args.turn.serial (jails_in c.args.definitions.now c.args.rooms.now.items)) c.in-Ignore.is
-    ∙ c.in_ok-ignore_in-in-Ignore.ensures.jails c.args.turn.serial c.args.rooms.now.items same
+    let same = kept_length c.args.stamp.at c.args.stamp.serial c.args.definitions.now c.args.rooms.now.items c.requires.kept in
+    ap (λ (w : What). happened c.args.stamp.at c.args.stamp.word w c.args.stamp.serial (jails_in c.args.definitions.now c.args.rooms.now.items)) c.in-Ignore.is
+    ∙ c.in_ok-ignore_in-in-Ignore.ensures.jails c.args.stamp.serial c.args.rooms.now.items same
 
 pub returns-in_ok-span_in-in-Bantime-clause-jails : goal.returns-in_ok-span_in-in-Bantime-clause-jails
 returns-in_ok-span_in-in-Bantime-clause-jails c =
-    let same = kept_length c.args.turn.at c.args.turn.serial c.args.definitions.now c.args.rooms.now.items c.requires.kept in
+    let same = kept_length c.args.stamp.at c.args.stamp.serial c.args.definitions.now c.args.rooms.now.items c.requires.kept in
     let read : to_z w64 (of_z w64 c.in-Bantime.secs) ≡ c.in-Bantime.secs = search rules in
-    ap (λ (w : What). happened c.args.turn.at c.args.turn.word w c.args.turn.serial (jails_in c.args.definitions.now c.args.rooms.now.items)) c.in-Bantime.is
-    ∙ ap (λ s. in_jail moves_now c.in-Bantime.jail (alone moves_now (moves_now.spanned s)) c.args.turn.serial (jails_in c.args.definitions.now c.args.rooms.now.items)) (sym read)
-    ∙ c.in_ok-span_in-in-Bantime.ensures.jails c.args.turn.serial c.args.rooms.now.items same
+    ap (λ (w : What). happened c.args.stamp.at c.args.stamp.word w c.args.stamp.serial (jails_in c.args.definitions.now c.args.rooms.now.items)) c.in-Bantime.is
+    ∙ ap (λ s. in_jail moves_now c.in-Bantime.jail (alone moves_now (moves_now.spanned s)) c.args.stamp.serial (jails_in c.args.definitions.now c.args.rooms.now.items)) (sym read)
+    ∙ c.in_ok-span_in-in-Bantime.ensures.jails c.args.stamp.serial c.args.rooms.now.items same
 
 pub returns-in_ok-limit_among-in-Findtime-clause-jails : goal.returns-in_ok-limit_among-in-Findtime-clause-jails
 returns-in_ok-limit_among-in-Findtime-clause-jails c =
-    ap (λ (w : What). happened c.args.turn.at c.args.turn.word w c.args.turn.serial (jails_in c.args.definitions.now c.args.rooms.now.items)) c.in-Findtime.is
-    ∙ c.in_ok-limit_among-in-Findtime.ensures.jails c.args.turn.serial
+    ap (λ (w : What). happened c.args.stamp.at c.args.stamp.word w c.args.stamp.serial (jails_in c.args.definitions.now c.args.rooms.now.items)) c.in-Findtime.is
+    ∙ c.in_ok-limit_among-in-Findtime.ensures.jails c.args.stamp.serial
 
 pub returns-in_ok-limit_among-in-Maxretry-clause-jails : goal.returns-in_ok-limit_among-in-Maxretry-clause-jails
 returns-in_ok-limit_among-in-Maxretry-clause-jails c =
-    ap (λ (w : What). happened c.args.turn.at c.args.turn.word w c.args.turn.serial (jails_in c.args.definitions.now c.args.rooms.now.items)) c.in-Maxretry.is
-    ∙ c.in_ok-limit_among-in-Maxretry.ensures.jails c.args.turn.serial
+    ap (λ (w : What). happened c.args.stamp.at c.args.stamp.word w c.args.stamp.serial (jails_in c.args.definitions.now c.args.rooms.now.items)) c.in-Maxretry.is
+    ∙ c.in_ok-limit_among-in-Maxretry.ensures.jails c.args.stamp.serial

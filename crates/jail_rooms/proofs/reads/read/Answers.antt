@@ -5,6 +5,6 @@ use Rattle.jail_rooms.proofs.reads.read.Goals as goal
 
 pub returns-then-not-branch-clause-jail : goal.returns-then-not-branch-clause-jail
 returns-then-not-branch-clause-jail c =
-    read_unwatched c.args.turn.at c.args.turn.word c.args.turn.serial c.args.reading.now.path.now c.args.reading.now.place.now c.args.reading.now.failures.now
+    read_unwatched c.args.stamp.at c.args.stamp.word c.args.stamp.serial c.args.reading.now.path.now c.args.reading.now.place.now c.args.reading.now.failures.now
     (jail_in c.args.definition.now c.args.room.now) (jail_in c.args.definition.now c.follow.new.self) c.in_ok-follow.field-0
     c.in_ok-follow.ensures.watched c.if-not-branch.true (ap (λ (r : Contents). jail_in c.args.definition.now r) c.in_ok-follow.ensures.room)

@@ -7,5 +7,5 @@ returns-clause-short c =
     let w = c.self.inside in
     let tidy = c.self.invariant in
     rw (← c.self.view_is) (λ unfilled. (
-    let bound = few w.findtime w.maxretry tidy.late.0 tidy.of_one.0 w.kept.items tidy.positive tidy.of_one.1 tidy.late.1 (unfilled tidy.of_one.0) in
+    let bound = few w.findtime w.maxretry tidy.recent.0 tidy.of_one.0 w.kept.items tidy.positive tidy.of_one.1 tidy.recent.1 (unfilled tidy.of_one.0) in
     omega arith))

@@ -11,7 +11,7 @@ use Rattle.jail_core.proofs.state.Core.config_changes.Goals as goal
 pub returns : goal.returns
 returns c =
     let defs : Defs = c.args.defs.now in
-    let n : Now = record { world = c.self.inside.jails; lanes = c.self.inside.actions } in
+    let n : Now = record { jails = c.self.inside.jails; lanes = c.self.inside.actions } in
     let same : IsTrue c.same_defs-same.result ↔ (defs ≡ defs_now n) = subst (λ (d : Defs). IsTrue c.same_defs-same.result ↔ (defs ≡ d)) c.defs.ensures c.same_defs-same.ensures in
     let kept : c.stays.result ≡ (c.same_defs-same.result && (not n.lanes.stopping && (not (any_idle n) && are_just (lanes_of defs) n.lanes.up))) =
     c.stays.ensures

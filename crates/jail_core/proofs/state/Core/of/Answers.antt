@@ -13,10 +13,10 @@ invariant_of-result c = subst AreWatched (sym c.in_ok-of.ensures.jails) (taken_u
 
 pub returns-clause-sound : goal.returns-clause-sound
 returns-clause-sound c = λ sound.
-    ap₂ (λ (w : JailsNow) (l : Lanes (List Job)). let n : Now = record { world = w; lanes = l } in n) c.in_ok-of.ensures.jails c.in_ok-of-2.ensures ∙ sound_taken_up c.args.view.now sound
+    ap₂ (λ (w : JailsNow) (l : Lanes (List Job)). let n : Now = record { jails = w; lanes = l } in n) c.in_ok-of.ensures.jails c.in_ok-of-2.ensures ∙ sound_taken_up c.args.view.now sound
 
 pub returns-clause-storable : goal.returns-clause-storable
 returns-clause-storable c =
     subst IsStorable
-    (sym (ap₂ (λ (w : JailsNow) (l : Lanes (List Job)). let n : Now = record { world = w; lanes = l } in n) c.in_ok-of.ensures.jails c.in_ok-of-2.ensures))
+    (sym (ap₂ (λ (w : JailsNow) (l : Lanes (List Job)). let n : Now = record { jails = w; lanes = l } in n) c.in_ok-of.ensures.jails c.in_ok-of-2.ensures))
     (taken_up_storable c.args.view.now c.requires)

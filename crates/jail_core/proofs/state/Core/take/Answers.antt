@@ -14,23 +14,23 @@ use Rattle.jail_core.proofs.state.Core.take.Goals as goal
 
 pub of_parts-core-requires : goal.of_parts-core-requires
 of_parts-core-requires c =
-    let n : Now = record { world = c.self.inside.jails; lanes = c.self.inside.actions } in
+    let n : Now = record { jails = c.self.inside.jails; lanes = c.self.inside.actions } in
     let unspent : is_whole_spent moves_now books_now n ≡ false = ap (is_whole_spent moves_now books_now) c.self.view_is ∙ sym c.spent.ensures ∙ c.if-spent.false in
     subst AreWatched
     (sym (jails_step_is n c.args.input.now c.in_ok-jails.jails c.in_ok-jails-2.field-0.jails c.dropped-jails.result unspent c.in_ok-jails.ensures.jails c.in_ok-jails-2.ensures.jails
     c.dropped-jails.ensures))
-    (step_watched n.world c.args.input.now c.self.invariant)
+    (step_watched n.jails c.args.input.now c.self.invariant)
 
 pub returns-clause-core : goal.returns-clause-core
 returns-clause-core c =
     let input = c.args.input.now in
-    let n : Now = record { world = c.self.inside.jails; lanes = c.self.inside.actions } in
+    let n : Now = record { jails = c.self.inside.jails; lanes = c.self.inside.actions } in
     let mid : JailsNow = c.in_ok-jails.jails in
     let after : JailsNow = c.in_ok-jails-2.field-0.jails in
     let unspent : is_whole_spent moves_now books_now n ≡ false = ap (is_whole_spent moves_now books_now) c.self.view_is ∙ sym c.spent.ensures ∙ c.if-spent.false in
     let fresh = fresh_serials n unspent in
-    let ends : List Happening = told_each (told_ends moves_now (max n.world.at input.secs)) n.world.jails in
-    let told : c.after.new.told ≡ jails_told moves_now n.world input =
+    let ends : List Happening = told_each (told_ends moves_now (max n.jails.at input.secs)) n.jails.jails in
+    let told : c.after.new.told ≡ jails_told moves_now n.jails input =
     c.in_ok-jails-2.ensures.told
     ∙ ap (λ (r : List Happening). r ++ told_done moves_now input.word input.what mid) (c.in_ok-jails.ensures.told ∙ ap (λ (r : List Happening). r ++ ends) c.new-told.ensures)
     ∙ ap (λ (w : JailsNow). ends ++ told_done moves_now input.word input.what w) c.in_ok-jails.ensures.jails
@@ -44,13 +44,13 @@ returns-clause-core c =
 pub returns-clause-told : goal.returns-clause-told
 returns-clause-told c =
     let input = c.args.input.now in
-    let n : Now = record { world = c.self.inside.jails; lanes = c.self.inside.actions } in
+    let n : Now = record { jails = c.self.inside.jails; lanes = c.self.inside.actions } in
     let mid : JailsNow = c.in_ok-jails.jails in
     let after : JailsNow = c.in_ok-jails-2.field-0.jails in
     let unspent : is_whole_spent moves_now books_now n ≡ false = ap (is_whole_spent moves_now books_now) c.self.view_is ∙ sym c.spent.ensures ∙ c.if-spent.false in
     let fresh = fresh_serials n unspent in
-    let ends : List Happening = told_each (told_ends moves_now (max n.world.at input.secs)) n.world.jails in
-    let told : c.after.new.told ≡ jails_told moves_now n.world input =
+    let ends : List Happening = told_each (told_ends moves_now (max n.jails.at input.secs)) n.jails.jails in
+    let told : c.after.new.told ≡ jails_told moves_now n.jails input =
     c.in_ok-jails-2.ensures.told
     ∙ ap (λ (r : List Happening). r ++ told_done moves_now input.word input.what mid) (c.in_ok-jails.ensures.told ∙ ap (λ (r : List Happening). r ++ ends) c.new-told.ensures)
     ∙ ap (λ (w : JailsNow). ends ++ told_done moves_now input.word input.what w) c.in_ok-jails.ensures.jails
@@ -63,13 +63,13 @@ returns-clause-told c =
 pub returns-clause-storable : goal.returns-clause-storable
 returns-clause-storable c = λ storable taken.
     let input = c.args.input.now in
-    let n : Now = record { world = c.self.inside.jails; lanes = c.self.inside.actions } in
+    let n : Now = record { jails = c.self.inside.jails; lanes = c.self.inside.actions } in
     let mid : JailsNow = c.in_ok-jails.jails in
     let after : JailsNow = c.in_ok-jails-2.field-0.jails in
     let unspent : is_whole_spent moves_now books_now n ≡ false = ap (is_whole_spent moves_now books_now) c.self.view_is ∙ sym c.spent.ensures ∙ c.if-spent.false in
     let fresh = fresh_serials n unspent in
-    let ends : List Happening = told_each (told_ends moves_now (max n.world.at input.secs)) n.world.jails in
-    let told : c.after.new.told ≡ jails_told moves_now n.world input =
+    let ends : List Happening = told_each (told_ends moves_now (max n.jails.at input.secs)) n.jails.jails in
+    let told : c.after.new.told ≡ jails_told moves_now n.jails input =
     c.in_ok-jails-2.ensures.told
     ∙ ap (λ (r : List Happening). r ++ told_done moves_now input.word input.what mid) (c.in_ok-jails.ensures.told ∙ ap (λ (r : List Happening). r ++ ends) c.new-told.ensures)
     ∙ ap (λ (w : JailsNow). ends ++ told_done moves_now input.word input.what w) c.in_ok-jails.ensures.jails

@@ -12,7 +12,7 @@ use Rattle.jail_core.proofs.state.Core.view.Goals as goal
 
 pub returns-clause-storable : goal.returns-clause-storable
 returns-clause-storable c = λ storable.
-    let n : Now = record { world = c.self.inside.jails; lanes = c.self.inside.actions } in
+    let n : Now = record { jails = c.self.inside.jails; lanes = c.self.inside.actions } in
     let v : View = record {
       at = c.now.result;
       defs = c.in_ok-copy.field-0;
@@ -26,4 +26,4 @@ returns-clause-storable c = λ storable.
     let is : v ≡ spread n = search rules in
     subst IsStorableView (sym is)
     (view_storable n (subst IsStorable (sym c.self.view_is) storable) c.self.invariant
-    (subst (AllOf (λ (j : JailView). AllOf (λ (f : Failure). f.time ≤ n.world.at) j.failures)) c.in_ok-views.ensures.views c.in_ok-views.ensures.times))
+    (subst (AllOf (λ (j : JailView). AllOf (λ (f : Failure). f.time ≤ n.jails.at) j.failures)) c.in_ok-views.ensures.views c.in_ok-views.ensures.times))

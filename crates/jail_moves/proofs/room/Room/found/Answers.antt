@@ -4,9 +4,9 @@ use Rattle.f2b_model.specs.declared.happening.Happening.{Happening}
 use Rattle.f2b_model.specs.declared.happening.Happening.TheVariants.{Counts}
 use Rattle.f2b_model.specs.declared.jail_now.JailNow.{JailNow}
 use Rattle.f2b_model.specs.Matches.{matches_of}
-use Rattle.f2b_model.specs.Moves.{Out, counts, new_ban}
+use Rattle.f2b_model.specs.Moves.{JailAndSerial, counts, new_ban}
 use Rattle.f2b_model.specs.Told.{begins}
-use Rattle.jail_moves.specs.Rooms.{Contents, jail_in, with_ban, IsCounted, IsKept}
+use Rattle.jail_moves.specs.Rooms.{Contents, jail_in, with_ban, IsCounted, IsKeptJail}
 use Rattle.jail_moves.proofs.RoomLemmas.{counted_kept, found_full, with_ban_kept}
 use Rattle.jail_moves.proofs.room.Room.found.Goals as goal
 
@@ -33,7 +33,7 @@ pub returns-in_ok-begin-in-Some-clause-jail : goal.returns-in_ok-begin-in-Some-c
 returns-in_ok-begin-in-Some-clause-jail c =
     (found_full c.args.at c.args.word c.args.serial c.in-Some.near c.args.failure.now c.args.definition.now c.args.self.now c.count.new.self
     c.requires.kept (does_count c) (counted_of c)).0
-    ∙ ap (λ (r : Contents). let o : Out JailNow = record { jail = jail_in c.args.definition.now r; next = c.args.serial + 1 } in o) (sym (room_is c))
+    ∙ ap (λ (r : Contents). let o : JailAndSerial JailNow = record { jail = jail_in c.args.definition.now r; next = c.args.serial + 1 } in o) (sym (room_is c))
 
 pub returns-in_ok-begin-in-Some-clause-told : goal.returns-in_ok-begin-in-Some-clause-told
 unfolding began
@@ -49,6 +49,6 @@ returns-in_ok-begin-in-Some-clause-told c =
 
 pub returns-in_ok-begin-in-Some-clause-kept : goal.returns-in_ok-begin-in-Some-clause-kept
 returns-in_ok-begin-in-Some-clause-kept c =
-    subst (IsKept c.args.at (c.args.serial + 1) c.args.definition.now) (sym (room_is c))
+    subst (IsKeptJail c.args.at (c.args.serial + 1) c.args.definition.now) (sym (room_is c))
     (with_ban_kept c.args.at c.args.word c.args.serial c.args.failure.now.addr (length c.in-Some.near) c.args.definition.now c.count.new.self
     (counted_kept c.args.at c.args.serial c.args.failure.now c.args.definition.now c.args.self.now c.count.new.self (Some c.in-Some.near) c.requires.kept (counted_of c)))

@@ -4,7 +4,7 @@ use Rattle.f2b_base.specs.declared.ban.Failure.{Failure}
 use Rattle.f2b_base.specs.declared.view.WatchView.{WatchView}
 use Rattle.f2b_model.specs.StorableViews.{can_matter, is_over, unfilled}
 use Rattle.fail_window.specs.Opened.{Opened}
-use Rattle.jail_moves.specs.Rooms.{Contents, jail_in, IsKept}
+use Rattle.jail_moves.specs.Rooms.{Contents, jail_in, IsKeptJail}
 use Rattle.jail_moves.proofs.RoomLemmas.{failures_taken_up, stored_in, stored_kept}
 use Rattle.jail_moves.proofs.room.Room.of.Goals as goal
 
@@ -41,7 +41,7 @@ returns-clause-jail c =
 pub returns-clause-kept : goal.returns-clause-kept
 unfolding contents
 returns-clause-kept c next stored =
-    let P : Opened → Type 0 = λ o. IsKept c.args.at next c.args.definition.now (record (contents c o c.in_ok-table_of.field-0) { watches = c.in_ok-copy.field-0 }) in
+    let P : Opened → Type 0 = λ o. IsKeptJail c.args.at next c.args.definition.now (record (contents c o c.in_ok-table_of.field-0) { watches = c.in_ok-copy.field-0 }) in
     subst P (sym c.windows.view_is)
     (stored_kept c.args.at next c.min-moment.result c.args.definition.now _ c.args.view.now c.requires.bounded stored c.min-moment.ensures refl
     (ap (λ (t : BanLists). t.active) c.in_ok-table_of.ensures.table) c.in_ok-windows.ensures.limits.findtime c.in_ok-windows.ensures.limits.maxretry (read c))

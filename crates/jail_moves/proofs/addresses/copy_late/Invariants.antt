@@ -1,7 +1,0 @@
-use Rattle.std.proofs.Common.{◌≡◌, ◌++◌, take}
-use Rattle.std.specs.List.{filter}
-use Rattle.f2b_model.specs.Full.{is_late}
-use Rattle.jail_moves.proofs.addresses.copy_late.Given as goal
-
-abbrev pub invariant-loop-failure : goal.invariant-loop-failure
-invariant-loop-failure l = l.failures ≡ l.fn.failures ++ filter (is_late l.moment l.findtime) (take l.failure-index l.failure-items)
