@@ -1,6 +1,7 @@
 -- How many patterns the jails have together.
-use Rattle.std.proofs.Common.{◌≡◌, ℕ, ◌+◌, ◌<◌, ◌≤◌, Bool, true, false, List, [], ◌∷◌, length, Option, None, Some, Result, Ok, Err, codes, refl, sym, ap, subst, arith}
-use Rattle.std.specs.Prelude.{sum_by}
+use Rattle.std.proofs.Common.{◌≡◌, ◌∙◌, ℕ, ◌+◌, ◌<◌, ◌≤◌, Bool, true, false, List, [], ◌∷◌, ◌++◌, length, Option, None, Some, Result, Ok, Err, codes, refl, sym, ap, subst, arith}
+use Rattle.std.specs.Prelude.{sum_by, IfSome}
+use Rattle.std.proofs.lemmas.List.Sums.{sum_by-append}
 use Rattle.f2b_base.specs.declared.jail.JailDef.{JailDef}
 use Rattle.jail_conf.specs.declared.conf_error.ConfError.{ConfError}
 use Rattle.jail_conf.specs.declared.lines.Lines.{Lines}
@@ -64,3 +65,15 @@ next_is_few bases jail before definition is few =
         let filter = bind_ok (filter_of bases jail) _ found.0 found.1 in
         subst (λ (d : JailDef). sum_by patterns_in before + patterns_in d ≤ most_patterns) same
         (jail_is_few bases (with_known filter.0.known jail) filter.0.source (sum_by patterns_in before) found.0 filter.2 few)
+
+-- the next jail's are among them, where there is one
+pub next_fits : (bases : Bases) (jail : Source) (before : List JailDef) (next : Option JailDef) (patterns : ℕ) → next_jail bases jail before ≡ Ok next →
+    sum_by patterns_in before ≡ patterns → patterns ≤ most_patterns → IfSome next (λ d. patterns + patterns_in d ≤ most_patterns)
+next_fits bases jail before None patterns is counted few = tt
+next_fits bases jail before (Some definition) patterns is counted few =
+    subst (λ n. n + patterns_in definition ≤ most_patterns) counted (next_is_few bases jail before definition is (subst (λ n. n ≤ most_patterns) (sym counted) few))
+
+-- and with it
+pub counted_with : (before : List JailDef) (definition : JailDef) (patterns : ℕ) → sum_by patterns_in before ≡ patterns →
+    sum_by patterns_in (before ++ definition ∷ []) ≡ patterns + (length definition.fail + length definition.ignore_lines)
+counted_with before definition patterns counted = sum_by-append patterns_in before (definition ∷ []) ∙ grind (arith, counted)

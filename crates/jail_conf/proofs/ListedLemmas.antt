@@ -1,5 +1,5 @@
 -- What is listed one after the other: actions, and jails.
-use Rattle.std.proofs.Common.{◌≡◌, ◌∙◌, ℕ, suc, ◌+◌, ◌<◌, List, [], ◌∷◌, ◌++◌, length, get_or, drop, drop-cons, add-one, Option, Result, Ok, Err, refl, sym, ap, append_assoc}
+use Rattle.std.proofs.Common.{◌≡◌, ◌∙◌, ℕ, suc, ◌+◌, ◌<◌, List, [], ◌∷◌, ◌++◌, length, get_or, drop, drop-cons, add-one, Option, Result, Ok, Err, codes, refl, sym, ap, append_assoc}
 use Rattle.f2b_base.specs.declared.jail.ActionDef.{ActionDef}
 use Rattle.f2b_base.specs.declared.jail.JailDef.{JailDef}
 use Rattle.ini_interp.specs.Sections.{Sections}
@@ -9,7 +9,7 @@ use Rattle.jail_conf.specs.declared.fail.Fail.{Fail}
 use Rattle.jail_conf.specs.declared.source.Source.{Source}
 use Rattle.jail_conf.specs.Actions.{action_of, actions_behind}
 use Rattle.jail_conf.specs.Conf.{next_jail, with_next, jails_behind}
-use Rattle.jail_conf.specs.Sources.{Bases, of_jail}
+use Rattle.jail_conf.specs.Sources.{Bases, of_jail, sections_of}
 use Rattle.jail_conf.specs.Then.{◌>>=◌, Gives}
 use Rattle.jail_conf.proofs.EachLemmas.{behind, behind_fails}
 use Rattle.jail_conf.proofs.FaultLemmas.{first_fails}
@@ -50,3 +50,13 @@ pub jails_step : (bases : Bases) (sections : Sections) (before : List JailDef) (
     next_jail bases (of_jail sections name) before ≡ Ok next → jails_behind bases sections (with_next before next) (drop (place + 1) names) ≡ all
 jails_step bases sections before names place name next all done at is =
     sym (jails_behind-more bases sections before name (drop (place + 1) names) next is) ∙ (sym (ap (jails_behind bases sections before) at) ∙ done)
+
+-- the next jail, as the code finds it
+pub next_found : (bases : Bases) (merged sections : Sections) (jail : Source) (name text : List ℕ) (jails seen : List JailDef) (next : Option JailDef) →
+    sections_of bases (codes "jail") ≡ Ok sections → sections_of bases (codes "jail") ≡ Ok merged → jail ≡ of_jail sections text → text ≡ name → seen ≡ jails → next_jail bases jail seen ≡ Ok next →
+    next_jail bases (of_jail merged name) jails ≡ Ok next
+next_found bases merged sections jail name text jails seen next first same made is all given =
+    let both : Ok sections ≡ Ok merged = sym first ∙ same in
+    let one : sections ≡ merged = cc in
+    let is_jail : jail ≡ of_jail merged name = made ∙ (ap (λ (s : Sections). of_jail s text) one ∙ ap (of_jail merged) is) in
+    sym (ap (λ (j : Source). next_jail bases j jails) is_jail) ∙ (sym (ap (next_jail bases jail) all) ∙ given)

@@ -1,8 +1,8 @@
 //! What a configuration comes to: the definitions of its enabled jails, or the first refusal.
-ghost use Rattle.std.specs.Prelude.{◌≡◌, ◌≤◌, [], length, sum_by, Ok, codes, IfOk};
+ghost use Rattle.std.specs.Prelude.{◌≡◌, ◌≤◌, ◌+◌, [], length, sum_by, Ok, codes, IfOk, IfSome, OnOk};
 ghost use Rattle.std.specs.Char.{is_ascii_alphanumeric};
 ghost use Rattle.std.specs.List.{list_all};
-ghost use Rattle.jail_conf.specs.Conf.{but_default, jail_names, is_enabled, patterns_in, next_jail, jails_behind, conf};
+ghost use Rattle.jail_conf.specs.Conf.{but_default, jail_names, is_enabled, patterns_in, next_jail, with_next, jails_behind, conf};
 ghost use Rattle.jail_conf.specs.Jails.{is_name_byte, is_jail_name};
 ghost use Rattle.jail_conf.specs.Sources.{bases_of, sections_of};
 ghost use Rattle.jail_conf.specs.Then.{Gives};
@@ -98,6 +98,29 @@ fn next_jail(
     Ok(Some(definition))
 }
 
+/// Adds the definition of a jail, where there is one, behind those that have so many patterns. Gives how many there are then.
+fn push_next(
+    jails: &mut Seq<JailDef>,
+    patterns: u64,
+    next: Option<JailDef>,
+) -> Result<u64, NoMemory>
+    requires counted { sum_by patterns_in jails.old ≡ patterns }
+    requires before { patterns ≤ 512 }
+    requires few { IfSome next (λ jail. patterns + patterns_in jail ≤ 512) }
+    ensures jails { OnOk result (jails.new ≡ with_next jails.old next) }
+    ensures counted { IfOk result (λ patterns. sum_by patterns_in jails.new ≡ patterns) }
+    ensures few { IfOk result (λ patterns. patterns ≤ 512) }
+{
+    match next {
+        None => Ok(patterns),
+        Some(jail) => {
+            let own = jail.fail.len() as u64 + jail.ignore_lines.len() as u64;
+            jails.push(jail)?;
+            Ok(patterns + own)
+        }
+    }
+}
+
 /// The definitions of the jails of these names that are enabled.
 fn jails_in(
     alloc: Global,
@@ -113,10 +136,8 @@ fn jails_in(
     for name in names {
         let sections = sections_of(alloc, files, "jail")?;
         let jail = of_jail(alloc, sections, name.as_str())?;
-        if let Some(next) = next_jail(alloc, files, jail, jails.as_slice(), patterns)? {
-            patterns += next.fail.len() as u64 + next.ignore_lines.len() as u64;
-            jails.push(next)?;
-        }
+        let next = next_jail(alloc, files, jail, jails.as_slice(), patterns)?;
+        patterns = push_next(&mut jails, patterns, next)?;
     }
     Ok(jails)
 }
