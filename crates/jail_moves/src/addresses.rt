@@ -17,7 +17,7 @@ use std::collections::BTreeMap;
 #[derive(Drop)]
 pub struct AddrWindow {
     pub window: Window,
-    /// No failure of the window is later.
+    /// The time of its latest failure.
     pub latest: u64,
 }
 
@@ -35,7 +35,7 @@ fn key_of(addr: Addr) -> (u8, u128)
 }
 
 /// Whether a time is later than two `findtime` before a moment.
-fn is_recent(at: u64, findtime: u64, time: u64) -> bool
+pub fn is_recent(at: u64, findtime: u64, time: u64) -> bool
     ensures { result ≡ nat_lt at (time + 2 * findtime) }
 {
     at < time || (at - time) / 2 < findtime
