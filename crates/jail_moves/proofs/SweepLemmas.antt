@@ -24,7 +24,7 @@ use Rattle.jail_moves.specs.declared.addresses.AddrWindow.{AddrWindow}
 use Rattle.jail_moves.specs.Addresses.{Entry, failures_in, is_live, is_stale, windows_from, AreNotBefore, IsHeld, Loses, Sweeps}
 use Rattle.jail_moves.specs.Stale.{stale_addrs}
 use Rattle.jail_moves.proofs.StaleLemmas.{none_stale, windows_stale}
-use Rattle.jail_moves.proofs.WindowEntries.{all_remove, ChangesAt, IsSome}
+use Rattle.jail_moves.proofs.WindowEntries.{IsSome}
 use Rattle.jail_moves.proofs.WindowLists.{filter_none}
 use Rattle.jail_moves.proofs.WindowLosses.{lost, none_recent}
 use Rattle.jail_moves.proofs.WindowTurns.{held_without}
@@ -245,11 +245,6 @@ dropped_left findtime maxretry now count from old new held so_far =
     let before = windows_stale findtime maxretry now old held.windows in
     let after = windows_stale findtime maxretry now new so_far.sweeps.held.windows in
     omega arith
-
--- no latest failure is earlier without a window
-pub not_before_removed : (time : ℕ) (key : ℕ × ℕ) (mid new : List Entry) → new ≡ remove_entry (is_at (pair_cmp key)) mid → AreNotBefore time mid → AreNotBefore time new
-not_before_removed time key mid new is a =
-    subst (λ (r : List Entry). AreNotBefore time r) (sym is) (all_remove (λ (e : Entry). time ≤ e.1.latest) (is_at (pair_cmp key)) mid a)
 
 -- what holds of the windows holds of the entries
 pub not_before_values : (time : ℕ) (es : List Entry) → AllOf (λ (w : AddrWindow). time ≤ w.latest) (values_of es) → AreNotBefore time es

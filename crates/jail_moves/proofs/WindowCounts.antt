@@ -3,7 +3,7 @@ use Rattle.std.proofs.Common.{◌≡◌, ◌↔◌, ℕ, ◌+◌, ◌*◌, ◌<�
 use Rattle.std.specs.List.{filter, list_any}
 use Rattle.std.specs.List.Sorted.{IsStrictlySortedBy}
 use Rattle.std.specs.BTreeMap.{is_at, insert_entry, BTreeMap, WritesThrough}
-use Rattle.std.specs.Map.{keys_of, lookup, set_value}
+use Rattle.std.specs.Map.{keys_of, lookup, remove_entry, set_value}
 use Rattle.std.specs.Option.{IsSome as IsThere}
 use Rattle.std.specs.Ordering.{is_eq}
 use Rattle.std.specs.Result.{IfOk, OnErr}
@@ -12,6 +12,7 @@ use Rattle.ban_table.specs.Places.{pair_cmp, key_of}
 use Rattle.ban_table.proofs.BanLemmas.{any_placed}
 use Rattle.f2b_base.specs.declared.addr.Addr.{Addr}
 use Rattle.f2b_base.specs.declared.ban.Failure.{Failure}
+use Rattle.f2b_base.specs.declared.memory.NoMemory.{NoMemory}
 use Rattle.f2b_model.specs.Full.{is_of, IsFull, is_recent}
 use Rattle.f2b_model.specs.Lists.{AllOf, IsInOrder, in_order, placed}
 use Rattle.f2b_model.specs.Nows.{comes_before}
@@ -26,9 +27,9 @@ use Rattle.f2b_model.proofs.StandLemmas.{stands_full}
 use Rattle.f2b_model.proofs.StepLemmas.{all_of-more}
 use Rattle.fail_window.specs.Opened.{Opened}
 use Rattle.jail_moves.specs.declared.addresses.AddrWindow.{AddrWindow}
-use Rattle.jail_moves.specs.Addresses.{Entry, failures_in, window_at, AreWindows, Enters, Grows, IsHeld, IsOwn}
+use Rattle.jail_moves.specs.Addresses.{Entry, failures_in, window_at, AreNotBefore, AreWindows, Enters, Grows, IsHeld, IsOwn}
 use Rattle.jail_moves.proofs.WindowLists.{filter_all, full_to_own}
-use Rattle.jail_moves.proofs.WindowEntries.{ChangesAt, IsSome, all_insert, all_set, changed_others, changed_own, failures_of, in_order_of, own_of, own_under}
+use Rattle.jail_moves.proofs.WindowEntries.{ChangesAt, IsSome, all_insert, all_remove, all_set, changed_others, changed_own, failures_of, in_order_of, own_of, own_under}
 
 -- what holds of a failure and of the others holds of all with it in its place
 pub all_placed : (P : Failure → Type 0) (f : Failure) (fs : List Failure) → P f → AllOf P fs → AllOf P (placed comes_before f fs)
@@ -286,3 +287,28 @@ ok_then P Q (Err e) h p = tt
 pub err_then : {T E : Type 0} (P Q : Type 0) (r : Result T E) → (P → Q) → OnErr r P → OnErr r Q
 err_then P Q (Ok x) h p = tt
 err_then P Q (Err e) h p = h p
+
+-- ---- no latest failure is before a time
+
+-- without a window
+pub not_before_gone : (time : ℕ) (k : ℕ × ℕ) (old new : List Entry) → new ≡ remove_entry (is_at (pair_cmp k)) old → AreNotBefore time old → AreNotBefore time new
+not_before_gone time k old new is a =
+    subst (λ (r : List Entry). AreNotBefore time r) (sym is) (all_remove (λ (e : Entry). time ≤ e.1.latest) (is_at (pair_cmp k)) old a)
+
+-- with a first window that is not before it
+pub first_not_before : (time : ℕ) (k : ℕ × ℕ) (w : AddrWindow) (old new : List Entry) → new ≡ insert_entry pair_cmp old k w → time ≤ w.latest → AreNotBefore time old → AreNotBefore time new
+first_not_before time k w old new is le a =
+    subst (λ (r : List Entry). AreNotBefore time r) (sym is) (all_insert (λ (e : Entry). time ≤ e.1.latest) k w old a le (λ e h t. le))
+
+-- and where a window is written over by one that is not before it
+pub set_not_before : (time : ℕ) (k : ℕ × ℕ) (w : AddrWindow) (old new : List Entry) → new ≡ set_value (is_at (pair_cmp k)) old w → time ≤ w.latest → AreNotBefore time old → AreNotBefore time new
+set_not_before time k w old new is le a =
+    subst (λ (r : List Entry). AreNotBefore time r) (sym is) (all_set (λ (e : Entry). time ≤ e.1.latest) (is_at (pair_cmp k)) w old a (λ e h t. le))
+
+-- whether memory was there or not, a window that took a failure is not before it
+pub not_before_through : (time now : ℕ) (f : Failure) (k : ℕ × ℕ) (m n : BTreeMap (ℕ × ℕ) AddrWindow) (w new : AddrWindow) (r : Result Bool NoMemory) → window_at k m.entries ≡ Some w
+    → WritesThrough pair_cmp (pair_cmp k) m new n → IfOk r (Grows now f w new) → OnErr r (new ≡ w) → time ≤ f.time → AreNotBefore time m.entries → AreNotBefore time n.entries
+not_before_through time now f k m n w new (Ok full) at through grows same le a =
+    set_not_before time k new m.entries n.entries through.0 (let latest = grows.latest in omega arith) a
+not_before_through time now f k m n w new (Err e) at through grows same le a =
+    subst (λ (r : List Entry). AreNotBefore time r) (sym (same_through k m n w new at through same)) a

@@ -2,7 +2,8 @@
 use Rattle.std.proofs.Common.{◌≡◌, ℕ, ◌+◌, length, sym, ◌∙◌, ap, subst, arith}
 use Rattle.jail_moves.specs.Addresses.{failures_in}
 use Rattle.jail_moves.specs.Stale.{stale_addrs}
-use Rattle.jail_moves.proofs.SweepLemmas.{dropped_all, dropped_left, dropped_more, dropped_none, not_before_removed}
+use Rattle.jail_moves.proofs.SweepLemmas.{dropped_all, dropped_left, dropped_more, dropped_none}
+use Rattle.jail_moves.proofs.WindowCounts.{not_before_gone}
 use Rattle.jail_moves.proofs.sweep.drop_stale.Goals as goal
 
 pub loop-dropped-init : goal.loop-dropped-init
@@ -18,7 +19,7 @@ loop-dropped-preserved c = record {
       c.remove.new.self.entries (c.loop-dropped.invariant.dropped maxretry held) (sym c.in-Some.is ∙ c.first_stale.ensures) c.remove.ensures.entries c.remove.ensures.ordered
       c.remove.ensures.updates.0;
   latest = λ time a.
-      not_before_removed time c.in-Some.key c.loop-dropped.windows.entries c.remove.new.self.entries c.remove.ensures.entries (c.loop-dropped.invariant.latest time a);
+      not_before_gone time c.in-Some.key c.loop-dropped.windows.entries c.remove.new.self.entries c.remove.ensures.entries (c.loop-dropped.invariant.latest time a);
 }
 
 pub returns-in-None-clause-sweeps : goal.returns-in-None-clause-sweeps
