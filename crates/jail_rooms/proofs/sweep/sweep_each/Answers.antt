@@ -1,5 +1,5 @@
 -- One jail after the other.
-use Rattle.std.proofs.Common.{◌≡◌, suc, ◌+◌, ◌<◌, length, take, refl, ◌∙◌, ap, subst, arith}
+use Rattle.std.proofs.Common.{◌≡◌, suc, ◌+◌, ◌<◌, length, get_or, take, refl, ◌∙◌, ap, subst, arith}
 use Rattle.std.proofs.Math.ListN.{set}
 use Rattle.jail_moves.specs.Rooms.{Contents}
 use Rattle.jail_rooms.specs.Stale.{stale_count}
@@ -13,10 +13,12 @@ pub loop-index-preserved : goal.loop-index-preserved
 loop-index-preserved c =
     let i = c.loop-index.index in
     let rooms = c.loop-index.rooms in
-    let room : Contents = c.index-rooms-index.result in
+    let room : Contents = get_or rooms i c.index-rooms-index.result in
+    let room_is : room ≡ get_or rooms i room = ap (λ (r : Contents). get_or rooms i r) c.index-rooms-index.is in
     let new : Contents = c.sweep-forgotten.new.self in
     let up : suc i ≡ i + 1 = omega arith in
-    let fewer = fewer_at i rooms room new c.loop-index-test.true c.index-rooms-index.is in
+    let lt : i < length rooms = omega (arith, c.loop-index.auto.rooms, c.loop-index-test.true) in
+    let fewer = fewer_at i rooms room new lt room_is in
     let left = c.sweep-forgotten.ensures.left in
     let count = c.loop-index.invariant.count in
     let most = c.sweep-forgotten.ensures.most in
@@ -24,14 +26,14 @@ loop-index-preserved c =
     record {
       same = λ at next ds kept.
           let so_far = c.loop-index.invariant.same at next ds kept in
-          let now = stays_at at next i ds rooms room new c.loop-index-test.true c.index-rooms-index.is c.sweep-forgotten.ensures.jail c.sweep-forgotten.ensures.kept so_far.1 in
+          let now = stays_at at next i ds rooms room new lt room_is c.sweep-forgotten.ensures.jail c.sweep-forgotten.ensures.kept so_far.1 in
           (now.0 ∙ so_far.0, now.1);
       within = omega arith;
       count = omega arith;
       none = λ some.
           let before = c.loop-index.invariant.none (omega arith) in
           let here = none_at new (c.sweep-forgotten.ensures.none (omega arith)) in
-          let more = one_more_at i rooms new c.loop-index-test.true in
+          let more = one_more_at i rooms new lt in
           subst (λ k. stale_count (take k (set rooms i new)) ≡ 0) up (omega arith);
     }
 
@@ -47,6 +49,6 @@ returns-clause-left c = let within = c.loop-index.invariant.within in let count 
 pub returns-clause-none : goal.returns-clause-none
 returns-clause-none c = λ fewer.
     let within = c.loop-index.invariant.within in
-    let all = all_at c.loop-index.index c.loop-index.rooms c.loop-index-test.false in
+    let all = all_at c.loop-index.index c.loop-index.rooms (omega (arith, c.loop-index.auto.rooms, c.loop-index-test.false)) in
     let none = c.loop-index.invariant.none (omega arith) in
     omega arith
