@@ -248,7 +248,7 @@ configured_stays defs n fit watched stands =
     let jails : done moves_now 0 (Config defs) n.jails ≡ n.jails = ap₂ (λ (p : ℕ) (ks : List JailNow). let w : JailsNow = record (n.jails) { purge = p; jails = ks } in w) purge jails in
     let lanes : lanes_configured books_now n.jails.at (held moves_now n.jails) (held moves_now (done moves_now 0 (Config defs) n.jails)) (lanes_of defs) n.lanes ≡ n.lanes =
     lanes_stay n.jails.at (held moves_now n.jails) (held moves_now (done moves_now 0 (Config defs) n.jails)) (lanes_of defs) n.lanes stands.not_stopping stands.just in
-    ap₂ (λ (w : JailsNow) (l : Lanes (List Job)). let m : Now = record { jails = w; lanes = l } in m) world lanes
+    ap₂ (λ (w : JailsNow) (l : Lanes (List Job)). let m : Now = record { jails = w; lanes = l } in m) jails lanes
 
 -- and one that changes nothing gives what stands
 pub stays_configured : (defs : Defs) (n : Now) → configured_now defs n ≡ n → IsConfigured defs n
