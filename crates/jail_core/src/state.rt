@@ -201,6 +201,15 @@ impl Core {
         self.jails.failed_lately(name, now)
     }
 
+    /// Forgets, in all jails together, the failures of up to `most` addresses that have none which still matters: called once a turn, it
+    /// gives the memory of a burst back. The state stays as it is. It takes no time by the addresses of a jail where none is so, and no
+    /// memory.
+    pub fn sweep(&mut self, most: u64)
+        ensures { self.new ≡ self.old }
+    {
+        self.jails.sweep(most);
+    }
+
     /// Whether the serials of bans or the ids of jobs are used up. Nothing happens any more then. Takes no memory.
     pub fn spent(&self) -> bool
         ensures { result ≡ is_whole_spent moves_now books_now self.now }

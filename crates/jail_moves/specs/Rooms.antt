@@ -17,6 +17,7 @@ use Rattle.f2b_model.specs.Nows.{comes_before}
 use Rattle.f2b_model.specs.Sound.{IsOnceEach, IsRisingSerials}
 use Rattle.fail_window.specs.Opened.{KeepsLimits, Opened}
 use Rattle.jail_moves.specs.Added.{IsAdded}
+use Rattle.jail_moves.specs.Stale.{stale_addrs}
 
 -- what is kept of a jail beside its definition
 pub record Contents : Type 0 where
@@ -42,6 +43,10 @@ jail_in d c = record {
   bans = c.bans.active;
   past = c.bans.past;
 }
+
+-- the addresses of which failures are kept though none matters, each once
+abbrev pub stale_in : Contents → List Addr
+stale_in c = stale_addrs c.moment c.windows.findtime c.windows.failures
 
 -- a definition within its bounds
 pub record IsBounded (d : JailDef) : Type 0 where

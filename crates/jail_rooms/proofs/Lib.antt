@@ -9,3 +9,4 @@ pub mod StoredLemmas
 pub mod StorableLemmas
 pub mod TakenLemmas
 pub mod ShownLemmas
+pub mod SweepLemmas

@@ -7,3 +7,4 @@ pub mod Left
 pub mod LogRead
 pub mod Stored
 pub mod Shown
+pub mod Stale

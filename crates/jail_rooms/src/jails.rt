@@ -27,6 +27,7 @@ use crate::happen::happen;
 use crate::reads::InputStamp;
 use crate::shown::jail_of;
 use crate::stored::{rooms_of, views};
+use crate::sweep::sweep_all;
 use f2b_base::{Ban, DEFAULT_PURGE, Defs, JailDef, JailView, NoMemory, Plain, Seq, View, What};
 use f2b_model::Happening;
 use jail_moves::{Room, Totals};
@@ -225,6 +226,14 @@ impl Jails {
             self.rooms.as_slice(),
             self.alloc,
         )
+    }
+
+    /// Forgets, in all jails together, the failures of up to `most` addresses that have none which still matters: a caller that calls it
+    /// now and then gets the memory of a burst back. The state stays as it is. Takes no memory.
+    pub fn sweep(&mut self, most: u64)
+        ensures { self.new ≡ self.old }
+    {
+        let _ = sweep_all(&mut self.rooms, most);
     }
 
     /// The jails at a reading, once the bans that are due have ended; tells of them.

@@ -18,6 +18,7 @@ mod reads;
 mod same;
 mod shown;
 mod stored;
+mod sweep;
 mod within;
 
 pub use jails::Jails;
