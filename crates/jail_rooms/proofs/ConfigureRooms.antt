@@ -12,7 +12,7 @@ use Rattle.f2b_model.proofs.SameLemmas.{bytes_eq-true}
 use Rattle.jail_moves.specs.Rooms.{Contents, jail_in, IsBounded, IsKeptJail}
 use Rattle.jail_rooms.specs.Kept.{jails_in, AreKept}
 use Rattle.jail_rooms.specs.Left.{jail_left, find_left, IsLeftKept, AreLeftKept}
-use Rattle.jail_rooms.specs.LogRead.{jail_place}
+use Rattle.jail_rooms.specs.Places.{jail_place}
 
 -- where no jail has the name, none is left
 pub none_left : (name : List ℕ) (ds : List JailDef) (os : List (Option Contents)) → length ds ≤ jail_place name ds → find_left name ds os ≡ None

@@ -4,7 +4,7 @@ pub mod Happened
 pub mod Jails
 pub mod Kept
 pub mod Left
-pub mod LogRead
+pub mod Places
 pub mod Stored
 pub mod Shown
 pub mod Stale

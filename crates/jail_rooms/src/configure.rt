@@ -7,7 +7,7 @@ ghost use Rattle.f2b_model.specs.Steps.{configured, kept_or_fresh, moves_now};
 ghost use Rattle.jail_moves.specs.Rooms.{jail_in, IsBounded, IsKeptJail};
 ghost use Rattle.jail_rooms.specs.Kept.{jails_in, AreKept};
 ghost use Rattle.jail_rooms.specs.Left.{find_left, AreLeftKept};
-ghost use Rattle.jail_rooms.specs.LogRead.{jail_place};
+ghost use Rattle.jail_rooms.specs.Places.{jail_place};
 
 use crate::definitions::place_of;
 use f2b_base::{JailDef, NoMemory};

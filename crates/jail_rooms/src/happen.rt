@@ -7,44 +7,12 @@ ghost use Rattle.jail_rooms.specs.Kept.{jails_in, AreKept, IsBoundedWhat};
 
 use crate::changes::{idle_in, ignore_in, limit_among, span_in};
 use crate::each::unban_all;
-use crate::reads::{InputStamp, LogRead};
-use crate::within::{ban_in, find_in, read_in};
-use f2b_base::{Addr, Failure, JailDef, NoMemory, Seq, Text, What};
+use crate::reads::InputStamp;
+use crate::within::act_at;
+use f2b_base::{JailDef, NoMemory, Seq, What};
 use f2b_model::Happening;
 use jail_moves::Room;
 use std::alloc::Global;
-
-/// One failure of an address now, in the jail of a name, if there is one. Gives the next serial.
-fn attempt_in(
-    alloc: Global,
-    definitions: &[JailDef],
-    rooms: &mut Vec<Room>,
-    told: &mut Seq<Happening>,
-    name: &Text,
-    addr: Addr,
-    stamp: InputStamp,
-) -> Result<u64, NoMemory>
-    requires kept { AreKept stamp.at stamp.serial definitions.now rooms.old.items }
-    requires serial { stamp.serial ≤ 2 ^ 62 }
-    ensures jails { IfOk result (λ next. happened stamp.at stamp.word (What.Attempt name.now addr) stamp.serial (jails_in definitions.now rooms.old.items) ≡ record { jails = jails_in definitions.now rooms.new.items; next = next }) }
-    ensures told { OnOk result (told.new ≡ told.old ++ told_happened stamp.at stamp.word (What.Attempt name.now addr) stamp.serial (jails_in definitions.now rooms.old.items)) }
-    ensures kept { IfOk result (λ next. AreKept stamp.at next definitions.now rooms.new.items) }
-{
-    let failure = Failure {
-        addr,
-        time: stamp.at,
-        line: Text::new(alloc),
-    };
-    let next = find_in(
-        definitions,
-        rooms.as_mut_slice(),
-        told,
-        name,
-        &[failure],
-        stamp,
-    )?;
-    Ok(next)
-}
 
 /// Does what happened, and tells of it. Gives the next serial.
 pub fn happen(
@@ -65,35 +33,26 @@ pub fn happen(
     ensures kept { IfOk result (λ next. AreKept stamp.at next definitions.new rooms.new.items) }
 {
     match what {
-        What::Read {
-            jail,
-            path,
-            place,
-            found,
-        } => {
-            let failures = found.as_slice();
-            let reading = LogRead {
-                path,
-                place,
-                failures,
-            };
-            let next = read_in(
+        What::Read { jail, .. } => {
+            let next = act_at(
+                alloc,
                 definitions.as_slice(),
                 rooms.as_mut_slice(),
                 told,
                 jail,
-                &reading,
+                what,
                 stamp,
             )?;
             Ok(next)
         }
-        What::Ban { jail, addrs } => {
-            let next = ban_in(
+        What::Ban { jail, .. } => {
+            let next = act_at(
+                alloc,
                 definitions.as_slice(),
                 rooms.as_mut_slice(),
                 told,
                 jail,
-                addrs.as_slice(),
+                what,
                 stamp,
             )?;
             Ok(next)
@@ -102,14 +61,14 @@ pub fn happen(
             unban_all(definitions.as_slice(), rooms, told, jail, addrs, stamp.at)?;
             Ok(stamp.serial)
         }
-        What::Attempt { jail, addr } => {
-            let next = attempt_in(
+        What::Attempt { jail, .. } => {
+            let next = act_at(
                 alloc,
                 definitions.as_slice(),
-                rooms,
+                rooms.as_mut_slice(),
                 told,
                 jail,
-                *addr,
+                what,
                 stamp,
             )?;
             Ok(next)

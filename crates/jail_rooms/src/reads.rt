@@ -1,11 +1,14 @@
 //! What an input does in one jail: failures found in a log, and bans by command.
 ghost use Rattle.std.specs.Prelude.{◌≡◌, ◌≤◌, ◌<◌, ◌+◌, ◌^◌, ◌++◌, length, OnOk, IfOk};
-ghost use Rattle.jail_rooms.specs.LogRead.{banned_each, found_each, read_each, told_each_banned, told_each_found, told_read};
+ghost use Rattle.f2b_model.specs.Steps.{banned_in_turn, found_in_turn, moves_now, read_in_jail};
+ghost use Rattle.f2b_model.specs.Told.{told_banned_in_turn, told_found_in_turn, told_read};
+ghost use Rattle.jail_rooms.specs.Happened.{acted, told_acted};
 ghost use Rattle.jail_moves.specs.Rooms.{jail_in, IsKeptJail};
 
-use f2b_base::{Addr, Failure, JailDef, NoMemory, Place, Seq, Text};
+use f2b_base::{Addr, Failure, JailDef, NoMemory, Place, Seq, Text, What};
 use f2b_model::Happening;
 use jail_moves::Room;
+use std::alloc::Global;
 
 /// When an input came: its moment in seconds since 1970, the word of the last reading of the clock, and the serial of the ban to come.
 #[derive(Clone, Copy)]
@@ -25,8 +28,8 @@ pub fn find(
 ) -> Result<u64, NoMemory>
     requires kept { IsKeptJail stamp.at stamp.serial definition.now room.old }
     requires room { stamp.serial + length failures.now < 2 ^ 64 }
-    ensures jail { IfOk result (λ next. found_each stamp.at stamp.word failures.now stamp.serial (jail_in definition.now room.old) ≡ record { jail = jail_in definition.now room.new; next = next }) }
-    ensures told { OnOk result (told.new ≡ told.old ++ told_each_found stamp.at stamp.word failures.now stamp.serial (jail_in definition.now room.old)) }
+    ensures jail { IfOk result (λ next. found_in_turn moves_now stamp.at stamp.word failures.now stamp.serial (jail_in definition.now room.old) ≡ record { jail = jail_in definition.now room.new; next = next }) }
+    ensures told { OnOk result (told.new ≡ told.old ++ told_found_in_turn moves_now stamp.at stamp.word failures.now stamp.serial (jail_in definition.now room.old)) }
     ensures kept { IfOk result (λ next. IsKeptJail stamp.at next definition.now room.new) }
     ensures next { IfOk result (λ next. stamp.serial ≤ next) }
 {
@@ -47,8 +50,8 @@ pub fn ban(
 ) -> Result<u64, NoMemory>
     requires kept { IsKeptJail stamp.at stamp.serial definition.now room.old }
     requires room { stamp.serial + length addrs.now < 2 ^ 64 }
-    ensures jail { IfOk result (λ next. banned_each stamp.at stamp.word addrs.now stamp.serial (jail_in definition.now room.old) ≡ record { jail = jail_in definition.now room.new; next = next }) }
-    ensures told { OnOk result (told.new ≡ told.old ++ told_each_banned stamp.at stamp.word addrs.now stamp.serial (jail_in definition.now room.old)) }
+    ensures jail { IfOk result (λ next. banned_in_turn moves_now stamp.at stamp.word addrs.now stamp.serial (jail_in definition.now room.old) ≡ record { jail = jail_in definition.now room.new; next = next }) }
+    ensures told { OnOk result (told.new ≡ told.old ++ told_banned_in_turn moves_now stamp.at stamp.word addrs.now stamp.serial (jail_in definition.now room.old)) }
     ensures kept { IfOk result (λ next. IsKeptJail stamp.at next definition.now room.new) }
     ensures next { IfOk result (λ next. stamp.serial ≤ next) }
 {
@@ -77,8 +80,8 @@ pub fn read(
 ) -> Result<u64, NoMemory>
     requires kept { IsKeptJail stamp.at stamp.serial definition.now room.old }
     requires room { stamp.serial + length reading.now.failures.now < 2 ^ 64 }
-    ensures jail { IfOk result (λ next. read_each stamp.at stamp.word reading.now.path.now reading.now.place.now reading.now.failures.now stamp.serial (jail_in definition.now room.old) ≡ record { jail = jail_in definition.now room.new; next = next }) }
-    ensures told { OnOk result (told.new ≡ told.old ++ told_read stamp.at stamp.word reading.now.path.now reading.now.place.now reading.now.failures.now stamp.serial (jail_in definition.now room.old)) }
+    ensures jail { IfOk result (λ next. read_in_jail moves_now stamp.at stamp.word reading.now.path.now reading.now.place.now reading.now.failures.now stamp.serial (jail_in definition.now room.old) ≡ record { jail = jail_in definition.now room.new; next = next }) }
+    ensures told { OnOk result (told.new ≡ told.old ++ told_read moves_now stamp.at stamp.word reading.now.path.now reading.now.place.now reading.now.failures.now stamp.serial (jail_in definition.now room.old)) }
     ensures kept { IfOk result (λ next. IsKeptJail stamp.at next definition.now room.new) }
     ensures next { IfOk result (λ next. stamp.serial ≤ next) }
 {
@@ -87,4 +90,53 @@ pub fn read(
     }
     let next = find(definition, room, told, reading.failures, stamp)?;
     Ok(next)
+}
+
+/// What an input does in its jail, where it finds or bans there. An attempt is one failure now. Gives the next serial.
+pub fn act(
+    alloc: Global,
+    definition: &JailDef,
+    room: &mut Room,
+    told: &mut Seq<Happening>,
+    what: &What,
+    stamp: InputStamp,
+) -> Result<u64, NoMemory>
+    requires kept { IsKeptJail stamp.at stamp.serial definition.now room.old }
+    requires serial { stamp.serial ≤ 2 ^ 62 }
+    ensures jail { IfOk result (λ next. acted stamp.at stamp.word what.now stamp.serial (jail_in definition.now room.old) ≡ record { jail = jail_in definition.now room.new; next = next }) }
+    ensures told { OnOk result (told.new ≡ told.old ++ told_acted stamp.at stamp.word what.now stamp.serial (jail_in definition.now room.old)) }
+    ensures kept { IfOk result (λ next. IsKeptJail stamp.at next definition.now room.new) }
+    ensures next { IfOk result (λ next. stamp.serial ≤ next) }
+{
+    match what {
+        What::Read {
+            path,
+            place,
+            found,
+            ..
+        } => {
+            let failures = found.as_slice();
+            let reading = LogRead {
+                path,
+                place,
+                failures,
+            };
+            let next = read(definition, room, told, &reading, stamp)?;
+            Ok(next)
+        }
+        What::Ban { addrs, .. } => {
+            let next = ban(definition, room, told, addrs.as_slice(), stamp)?;
+            Ok(next)
+        }
+        What::Attempt { addr, .. } => {
+            let failure = Failure {
+                addr: *addr,
+                time: stamp.at,
+                line: Text::new(alloc),
+            };
+            let next = find(definition, room, told, &[failure], stamp)?;
+            Ok(next)
+        }
+        _ => Ok(stamp.serial),
+    }
 }

@@ -11,7 +11,7 @@ use Rattle.jail_rooms.proofs.changes.ignore_in.Goals as goal
 pub returns-in_ok-replace-clause-jails : goal.returns-in_ok-replace-clause-jails
 returns-in_ok-replace-clause-jails c n cs same =
     let d : JailDef = c.index-as_slice-place.result in
-    let at = c.place_of-place.ensures.place ∙ ap (Rattle.jail_rooms.specs.LogRead.jail_place c.args.name.now) c.as_slice.ensures in
+    let at = c.place_of-place.ensures.place ∙ ap (Rattle.jail_rooms.specs.Places.jail_place c.args.name.now) c.as_slice.ensures in
     let own : d ≡ get_or c.args.definitions.now c.place_of-place.result d = search rules in
     let new : c.replace.new.definitions ≡ set c.args.definitions.now c.place_of-place.result (ignored c.args.cidr c.args.add d) = search rules in
     redefined_at c.args.name.now (moves_now.ignored c.args.cidr c.args.add) n c.place_of-place.result c.args.definitions.now cs d (ignored c.args.cidr c.args.add d) at (search rules) same own (ignored_in c.args.cidr c.args.add d)

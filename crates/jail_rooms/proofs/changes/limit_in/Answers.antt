@@ -8,7 +8,7 @@ use Rattle.f2b_model.specs.NowMoves.{limited_now}
 use Rattle.f2b_model.specs.Steps.{JailsAndSerial, alone, moves_now}
 use Rattle.jail_moves.specs.Rooms.{Contents, jail_in, IsKeptJail}
 use Rattle.jail_rooms.specs.Kept.{jails_in, AreKept}
-use Rattle.jail_rooms.specs.LogRead.{jail_place}
+use Rattle.jail_rooms.specs.Places.{jail_place}
 use Rattle.jail_rooms.proofs.EachLemmas.{kept_length}
 use Rattle.jail_rooms.proofs.PlaceLemmas.{in_jail_at, in_jail_none, kept_at, kept_set}
 use Rattle.jail_rooms.proofs.changes.limit_in.Goals as goal

@@ -1,6 +1,6 @@
 use Rattle.std.proofs.Common.{ap}
 use Rattle.jail_moves.specs.Rooms.{Contents, jail_in}
-use Rattle.jail_rooms.proofs.LogLemmas.{read_unwatched}
+use Rattle.jail_rooms.proofs.ReadLemmas.{read_unwatched}
 use Rattle.jail_rooms.proofs.reads.read.Goals as goal
 
 pub returns-then-not-branch-clause-jail : goal.returns-then-not-branch-clause-jail
