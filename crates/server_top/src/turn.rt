@@ -18,13 +18,18 @@ use f2b_world::{Look, World};
 use log_follow::{Ask, Line, Step};
 use std::alloc::Global;
 
-// Takes over a reading of the clock. Now never goes back, and a reading above the latest counts as it.
+/// How many addresses of which nothing matters any more are forgotten in a turn, at most: some milliseconds of it.
+const FORGOTTEN_A_TURN: u64 = 10_000;
+
+// Takes over a reading of the clock. Now never goes back, and a reading above the latest counts as it. What no longer matters of
+// failures gives its memory back.
 fn at_reading(follow: Follow, reading: Reading) -> Follow
     ensures { ReadsAt follow reading result }
 {
     let mut follow = follow;
     follow.now = follow.now.max(reading.secs.min(LATEST_READING));
     follow.word = reading.word;
+    follow.core.sweep(FORGOTTEN_A_TURN);
     follow
 }
 
