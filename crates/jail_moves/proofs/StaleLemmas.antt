@@ -1,5 +1,5 @@
 -- The windows of which nothing is recent are as many as the addresses of which failures are kept though none is recent.
-use Rattle.std.proofs.Common.{◌≡◌, ℕ, suc, ◌+◌, ◌*◌, ◌<◌, ◌≤◌, ◌&&◌, ◌||◌, ◌==◌, nat_lt, true, false, not, cond, Bool, List, [], ◌∷◌, ◌++◌, length, map, refl, sym, ◌∙◌, ap, arith}
+use Rattle.std.proofs.Common.{◌≡◌, ℕ, suc, ◌+◌, ◌*◌, ◌≤◌, ◌||◌, ◌==◌, nat_lt, true, false, not, cond, Bool, List, [], ◌∷◌, ◌++◌, length, map, refl, sym, ◌∙◌, ap, arith}
 use Rattle.std.specs.List.{filter, list_any}
 use Rattle.std.specs.List.Sorted.{IsStrictlySortedBy}
 use Rattle.std.specs.Map.{keys_of}
@@ -11,13 +11,10 @@ use Rattle.f2b_base.specs.Addresses.{same_addr}
 use Rattle.f2b_model.specs.Full.{is_recent, is_of}
 use Rattle.f2b_model.specs.Lists.{AllOf}
 use Rattle.f2b_model.specs.Nows.{addr_before}
-use Rattle.f2b_model.proofs.EndLemmas.{same_addr_same}
-use Rattle.f2b_model.proofs.FullLemmas.{lt_true}
 use Rattle.f2b_model.proofs.ListLemmas.{by_test}
 use Rattle.f2b_model.proofs.OrderlyLemmas.{same_addr_sym}
 use Rattle.f2b_model.proofs.SoundLemmas.{same_addr_true}
 use Rattle.f2b_model.proofs.StepLemmas.{all_of-more}
-use Rattle.jail_moves.specs.declared.addresses.AddrWindow.{AddrWindow}
 use Rattle.jail_moves.specs.Addresses.{Entry, failures_in, is_live, is_stale, AreNotBefore, AreWindows, IsOwn}
 use Rattle.jail_moves.specs.Lately.{each_once}
 use Rattle.jail_moves.specs.Stale.{has_recent, stale_addrs}

@@ -1,12 +1,12 @@
 -- Windows of which nothing is recent go one by one, each time the first of them.
-use Rattle.std.proofs.Common.{◌≡◌, ℕ, ◌+◌, ◌≤◌, ◌<◌, ◌&&◌, ◌==◌, nat_lt, Bool, true, false, not, cond, suc, Option, Some, None, List, [], ◌∷◌, ◌++◌, length, refl, sym, ◌∙◌, ap, subst, arith}
+use Rattle.std.proofs.Common.{◌≡◌, ℕ, ◌+◌, ◌≤◌, ◌==◌, nat_lt, Bool, true, false, not, cond, suc, Option, Some, None, List, [], ◌∷◌, ◌++◌, length, refl, sym, ◌∙◌, ap, subst, arith}
 use Rattle.std.specs.BTreeMap.{is_at}
 use Rattle.std.specs.BTreeMap.Range.{range_contains}
 use Rattle.std.specs.List.{filter, find, AllByRecursion}
 use Rattle.std.specs.List.Sorted.{IsStrictlySortedBy}
 use Rattle.std.specs.Map.{keys_of, lookup, remove_entry, values_of}
 use Rattle.std.specs.Option.{option_map}
-use Rattle.std.specs.Ordering.{is_eq, nat_cmp, ordering_reverse}
+use Rattle.std.specs.Ordering.{is_eq, ordering_reverse}
 use Rattle.std.specs.declared.cmp.Ordering.TheVariants.{Less}
 use Rattle.std.specs.declared.ops.Bound.TheVariants.{Included, Unbounded}
 use Rattle.std.specs.Cmp.{IsTotalOrder}
@@ -14,14 +14,13 @@ use Rattle.std.proofs.lemmas.Bool.Decides.{nat_tests}
 use Rattle.std.proofs.lemmas.Cmp.{nat_cmp_total, on_total, then_total}
 use Rattle.ban_table.specs.Places.{pair_cmp, key_of}
 use Rattle.ban_table.proofs.IndexLemmas.{pair_same}
-use Rattle.f2b_base.specs.declared.addr.Addr.{Addr}
 use Rattle.f2b_base.specs.declared.ban.Failure.{Failure}
 use Rattle.f2b_model.specs.Full.{is_of, is_recent}
 use Rattle.f2b_model.specs.Lists.{AllOf}
 use Rattle.f2b_model.proofs.ListLemmas.{by_test, filter-append}
 use Rattle.f2b_model.proofs.OrderlyLemmas.{all_of-filter}
 use Rattle.jail_moves.specs.declared.addresses.AddrWindow.{AddrWindow}
-use Rattle.jail_moves.specs.Addresses.{Entry, failures_in, is_live, is_stale, windows_from, AreNotBefore, IsHeld, Loses, Sweeps}
+use Rattle.jail_moves.specs.Addresses.{Entry, failures_in, is_live, is_stale, windows_from, AreNotBefore, IsHeld, Sweeps}
 use Rattle.jail_moves.specs.Stale.{stale_addrs}
 use Rattle.jail_moves.proofs.StaleLemmas.{none_stale, windows_stale}
 use Rattle.jail_moves.proofs.WindowEntries.{IsSome}

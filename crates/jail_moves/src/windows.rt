@@ -114,7 +114,7 @@ impl Windows {
         ensures limits { OnOk result (KeepsLimits self.old self.new) }
         ensures added { IfOk result (λ full. IsAdded now failure self.old self.new full) }
     {
-        // Beside `sweep`, which the caller may leave out: failures that come alone keep the windows few.
+        // Stays beside `sweep`: while failures come, each pays for a look at one window, even where nobody calls that.
         sweep_in_turn(&mut self.by_addr, &mut self.until_sweep, now, self.findtime);
         self.earliest = self.earliest.min(failure.time);
         count(

@@ -1,5 +1,5 @@
 -- One window after the other.
-use Rattle.std.proofs.Common.{◌≡◌, ℕ, ◌+◌, length, sym, ◌∙◌, ap, subst, arith}
+use Rattle.std.proofs.Common.{◌≡◌, ℕ, ◌+◌, length, sym, ◌∙◌, subst, arith}
 use Rattle.jail_moves.specs.Addresses.{failures_in}
 use Rattle.jail_moves.specs.Stale.{stale_addrs}
 use Rattle.jail_moves.proofs.SweepLemmas.{dropped_all, dropped_left, dropped_more, dropped_none}

@@ -1,5 +1,5 @@
 -- One window after the other.
-use Rattle.std.proofs.Common.{◌≡◌, ℕ, ◌≤◌, List, sym, ◌∙◌, subst, arith}
+use Rattle.std.proofs.Common.{◌≤◌, List, sym, ◌∙◌, subst, arith}
 use Rattle.f2b_model.specs.Lists.{AllOf}
 use Rattle.jail_moves.specs.declared.addresses.AddrWindow.{AddrWindow}
 use Rattle.jail_moves.proofs.SweepLemmas.{not_before_values}

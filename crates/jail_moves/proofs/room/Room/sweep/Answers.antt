@@ -1,6 +1,5 @@
 -- The windows forget; nothing else changes.
-use Rattle.std.proofs.Common.{◌+◌, ◌∙◌, sym, ap, length, subst}
-use Rattle.f2b_base.specs.declared.addr.Addr.{Addr}
+use Rattle.std.proofs.Common.{◌+◌, ◌∙◌, ap, length}
 use Rattle.jail_moves.specs.Rooms.{Contents}
 use Rattle.jail_moves.specs.Stale.{stale_addrs}
 use Rattle.jail_moves.proofs.RoomLemmas.{swept_jail, swept_kept}
