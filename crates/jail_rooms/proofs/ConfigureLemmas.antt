@@ -16,7 +16,7 @@ use Rattle.f2b_base.specs.declared.job.UpLane.{UpLane}
 use Rattle.f2b_base.specs.declared.view.WatchView.{WatchView}
 use Rattle.f2b_model.specs.declared.jail_now.JailNow.{JailNow}
 use Rattle.f2b_model.specs.Active.{held}
-use Rattle.f2b_model.specs.Lanes.{Lanes, all_down, all_up, books_now, is_among, lane_down, lane_up, lanes_configured, lanes_of, missing_up, others_down}
+use Rattle.f2b_model.specs.Lanes.{Lanes, all_down, all_up, books_now, is_among, lane_down, lane_up, lanes_configured, lanes_of, missing_up, others_down, are_just}
 use Rattle.f2b_model.specs.Laws.{AreWatched, IsWatched}
 use Rattle.f2b_model.specs.Lists.{AllOf, AreDistinct}
 use Rattle.f2b_model.specs.NowMoves.{kept_now}
@@ -28,8 +28,7 @@ use Rattle.f2b_model.specs.Watches.{place_in, watches_of}
 use Rattle.f2b_model.specs.Whole.{Now}
 use Rattle.f2b_model.proofs.ListLemmas.{by_test}
 use Rattle.jail_moves.specs.Rooms.{Contents}
-use Rattle.lane_moves.specs.Held.{are_just}
-use Rattle.jail_rooms.specs.Configured.{configured_now}
+use Rattle.f2b_model.specs.Configured.{configured_now}
 use Rattle.jail_rooms.specs.Kept.{jails_in}
 
 -- ---- what is asked
@@ -275,8 +274,8 @@ definitions_in (d ∷ ds) [] same = absurd (omega arith)
 definitions_in (d ∷ ds) (c ∷ cs) same = ap (λ (es : List JailDef). d ∷ es) (definitions_in ds cs (omega arith))
 
 -- and one is idle where what is kept of it says so
-pub idle_in : (ds : List JailDef) (cs : List Contents) → length cs ≡ length ds → list_any (λ (j : JailNow). j.idle) (jails_in ds cs) ≡ list_any (λ (c : Contents). c.idle) cs
-idle_in [] [] same = refl
-idle_in [] (c ∷ cs) same = absurd (omega arith)
-idle_in (d ∷ ds) [] same = absurd (omega arith)
-idle_in (d ∷ ds) (c ∷ cs) same = ap (λ (b : Bool). c.idle || b) (idle_in ds cs (omega arith))
+pub idle_as_kept : (ds : List JailDef) (cs : List Contents) → length cs ≡ length ds → list_any (λ (j : JailNow). j.idle) (jails_in ds cs) ≡ list_any (λ (c : Contents). c.idle) cs
+idle_as_kept [] [] same = refl
+idle_as_kept [] (c ∷ cs) same = absurd (omega arith)
+idle_as_kept (d ∷ ds) [] same = absurd (omega arith)
+idle_as_kept (d ∷ ds) (c ∷ cs) same = ap (λ (b : Bool). c.idle || b) (idle_as_kept ds cs (omega arith))
