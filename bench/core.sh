@@ -13,7 +13,7 @@ ghost use Rattle.f2b_model.specs.Lists.{AreDistinct};
 ghost use Rattle.f2b_model.specs.Sound.{same_kind};
 ghost use Rattle.f2b_base.specs.Limits.{last_moment};
 ghost use Rattle.jail_moves.specs.Rooms.{IsBounded};
-ghost use Rattle.jail_rooms.specs.Kept.{IsTaken};
+ghost use Rattle.f2b_model.specs.Bounds.{IsTakenInput};
 
 use f2b_base::{
     ActionDef, Addr, BanRule, Bytes, DateSpec, Defs, Failure, Family, Input, JailDef, LAST_MOMENT,
@@ -177,7 +177,7 @@ fn jail(alloc: Global, day: &Day) -> Result<JailDef, NoMemory>
 fn configuration(alloc: Global, day: &Day) -> Result<Input, NoMemory>
     requires least { 1 ≤ day.now.maxretry }
     requires most { day.now.maxretry < 2 ^ 32 }
-    ensures { IfOk result IsTaken }
+    ensures { IfOk result IsTakenInput }
 {
     let mut jails = Seq::new(alloc);
     jails.push(jail(alloc, day)?)?;
@@ -195,7 +195,7 @@ fn configuration(alloc: Global, day: &Day) -> Result<Input, NoMemory>
 
 fn tick(secs: u64) -> Input
     requires { secs ≤ last_moment }
-    ensures { IsTaken result }
+    ensures { IsTakenInput result }
 {
     Input {
         secs,
@@ -207,7 +207,7 @@ fn tick(secs: u64) -> Input
 /// A job's command succeeded.
 fn done(secs: u64, job: u64) -> Input
     requires { secs ≤ last_moment }
-    ensures { IsTaken result }
+    ensures { IsTakenInput result }
 {
     Input {
         secs,
@@ -228,7 +228,7 @@ fn reading(
     line: &str,
 ) -> Result<Input, NoMemory>
     requires { secs ≤ last_moment }
-    ensures { IfOk result IsTaken }
+    ensures { IfOk result IsTakenInput }
 {
     let mut found = Seq::new(alloc);
     found.push(Failure {
@@ -285,7 +285,7 @@ fn own_address(step: u64) -> Addr {
 /// The next failure.
 fn failing(alloc: Global, day: &Day, secs: u64, step: u64, number: u64) -> Result<Input, NoMemory>
     requires { secs ≤ last_moment }
-    ensures { IfOk result IsTaken }
+    ensures { IfOk result IsTakenInput }
 {
     let addr = if day.apart {
         own_address(step)
@@ -304,7 +304,7 @@ fn next_input(
     step: u64,
     number: u64,
 ) -> Result<Input, NoMemory>
-    ensures { IfOk result IsTaken }
+    ensures { IfOk result IsTakenInput }
 {
     let secs = moment(step, day.pace);
     if core.ban_due(secs) {

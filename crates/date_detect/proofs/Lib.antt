@@ -1,5 +1,4 @@
 pub mod OptionLemmas
-pub mod CharLemmas
 pub mod YearLemmas
 pub mod DateLemmas
 pub mod LeavesLemmas

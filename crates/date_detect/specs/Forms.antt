@@ -7,7 +7,7 @@ use Rattle.f2b_base.specs.declared.jail.DateSpec.TheVariants.{Default, Anchored,
 use Rattle.f2b_world.specs.Matches.{number_of}
 use Rattle.f2b_world.specs.Reading.{Expression, reading}
 use Rattle.date_detect.specs.Usual.{usual_text, usual_groups, all_usual}
-use Rattle.date_detect.specs.Directives.{is_date_pattern, expanded}
+use Rattle.date_words.specs.Directives.{is_date_pattern, expanded}
 use Rattle.date_detect.specs.declared.form.Groups.{Groups}
 use Rattle.date_detect.specs.declared.form.Form.{Form}
 use Rattle.date_detect.specs.declared.usual.UsualForm.{UsualForm}

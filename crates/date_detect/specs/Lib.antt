@@ -1,5 +1,4 @@
 pub mod Usual
-pub mod Directives
 pub mod Calendar
 pub mod Fields
 pub mod Texts

@@ -1,5 +1,6 @@
 -- The usual forms of dates: their patterns, and what their groups mean.
 use Rattle.std.specs.Prelude.{ℕ, List, [], ◌∷◌, ◌++◌, Some, None, codes}
+use Rattle.date_words.specs.Directives.{month, weekday}
 use Rattle.date_detect.specs.declared.form.Groups.{Groups}
 use Rattle.date_detect.specs.declared.usual.UsualForm.{UsualForm}
 use Rattle.date_detect.specs.declared.usual.UsualForm.TheVariants.{Iso, Access, Ctime, Slashes, Syslog, Epoch}
@@ -9,14 +10,6 @@ use Rattle.date_detect.specs.declared.usual.UsualForm.TheVariants.{Iso, Access, 
 -- a time of day, in three groups
 abbrev pub time : List ℕ
 time = codes "([0-9]{2}):([0-9]{2}):([0-9]{2})"
-
--- an English month, in one group
-abbrev pub month : List ℕ
-month = codes "(Jan|Feb|Mar|Apr|May|Jun|Jul|Aug|Sep|Oct|Nov|Dec)"
-
--- an English weekday, in no group
-abbrev pub weekday : List ℕ
-weekday = codes "(?:Mon|Tue|Wed|Thu|Fri|Sat|Sun)"
 
 abbrev pub usual_text : UsualForm → List ℕ
 -- 2024-03-01T10:00:00.123+01:00

@@ -8,18 +8,16 @@
 
 mod build;
 mod calendar;
-mod directive;
 mod error;
 mod fields;
 mod form;
 mod names;
-mod pattern;
 mod search;
 mod usual;
 
 pub use build::Dates;
+pub use date_words::is_date_pattern;
 pub use error::BuildError;
-pub use pattern::is_date_pattern;
 pub use search::{Found, Searcher};
 
 #[cfg(test)]

@@ -1,8 +1,8 @@
 //! Date patterns of a user: which texts are one, and what their directives stand for.
 //!
 //! A directive is a `%` and a letter, and stands for a piece of a pattern; all else of a date pattern is a pattern itself. A
-//! configuration is to be refused by the same rule by which a pattern is built later; `date_detect` still has a copy of the rule.
-//! Nothing here knows a line, or what a match of a pattern says.
+//! configuration is refused by the same rule by which a pattern is built later. Nothing here knows a line, or what a match of a pattern
+//! says.
 #![tactic(auto)]
 
 mod directive;

@@ -1,6 +1,7 @@
 -- Names in ASCII lower case.
 use Rattle.std.proofs.Common.{◌≡◌, ◌≢◌, ℕ, zero, suc, ◌<◌, Bool, true, false, List, [], ◌∷◌, length, get_or, refl, sym, ap, ap₂, arith}
 use Rattle.std.proofs.lemmas.Slice.Eq.{bytes_eq-Decides}
+use Rattle.std.proofs.lemmas.Str.Ascii.{lowercase-lowercase}
 use Rattle.std.specs.Char.{to_ascii_lowercase}
 use Rattle.std.specs.Str.{bytes_eq, str_to_ascii_lowercase}
 
@@ -21,6 +22,11 @@ byte_lowercase (n ∷ name) (suc k) below = byte_lowercase name k (omega arith)
 pub length-lowercase : (name : List ℕ) → length (str_to_ascii_lowercase name) ≡ length name
 length-lowercase [] = refl
 length-lowercase (n ∷ name) = ap suc (length-lowercase name)
+
+-- lowered twice is lowered once
+pub lowercase-again : (name : List ℕ) → str_to_ascii_lowercase (str_to_ascii_lowercase name) ≡ str_to_ascii_lowercase name
+lowercase-again [] = refl
+lowercase-again (n ∷ name) = ap₂ (λ first rest. first ∷ rest) (lowercase-lowercase n) (lowercase-again name)
 
 pub same_bytes : (one other : List ℕ) → one ≡ other → true ≡ bytes_eq one other
 same_bytes one other same = sym ((bytes_eq-Decides one other).1 same)

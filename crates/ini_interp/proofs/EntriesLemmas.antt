@@ -2,14 +2,14 @@
 use Rattle.std.proofs.Common.{option_map, slice_get, zero, suc, ◌≡◌, ℕ, ◌+◌, not, Bool, true, false, cond, List, [], ◌∷◌, drop, None, Some, Option, String, string_bytes, refl, sym, ap, ◌∙◌}
 use Rattle.std.proofs.lemmas.Option.{none-some}
 use Rattle.std.specs.List.{position_or_len}
-use Rattle.std.specs.Map.{lookup, set_value, keys_of, values_of}
+use Rattle.std.specs.Map.{lookup, set_value, remove_entry, keys_of, values_of}
 use Rattle.std.specs.Str.{bytes_eq}
 use Rattle.std.specs.String.{string_eq}
 use Rattle.indexmap.specs.IndexMap.{insert_entry, set_value_at}
 use Rattle.ini_interp.specs.Entries.{by_bytes}
 use Rattle.ini_interp.specs.Kept.{place_of, at_place, changed_at, changed}
-use Rattle.ini_interp.specs.Sections.{value_of, with_value}
-use Rattle.ini_interp.proofs.Named.{some_value}
+use Rattle.ini_interp.specs.Sections.{value_of, with_value, without}
+use Rattle.ini_interp.proofs.Named.{some_value, without-none}
 
 module _ {A V : Type 0} where
   pub value_is : (name : List ℕ) (es : List (String A × V)) → lookup (λ k. bytes_eq name (string_bytes k)) es ≡ value_of name (by_bytes es)
@@ -38,6 +38,23 @@ module _ {A V : Type 0} where
           ≡ cond b ((string_bytes e.0, v) ∷ by_bytes es) ((string_bytes e.0, e.1) ∷ with_value name v (by_bytes es))
       by true found rest = refl
       by false found rest = ap (λ s. (string_bytes e.0, e.1) ∷ s) (rest found)
+
+  -- an entry that is taken out, where none of its name is left
+  pub removed_is : (name : List ℕ) (es : List (String A × V)) → lookup (λ k. bytes_eq name (string_bytes k)) (remove_entry (λ k. bytes_eq name (string_bytes k)) es) ≡ None →
+      by_bytes (remove_entry (λ k. bytes_eq name (string_bytes k)) es) ≡ without name (by_bytes es)
+  removed_is name [] none = refl
+  removed_is name (e ∷ es) none = by (bytes_eq name (string_bytes e.0)) refl none (removed_is name es)
+    where
+      left : List (String A × V)
+      left = remove_entry (λ k. bytes_eq name (string_bytes k)) es
+
+      by : (b : Bool) → bytes_eq name (string_bytes e.0) ≡ b → lookup (λ k. bytes_eq name (string_bytes k)) (cond b es (e ∷ left)) ≡ None →
+          (lookup (λ k. bytes_eq name (string_bytes k)) left ≡ None → by_bytes left ≡ without name (by_bytes es)) →
+          by_bytes (cond b es (e ∷ left)) ≡ cond (not b) ((string_bytes e.0, e.1) ∷ without name (by_bytes es)) (without name (by_bytes es))
+      by true is none rest = sym (without-none name (by_bytes es) (sym (value_is name es) ∙ none))
+      by false is none rest =
+          ap (λ s. (string_bytes e.0, e.1) ∷ s)
+          (rest (sym (ap (λ b. cond b (Some e.1) (lookup (λ k. bytes_eq name (string_bytes k)) left)) is) ∙ none))
 
   -- a value written at a place
   pub written_at : (f : V → V) (es : List (String A × V)) (place : ℕ) (v : V) → slice_get (values_of es) place ≡ Some v →

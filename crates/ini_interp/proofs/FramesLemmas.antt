@@ -13,7 +13,7 @@ use Rattle.ini_interp.specs.Files.{file_of}
 use Rattle.ini_interp.specs.Frames.{steps_of, read_at, step_adds, pending, way_of, IsWay, IsKept, IsOpened, IsFaulty, IsEntered, steps_in, most_steps, cost, weight}
 use Rattle.ini_interp.specs.InTurn.{followed, in_turn}
 use Rattle.ini_interp.specs.Joins.{joined}
-use Rattle.ini_interp.specs.Merges.{Files, Reading, includes, included, read_with, with_includes, if_well_formed, is_among, is_outside, directory, if_there, missing}
+use Rattle.ini_interp.specs.Merges.{Files, FilesRead, includes, included, read_with, with_includes, if_well_formed, is_among, is_outside, directory, if_there, missing}
 use Rattle.ini_interp.specs.Sections.{Sections, value_of}
 use Rattle.ini_interp.proofs.ValuesLemmas.{followed_assoc, followed-nothing, followed-end, in_turn-append}
 use Rattle.ini_interp.proofs.WayLemmas.{way_within}
@@ -51,7 +51,7 @@ module _ (files : Files) where
       followed-nothing (in_turn (step_adds files (frame.path ∷ way) frame.path) frame.steps.items)
       ∙ sym (followed-end (in_turn (step_adds files (frame.path ∷ way) frame.path) frame.steps.items))
   pending-push way (f ∷ frames) frame =
-      ap (λ (r : Reading). followed r (in_turn (step_adds files (f.path ∷ way) f.path) f.steps.items)) (pending-push (f.path ∷ way) frames frame)
+      ap (λ (r : FilesRead). followed r (in_turn (step_adds files (f.path ∷ way) f.path) f.steps.items)) (pending-push (f.path ∷ way) frames frame)
       ∙ followed_assoc (in_turn (step_adds files (frame.path ∷ way_of (f.path ∷ way) frames) frame.path) frame.steps.items)
       (pending files (f.path ∷ way) frames) (in_turn (step_adds files (f.path ∷ way) f.path) f.steps.items)
 
@@ -70,9 +70,9 @@ module _ (files : Files) where
   steps_add : (way : List (List ℕ)) (path : List ℕ) (file : Sections) →
       with_includes (included files (read_at files way) way path) file ≡ in_turn (step_adds files way path) (steps_of file)
   steps_add way path file =
-      ap (λ (r : Reading). followed r (followed (Ok (file ∷ [])) (in_turn (included files (read_at files way) way path) (includes file (codes "after")))))
+      ap (λ (r : FilesRead). followed r (followed (Ok (file ∷ [])) (in_turn (included files (read_at files way) way path) (includes file (codes "after")))))
       (included_names way path (includes file (codes "before")))
-      ∙ ap (λ (r : Reading). followed (in_turn (step_adds files way path) (map Include (includes file (codes "before")))) (followed (Ok (file ∷ [])) r))
+      ∙ ap (λ (r : FilesRead). followed (in_turn (step_adds files way path) (map Include (includes file (codes "before")))) (followed (Ok (file ∷ [])) r))
       (included_names way path (includes file (codes "after")))
       ∙ sym (in_turn-append (step_adds files way path) (map Include (includes file (codes "before"))) (Join file ∷ map Include (includes file (codes "after"))))
 
@@ -144,7 +144,7 @@ module _ (files : Files) (below : List Frame) (frame rest : Frame) (same : rest.
       pending files [] (below ++ frame ∷ [])
       ≡ followed (step_adds files (frame.path ∷ way_of [] below) frame.path step) (pending files [] (below ++ rest ∷ []))
   step_first step first =
-      let adds : Step → Reading = step_adds files (frame.path ∷ way_of [] below) frame.path in
+      let adds : Step → FilesRead = step_adds files (frame.path ∷ way_of [] below) frame.path in
       pending-push files [] below frame
       ∙ ap (λ (l : List Step). followed (in_turn adds l) (pending files [] below)) first
       ∙ followed_assoc (adds step) (in_turn adds rest.steps.items) (pending files [] below)
@@ -181,7 +181,7 @@ module _ (files : Files) (below : List Frame) (frame rest : Frame) (same : rest.
     done = [];
     pending =
         step_first (Include name) first
-        ∙ ap (λ (r : Reading). followed r (pending files [] (below ++ rest ∷ []))) (sym (include_is above file name is file_is) ∙ skipped)
+        ∙ ap (λ (r : FilesRead). followed r (pending files [] (below ++ rest ∷ []))) (sym (include_is above file name is file_is) ∙ skipped)
         ∙ ap (λ (l : List Frame). followed (Ok []) (pending files [] l)) (sym is);
     merged = refl;
   }
@@ -191,7 +191,7 @@ module _ (files : Files) (below : List Frame) (frame rest : Frame) (same : rest.
       included files (read_at files (way_of [] above)) (way_of [] above) file name ≡ Err fault → pending files [] (below ++ frame ∷ []) ≡ Err fault
   faults_included above file name fault is file_is first faulty =
       step_first (Include name) first
-      ∙ ap (λ (r : Reading). followed r (pending files [] (below ++ rest ∷ []))) (sym (include_is above file name is file_is) ∙ faulty)
+      ∙ ap (λ (r : FilesRead). followed r (pending files [] (below ++ rest ∷ []))) (sym (include_is above file name is file_is) ∙ faulty)
 
   pub less_step : (above : List Frame) (step : Step) → above ≡ below ++ rest ∷ [] → frame.steps.items ≡ step ∷ rest.steps.items →
       weight files [] above < weight files [] (below ++ frame ∷ [])
@@ -226,7 +226,7 @@ module _ (files : Files) (below : List Frame) (frame rest : Frame) (same : rest.
     done = [];
     pending =
         step_first files below frame rest same (Include name) first
-        ∙ ap (λ (r : Reading). followed r (pending files [] (below ++ rest ∷ [])))
+        ∙ ap (λ (r : FilesRead). followed r (pending files [] (below ++ rest ∷ [])))
         (sym (include_is files below frame rest same above file name is file_is) ∙ entered_adds files above next file name entered stands)
         ∙ ap (λ (l : List Frame). followed (in_turn (step_adds files (next.path ∷ way_of [] above) next.path) next.steps.items) (pending files [] l)) (sym is)
         ∙ sym (pending-push files [] above next) ∙ ap (pending files []) (sym put) ∙ sym (followed-nothing (pending files [] all));
@@ -265,14 +265,14 @@ fold-append f y [] zs = refl
 fold-append f y (x ∷ xs) zs = fold-append f (f y x) xs zs
 
 -- What was kept twice.
-pub kept_on : (was mid now : Reading) (old between new : Sections) → IsKept was mid old between → IsKept mid now between new → IsKept was now old new
+pub kept_on : (was mid now : FilesRead) (old between new : Sections) → IsKept was mid old between → IsKept mid now between new → IsKept was now old new
 kept_on was mid now old between new first second = record {
   done = first.done ++ second.done;
   pending = first.pending ∙ ap (followed (Ok first.done)) second.pending ∙ sym (followed_assoc (Ok first.done) (Ok second.done) now);
   merged = second.merged ∙ ap (λ (s : Sections). fold joined s second.done) first.merged ∙ sym (fold-append joined old first.done second.done);
 }
 
-pub kept_fault : (was mid : Reading) (old between : Sections) (fault : MergeError) → IsKept was mid old between → mid ≡ Err fault → was ≡ Err fault
+pub kept_fault : (was mid : FilesRead) (old between : Sections) (fault : MergeError) → IsKept was mid old between → mid ≡ Err fault → was ≡ Err fault
 kept_fault was mid old between fault kept faulty = kept.pending ∙ ap (followed (Ok kept.done)) faulty
 
 -- a file that is read from the start
@@ -296,12 +296,12 @@ pub started-fault : (files : Files) (path content : List ℕ) (fault : MergeErro
 started-fault files path content fault there faulty = reads_fault files [] path content fault (within_files files [] path content tt refl there) faulty
 
 -- a name that may be read, and names a file that is not on the way
-pub included_reads : (files : Files) (read : List ℕ → List ℕ → Reading) (way : List (List ℕ)) (file name path content : List ℕ) →
+pub included_reads : (files : Files) (read : List ℕ → List ℕ → FilesRead) (way : List (List ℕ)) (file name path content : List ℕ) →
     path ≡ directory file ++ name → is_outside name ≡ false → is_among way path ≡ false → Some content ≡ value_of path files →
     included files read way file name ≡ read path content
 included_reads files read way file name path content is inside apart there =
     let meant : List ℕ = directory file ++ name in
-    let found : Reading = if_there (read meant) (missing file name) (value_of meant files) in
+    let found : FilesRead = if_there (read meant) (missing file name) (value_of meant files) in
     ap (λ (b : Bool). cond b (Err (MissingInclude file name)) (cond (is_among way meant) (Err (IncludeLoop meant)) found)) inside
     ∙ ap (λ (b : Bool). cond b (Err (IncludeLoop meant)) found) (ap (is_among way) (sym is) ∙ apart)
     ∙ ap (if_there (read meant) (missing file name)) (ap (λ (p : List ℕ). value_of p files) (sym is) ∙ sym there)

@@ -8,26 +8,26 @@ use Rattle.std.proofs.Common.{◌≢◌}
 use Rattle.ini_interp.specs.Frames.{IsKept}
 use Rattle.ini_interp.specs.InTurn.{followed, in_turn}
 use Rattle.ini_interp.specs.Joins.{joined}
-use Rattle.ini_interp.specs.Merges.{Files, Reading, all_read, base_file, base_files, joined_all, merged_in}
+use Rattle.ini_interp.specs.Merges.{Files, FilesRead, all_read, base_file, base_files, joined_all, merged_in}
 use Rattle.ini_interp.specs.Sections.{Sections}
 use Rattle.ini_interp.proofs.FramesLemmas.{kept_on, kept_fault}
 use Rattle.ini_interp.proofs.PlacesLemmas.{drop_at_place}
 use Rattle.ini_interp.proofs.ValuesLemmas.{followed-nothing, followed-end}
 
-module _ (give : List ℕ → Reading) (whole : Reading) (paths : List (List ℕ)) (index : ℕ) (path : List ℕ) (old between : Sections)
+module _ (give : List ℕ → FilesRead) (whole : FilesRead) (paths : List (List ℕ)) (index : ℕ) (path : List ℕ) (old between : Sections)
     (there : Some path ≡ slice_get paths index) (kept : IsKept whole (in_turn give (drop index paths)) old between) where
   pub turn : (new : Sections) → IsKept (give path) (Ok []) between new → IsKept whole (in_turn give (drop (index + 1) paths)) old new
   turn new file = kept_on whole (in_turn give (drop index paths)) (in_turn give (drop (index + 1) paths)) old between new kept (record {
     done = file.done;
     pending =
         ap (in_turn give) (drop_at_place paths index path there)
-        ∙ ap (λ (r : Reading). followed r (in_turn give (drop (index + 1) paths))) (file.pending ∙ followed-end {E = MergeError} (Ok file.done));
+        ∙ ap (λ (r : FilesRead). followed r (in_turn give (drop (index + 1) paths))) (file.pending ∙ followed-end {E = MergeError} (Ok file.done));
     merged = file.merged;
   })
 
   pub turn_fault : (fault : MergeError) → give path ≡ Err fault → whole ≡ Err fault
   turn_fault fault faulty = kept_fault whole (in_turn give (drop index paths)) old between fault kept
-      (ap (in_turn give) (drop_at_place paths index path there) ∙ ap (λ (r : Reading). followed r (in_turn give (drop (index + 1) paths))) faulty)
+      (ap (in_turn give) (drop_at_place paths index path there) ∙ ap (λ (r : FilesRead). followed r (in_turn give (drop (index + 1) paths))) faulty)
 
 pub merged_is : (base : List ℕ) (files : Files) (sections : Sections) →
     IsKept (in_turn (base_file files) (base_files files base)) (Ok []) [] sections → merged_in files base ≡ Ok sections

@@ -5,7 +5,7 @@ use Rattle.std.proofs.lemmas.Option.{none-some}
 use Rattle.std.proofs.lemmas.Slice.Eq.{bytes_eq-Decides}
 use Rattle.std.specs.Str.{bytes_eq}
 use Rattle.ini_interp.specs.Kept.{place_of, at_place, changed_at}
-use Rattle.ini_interp.specs.Sections.{value_of, with_value}
+use Rattle.ini_interp.specs.Sections.{value_of, with_value, without}
 
 -- a name is its own
 pub own_name : (name : List ℕ) → bytes_eq name name ≡ true
@@ -64,6 +64,16 @@ module _ {V : Type 0} where
       by true is rest = absurd (none-some _ (sym is))
       by false is rest = ap (λ l. e ∷ l) (rest is)
 
+  -- what is not there is not taken out
+  pub without-none : (name : List ℕ) (es : List (List ℕ × V)) → value_of name es ≡ None → without name es ≡ es
+  without-none name [] none = refl
+  without-none name (e ∷ es) none = by (bytes_eq name e.0) none (without-none name es)
+    where
+      by : (b : Bool) → cond b (Some e.1) (value_of name es) ≡ None → (value_of name es ≡ None → without name es ≡ es) →
+          cond (not b) (e ∷ without name es) (without name es) ≡ e ∷ es
+      by true is rest = absurd (none-some _ (sym is))
+      by false is rest = ap (λ l. e ∷ l) (rest is)
+
 module _ {V W : Type 0} (f : V → W) where
   -- each value changed, under its name
   abbrev pub valued : List (List ℕ × V) → List (List ℕ × W)
@@ -75,6 +85,15 @@ module _ {V W : Type 0} (f : V → W) where
     where
       by : (b : Bool) → valued (with_value name v es) ≡ with_value name (f v) (valued es) → valued (cond b ((e.0, v) ∷ es) (e ∷ with_value name v es)) ≡ cond b ((e.0, f v) ∷ valued es) ((e.0, f e.1) ∷ with_value name (f v) (valued es))
       by true rest = refl
+      by false rest = ap (λ l. (e.0, f e.1) ∷ l) rest
+
+  pub valued-without : (name : List ℕ) (es : List (List ℕ × V)) → valued (without name es) ≡ without name (valued es)
+  valued-without name [] = refl
+  valued-without name (e ∷ es) = by (bytes_eq name e.0) (valued-without name es)
+    where
+      by : (b : Bool) → valued (without name es) ≡ without name (valued es) →
+          valued (cond (not b) (e ∷ without name es) (without name es)) ≡ cond (not b) ((e.0, f e.1) ∷ without name (valued es)) (without name (valued es))
+      by true rest = rest
       by false rest = ap (λ l. (e.0, f e.1) ∷ l) rest
 
   pub value_of-valued : (name : List ℕ) (es : List (List ℕ × V)) → value_of name (valued es) ≡ option_map f (value_of name es)

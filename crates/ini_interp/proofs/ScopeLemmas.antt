@@ -1,7 +1,9 @@
 -- Where a name is looked for.
-use Rattle.std.proofs.Common.{◌≡◌, ℕ, zero, suc, ◌+◌, ◌<◌, Bool, true, false, cond, not, ◌||◌, List, [], ◌∷◌, length, Option, Some, None, refl, sym, ap, ◌∙◌, arith}
+use Rattle.std.proofs.Common.{◌≡◌, ℕ, suc, ◌+◌, Bool, true, false, cond, not, ◌||◌, List, [], ◌∷◌, length, Option, Some, None, refl, sym, ap, ap₂, option_and_then, arith}
 use Rattle.std.specs.List.{position_or_len, list_any, before_first, after_first}
-use Rattle.ini_interp.specs.Sections.{Sections, raw}
+use Rattle.ini_interp.specs.Sections.{Sections, raw, value_of}
+use Rattle.std.specs.Str.{str_to_ascii_lowercase}
+use Rattle.ini_interp.proofs.CaseLemmas.{lowercase-again}
 use Rattle.ini_interp.specs.Values.{raw_in, first_of, is_slash, name_of, scope_of, section_called}
 
 -- nothing passes where the first place that passes is the end
@@ -27,3 +29,12 @@ raw_in-plain sections scope reference e =
 pub first_of-none : {A : Type 0} (o : Option A) → first_of o None ≡ o
 first_of-none None = refl
 first_of-none (Some x) = refl
+
+-- a name in lower case is the same name
+pub raw-lower : (sections : Sections) (section name : List ℕ) → raw sections section (str_to_ascii_lowercase name) ≡ raw sections section name
+unfolding raw
+raw-lower sections section name = ap (λ (n : List ℕ). option_and_then (value_of n) (value_of section sections)) (lowercase-again name)
+
+pub raw_in-lower : (sections : Sections) (scope : List (List ℕ)) (name : List ℕ) → raw_in sections scope (str_to_ascii_lowercase name) ≡ raw_in sections scope name
+raw_in-lower sections [] name = refl
+raw_in-lower sections (section ∷ scope) name = ap₂ first_of (raw-lower sections section name) (raw_in-lower sections scope name)

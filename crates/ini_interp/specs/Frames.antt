@@ -9,7 +9,7 @@ use Rattle.ini_interp.specs.declared.merge_error.MergeError.TheVariants.{Ini}
 use Rattle.ini_interp.specs.Files.{file_of}
 use Rattle.ini_interp.specs.InTurn.{followed, in_turn}
 use Rattle.ini_interp.specs.Joins.{joined}
-use Rattle.ini_interp.specs.Merges.{Files, Reading, includes, included, read_with, is_among}
+use Rattle.ini_interp.specs.Merges.{Files, FilesRead, includes, included, read_with, is_among}
 use Rattle.ini_interp.specs.Sections.{Sections, value_of}
 
 -- what is to be done with a file
@@ -17,16 +17,16 @@ abbrev pub steps_of : Sections → List Step
 steps_of file = map Include (includes file (codes "before")) ++ Join file ∷ map Include (includes file (codes "after"))
 
 -- what reading a file adds, where these files are being read
-abbrev pub read_at : Files → List (List ℕ) → List ℕ → List ℕ → Reading
+abbrev pub read_at : Files → List (List ℕ) → List ℕ → List ℕ → FilesRead
 read_at files way = read_with files (length files - length way) way
 
 -- what a step of a file adds; the file stands first on the way
-abbrev pub step_adds : Files → List (List ℕ) → List ℕ → Step → Reading
+abbrev pub step_adds : Files → List (List ℕ) → List ℕ → Step → FilesRead
 step_adds files way file (Include name) = included files (read_at files way) way file name
 step_adds files way file (Join sections) = Ok (sections ∷ [])
 
 -- what the steps of these frames add, those of the last first, where these files are being read below them
-abbrev pub pending : Files → List (List ℕ) → List Frame → Reading
+abbrev pub pending : Files → List (List ℕ) → List Frame → FilesRead
 pending files way [] = Ok []
 pending files way (frame ∷ frames) =
     followed (pending files (frame.path ∷ way) frames) (in_turn (step_adds files (frame.path ∷ way) frame.path) frame.steps.items)
@@ -42,7 +42,7 @@ IsWay files [] = Unit {0}
 IsWay files (path ∷ way) = (is_among way path ≡ false) × (value_of path files ≢ None) × IsWay files way
 
 -- what was pending is now laid over the sections, or is pending still
-pub record IsKept (was now : Reading) (old new : Sections) : Type 0 where
+pub record IsKept (was now : FilesRead) (old new : Sections) : Type 0 where
   pub done : List Sections
   pub pending : was ≡ followed (Ok done) now
   pub merged : new ≡ fold joined old done

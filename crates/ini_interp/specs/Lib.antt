@@ -1,4 +1,5 @@
 pub mod Added
+pub mod AreSections
 pub mod Changes
 pub mod Entries
 pub mod Files
@@ -8,6 +9,7 @@ pub mod Joins
 pub mod Kept
 pub mod Known
 pub mod Lines
+pub mod MergeLaws
 pub mod Merges
 pub mod Parts
 pub mod Paths

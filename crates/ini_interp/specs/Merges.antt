@@ -92,52 +92,52 @@ is_among paths path = list_any (bytes_eq path) paths
 -- Reading a file reads its includes too: those before it, the file itself, those after it. Each answer is the files that are read,
 -- in order, or the first fault.
 
-abbrev pub Reading : Type 0
-Reading = Result (List Sections) MergeError
+abbrev pub FilesRead : Type 0
+FilesRead = Result (List Sections) MergeError
 
 -- a file that is not there is skipped where its name ends in `.local`
-abbrev pub missing : List ℕ → List ℕ → Reading
+abbrev pub missing : List ℕ → List ℕ → FilesRead
 missing file name = if ends_with nat_eq name (codes ".local") then Ok [] else Err (MissingInclude file name)
 
-abbrev pub if_there : (List ℕ → Reading) → Reading → Option (List ℕ) → Reading
+abbrev pub if_there : (List ℕ → FilesRead) → FilesRead → Option (List ℕ) → FilesRead
 if_there read missing None = missing
 if_there read missing (Some content) = read content
 
 -- what a name in `file` adds, where the files on `way` are being read
-abbrev pub included : Files → (List ℕ → List ℕ → Reading) → List (List ℕ) → List ℕ → List ℕ → Reading
+abbrev pub included : Files → (List ℕ → List ℕ → FilesRead) → List (List ℕ) → List ℕ → List ℕ → FilesRead
 included files read way file name =
     if is_outside name then Err (MissingInclude file name)
     else if is_among way (directory file ++ name) then Err (IncludeLoop (directory file ++ name))
     else if_there (read (directory file ++ name)) (missing file name) (value_of (directory file ++ name) files)
 
 -- the sections of a file, with what it includes
-abbrev pub with_includes : (List ℕ → Reading) → Sections → Reading
+abbrev pub with_includes : (List ℕ → FilesRead) → Sections → FilesRead
 with_includes include file =
     followed (in_turn include (includes file (codes "before")))
     (followed (Ok (file ∷ [])) (in_turn include (includes file (codes "after"))))
 
-abbrev pub if_well_formed : List ℕ → (Sections → Reading) → Result Sections IniError → Reading
+abbrev pub if_well_formed : List ℕ → (Sections → FilesRead) → Result Sections IniError → FilesRead
 if_well_formed file read (Err error) = Err (Ini file error)
 if_well_formed file read (Ok sections) = read sections
 
 -- the files that are read with this one, where those on `way` are being read, the innermost first. A way on which no file stands
 -- twice is not longer than there are files: so `left`, at first their number, never comes to its end.
-unfoldable pub read_with : Files → ℕ → List (List ℕ) → List ℕ → List ℕ → Reading
+unfoldable pub read_with : Files → ℕ → List (List ℕ) → List ℕ → List ℕ → FilesRead
 read_with files zero way path content = Err (IncludeLoop path)
 read_with files (suc left) way path content =
     if_well_formed path (with_includes (included files (read_with files left (path ∷ way)) (path ∷ way) path)) (file_of content)
 
 -- a file of the base, where it is there
-abbrev pub base_file : Files → List ℕ → Reading
+abbrev pub base_file : Files → List ℕ → FilesRead
 base_file files path = if_there (read_with files (length files) [] path) (Ok []) (value_of path files)
 
 -- all files that are read for a base, in order
-unfoldable pub all_read : Files → List ℕ → Reading
+unfoldable pub all_read : Files → List ℕ → FilesRead
 all_read files base = in_turn (base_file files) (base_files files base)
 
 -- Merging.
 
-abbrev pub joined_all : Reading → Result Sections MergeError
+abbrev pub joined_all : FilesRead → Result Sections MergeError
 joined_all (Err error) = Err error
 joined_all (Ok files) = Ok (fold joined [] files)
 

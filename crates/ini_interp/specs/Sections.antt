@@ -1,5 +1,5 @@
 -- Sections in order, each with its items in order. Names of items are kept in ASCII lower case; names of sections stay as written.
-use Rattle.std.specs.Prelude.{ℕ, List, [], ◌∷◌, Option, None, Some, option_and_then, option_map, slice_get, if◌then◌else◌}
+use Rattle.std.specs.Prelude.{ℕ, not, List, [], ◌∷◌, filter, Option, None, Some, option_and_then, option_map, slice_get, if◌then◌else◌}
 use Rattle.std.specs.Str.{bytes_eq, str_to_ascii_lowercase}
 
 -- what the first entry with the name has
@@ -11,6 +11,10 @@ value_of name (e ∷ es) = if bytes_eq name e.0 then Some e.1 else value_of name
 abbrev pub with_value : {V : Type 0} → List ℕ → V → List (List ℕ × V) → List (List ℕ × V)
 with_value name value [] = (name, value) ∷ []
 with_value name value (e ∷ es) = if bytes_eq name e.0 then (e.0, value) ∷ es else e ∷ with_value name value es
+
+-- the entries but those of the name
+abbrev pub without : {V : Type 0} → List ℕ → List (List ℕ × V) → List (List ℕ × V)
+without name es = filter (λ e. not (bytes_eq name e.0)) es
 
 -- the items of one section: name and raw value
 abbrev pub Items : Type 0

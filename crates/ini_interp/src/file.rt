@@ -2,6 +2,7 @@
 ghost use Rattle.std.specs.Prelude.{◌≡◌, [], None, Some, Ok, Err, IfOk, IfErr, OnOk, MatchResult, is_some, map};
 ghost use Rattle.std.specs.Str.{str_to_ascii_lowercase};
 ghost use Rattle.std.specs.Str.Lines.{lines};
+ghost use Rattle.ini_interp.specs.AreSections.{AreSections};
 ghost use Rattle.ini_interp.specs.Files.{file_of, meaning_of, UnlessNoMemory, IsFirstIllFormed};
 ghost use Rattle.ini_interp.specs.Kept.{with_open, with_changed, with_item, with_more, with_line, open_kept, open_value, fault_of, without_last};
 ghost use Rattle.ini_interp.specs.Lines.{form_of};
@@ -148,6 +149,9 @@ pub fn read_file(alloc: Global, bytes: &[u8]) -> Result<Sections, IniError>
     ensures sections { IfOk result (λ sections. file_of bytes.now ≡ Ok sections) }
     ensures fault { IfErr result (λ e. UnlessNoMemory e (file_of bytes.now ≡ Err e)) }
     ensures place { IfErr result (IsFirstIllFormed bytes.now) }
+
+    // Of the names in it.
+    ensures named { IfOk result AreSections }
 {
     match str::from_utf8(bytes) {
         Ok(text) => read_text(alloc, text),

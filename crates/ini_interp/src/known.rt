@@ -11,21 +11,29 @@ use std::alloc::Global;
 
 /// The raw value that a reference in this section stands for, where it is `known/NAME`: that of NAME in the same section, or else in
 /// [DEFAULT].
-fn known_raw<'a>(before: &'a Sections, section: &str, reference: &str) -> Option<&'a str>
-    ensures { option_copied result ≡ known_raw before.now section.now reference.now }
+fn known_raw<'a>(
+    alloc: Global,
+    before: &'a Sections,
+    section: &str,
+    reference: &str,
+) -> Result<Option<&'a str>, NoMemory>
+    ensures { IfOk result (λ found. option_copied found ≡ known_raw before.now section.now reference.now) }
 {
-    let (word, name) = reference.split_once('/')?;
+    let Some((word, name)) = reference.split_once('/') else {
+        return Ok(None);
+    };
     if word != "known" {
-        return None;
+        return Ok(None);
     }
-    match before.raw(section, name) {
-        Some(raw) => Some(raw),
-        None => before.raw("DEFAULT", name),
+    match before.find(alloc, section, name)? {
+        Some(raw) => Ok(Some(raw)),
+        None => before.find(alloc, "DEFAULT", name),
     }
 }
 
 /// Adds a part of a raw value behind `text`, a reference to a known value replaced.
 fn push_part(
+    alloc: Global,
     before: &Sections,
     section: &str,
     part: Part<'_>,
@@ -39,7 +47,7 @@ fn push_part(
         Part::Sign => text.push_str("%%"),
         Part::Lone => text.push_str("%"),
         Part::Named(reference) => {
-            if let Some(raw) = known_raw(before, section, reference) {
+            if let Some(raw) = known_raw(alloc, before, section, reference)? {
                 return text.push_str(raw);
             }
             text.push_str("%(")?;
@@ -61,7 +69,7 @@ pub(crate) fn known_replaced(
     let mut text = Text::new(alloc);
     let mut rest = raw;
     while let Some(cut) = first_part(rest) {
-        push_part(before, section, cut.part, &mut text)?;
+        push_part(alloc, before, section, cut.part, &mut text)?;
         rest = cut.rest;
     }
     Ok(text)

@@ -14,6 +14,7 @@ mod includes;
 mod items;
 mod joins;
 mod known;
+mod laws;
 mod line;
 mod merge_error;
 #[cfg(test)]
@@ -32,6 +33,7 @@ mod values;
 pub use error::IniError;
 pub use file::read_file;
 pub use file_table::FileTable;
+pub use laws::merge_law;
 pub use merge_error::MergeError;
 pub use merges::{merge, merge_in};
 pub use sections::Sections;

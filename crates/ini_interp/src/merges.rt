@@ -1,8 +1,11 @@
 //! The files of a base, merged.
-ghost use Rattle.std.specs.Prelude.{◌≡◌, ◌≢◌, ◌++◌, [], Ok, Err, IfOk, IfErr, OnOk};
+ghost use Rattle.std.specs.Prelude.{◌≡◌, ◌≢◌, ℕ, List, ◌++◌, [], None, Ok, Err, IfOk, IfErr, OnOk, codes};
+ghost use Rattle.ini_interp.specs.declared.error.IniError.TheVariants as ini;
+ghost use Rattle.ini_interp.specs.AreSections.{AreSections};
 ghost use Rattle.ini_interp.specs.Frames.{IsKept};
 ghost use Rattle.ini_interp.specs.InTurn.{in_turn};
 ghost use Rattle.ini_interp.specs.Merges.{base_file, base_files, files_ending, merged, merged_in};
+ghost use Rattle.ini_interp.specs.Sections.{value_of};
 
 use crate::file_table::FileTable;
 use crate::frames::read_with_includes;
@@ -90,8 +93,15 @@ fn read_base(alloc: Global, files: &FileTable<'_>, base: &str) -> Result<Section
 pub fn merge_in(alloc: Global, files: &FileTable<'_>, base: &str) -> Result<Sections, MergeError>
     ensures ok { IfOk result (λ sections. merged_in files.now base.now ≡ Ok sections) }
 
+    // Of the names in it. [INCLUDES] is not merged.
+    ensures named { IfOk result AreSections }
+    ensures not_merged { IfOk result (λ sections. value_of (codes "INCLUDES") sections ≡ None) }
+
     // The first fault in the order of reading, or want of memory.
     ensures fault { IfErr result (λ fault. fault ≢ MergeError.NoMemory → merged_in files.now base.now ≡ Err fault) }
+
+    // Want of memory has one name.
+    ensures told { IfErr result (λ fault. (file : List ℕ) → fault ≢ MergeError.Ini file ini.NoMemory) }
 {
     read_base(alloc, files, base)
 }
@@ -100,8 +110,15 @@ pub fn merge_in(alloc: Global, files: &FileTable<'_>, base: &str) -> Result<Sect
 pub fn merge(alloc: Global, tree: &Tree, base: &str) -> Result<Sections, MergeError>
     ensures ok { IfOk result (λ sections. merged tree.now base.now ≡ Ok sections) }
 
+    // Of the names in it. [INCLUDES] is not merged.
+    ensures named { IfOk result AreSections }
+    ensures not_merged { IfOk result (λ sections. value_of (codes "INCLUDES") sections ≡ None) }
+
     // The first fault in the order of reading, or want of memory.
     ensures fault { IfErr result (λ fault. fault ≢ MergeError.NoMemory → merged tree.now base.now ≡ Err fault) }
+
+    // Want of memory has one name.
+    ensures told { IfErr result (λ fault. (file : List ℕ) → fault ≢ MergeError.Ini file ini.NoMemory) }
 {
     let files = FileTable::new(alloc, tree)?;
     merge_in(alloc, &files, base)

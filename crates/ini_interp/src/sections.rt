@@ -1,6 +1,6 @@
 //! Sections in order.
-ghost use Rattle.std.specs.Prelude.{◌≡◌, [], OnOk, OnErr, option_copied};
-ghost use Rattle.ini_interp.specs.Sections.{raw, with_raw, opened, section_at, item_at};
+ghost use Rattle.std.specs.Prelude.{◌≡◌, [], IfOk, OnOk, OnErr, option_copied};
+ghost use Rattle.ini_interp.specs.Sections.{raw, with_raw, without, opened, section_at, item_at};
 
 mod entries;
 
@@ -47,7 +47,7 @@ impl Sections {
     }
 
     /// The raw value of an item, or `None` where the section or the item is not there. The name of the section is compared as
-    /// written, that of the item in ASCII lower case. Takes no memory.
+    /// written, that of the item in ASCII lower case. Takes no memory. A name that is not in lower case is compared with each item's.
     pub fn raw(&self, section: &str, name: &str) -> Option<&str>
         ensures { option_copied result ≡ raw self.now section.now name.now }
     {
@@ -55,6 +55,14 @@ impl Sections {
             Some(items) => items.raw(name),
             None => None,
         }
+    }
+
+    /// What `raw` says, in a time that does not grow with the number of items, whatever the case of the name.
+    pub fn find(&self, alloc: Global, section: &str, name: &str) -> Result<Option<&str>, NoMemory>
+        ensures { IfOk result (λ found. option_copied found ≡ raw self.now section.now name.now) }
+    {
+        let name = name.to_ascii_lowercase(alloc)?;
+        Ok(self.raw(section, name.as_str()))
     }
 
     /// The name, in ASCII lower case, of the item at that place of that section, from 0, or `None` where the section is not there
@@ -99,6 +107,13 @@ impl Sections {
         items.set(name, value)?;
         self.map.insert(section, items)?;
         Ok(())
+    }
+
+    /// Takes the section out, with its items. The others keep their order. Takes no memory.
+    pub fn clear(&mut self, section: &str)
+        ensures { self.new ≡ without section.now self.old }
+    {
+        let _ = self.map.shift_remove(section);
     }
 }
 

@@ -149,5 +149,25 @@ fn sets_and_finds_items(rt: HostRuntime) -> Result<(), Fail> {
     assert_eq!(rt; sections.raw("a", "x"), None);
     assert_eq!(rt; sections.item("b", 2), None);
     assert_eq!(rt; sections.item("c", 0), None);
+    assert_eq!(rt; sections.find(rt.alloc(), "b", "X")?, Some("4"));
+    assert_eq!(rt; sections.find(rt.alloc(), "b", "z")?, None);
+    Ok(())
+}
+
+#[test]
+fn takes_sections_out(rt: HostRuntime) -> Result<(), Fail> {
+    let mut sections = read_file(rt.alloc(), b"[a]\nx=1\n[b]\ny=2\n[c]\n[d]\nz=3\n")?;
+    sections.clear("b");
+    let without_one = shown(rt.alloc(), &sections)?;
+    assert_eq!(rt; without_one.as_str(), "[a]|x=1/|[c]|[d]|z=3/|");
+    assert_eq!(rt; sections.raw("b", "y"), None);
+    sections.clear("B");
+    sections.clear("b");
+    sections.clear("d");
+    let without_two = shown(rt.alloc(), &sections)?;
+    assert_eq!(rt; without_two.as_str(), "[a]|x=1/|[c]|");
+    sections.put("b", "y", "4")?;
+    let back = shown(rt.alloc(), &sections)?;
+    assert_eq!(rt; back.as_str(), "[a]|x=1/|[c]|[b]|y=4/|");
     Ok(())
 }

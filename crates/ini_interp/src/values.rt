@@ -6,7 +6,7 @@ ghost use Rattle.ini_interp.specs.Added.{IsAdded};
 use crate::parts::{Part, first_part};
 use crate::sections::Sections;
 use crate::value_error::InterpError;
-use f2b_base::{Seq, Text};
+use f2b_base::{NoMemory, Seq, Text};
 use std::alloc::Global;
 
 /// Replacements stand at most so many deep in one another.
@@ -22,6 +22,19 @@ fn raw_in<'a>(sections: &'a Sections, scope: &[Text], name: &str) -> Option<&'a 
         }
     }
     None
+}
+
+/// What `raw_in` says, in a time that does not grow with the number of items: the name, which may be in any case, is lowered once.
+fn found_in<'a>(
+    alloc: Global,
+    sections: &'a Sections,
+    scope: &[Text],
+    name: &str,
+) -> Result<Option<&'a str>, NoMemory>
+    ensures { IfOk result (λ found. option_copied found ≡ raw_in sections.now scope.now name.now) }
+{
+    let name = name.to_ascii_lowercase(alloc)?;
+    Ok(raw_in(sections, scope, name.as_str()))
 }
 
 /// The section that a reference names before its slash.
@@ -46,13 +59,18 @@ fn name_of(reference: &str) -> &str
 }
 
 /// The raw value of the item that a reference names.
-fn raw_of<'a>(sections: &'a Sections, scope: &[Text], reference: &str) -> Option<&'a str>
-    ensures { option_copied result
-        ≡ raw_in sections.now (scope_of scope.now reference.now) (name_of reference.now) }
+fn raw_of<'a>(
+    alloc: Global,
+    sections: &'a Sections,
+    scope: &[Text],
+    reference: &str,
+) -> Result<Option<&'a str>, NoMemory>
+    ensures { IfOk result (λ found. option_copied found
+        ≡ raw_in sections.now (scope_of scope.now reference.now) (name_of reference.now)) }
 {
     match reference.split_once('/') {
-        Some((word, name)) => sections.raw(section_called(word), name),
-        None => raw_in(sections, scope, reference),
+        Some((word, name)) => sections.find(alloc, section_called(word), name),
+        None => found_in(alloc, sections, scope, reference),
     }
 }
 
@@ -74,7 +92,7 @@ fn text_to_read<'a>(
     if depth == 0 {
         return Err(InterpError::TooDeep(Text::from_str(alloc, name)?));
     }
-    match raw_of(sections, scope, reference) {
+    match raw_of(alloc, sections, scope, reference)? {
         Some(text) => Ok(text),
         None => Err(InterpError::Missing(Text::from_str(alloc, name)?)),
     }
@@ -127,7 +145,7 @@ pub fn value(
         → value_in sections.now scope.now name.now ≡ Err fault) }
 {
     let scope = scope.as_slice();
-    let Some(raw) = raw_in(sections, scope, name) else {
+    let Some(raw) = found_in(alloc, sections, scope, name)? else {
         return Ok(None);
     };
     let mut text = Text::new(alloc);

@@ -1,5 +1,5 @@
 -- When nothing is left to be replaced in a text, and which faults there are.
-use Rattle.std.proofs.Common.{◌≡◌, ℕ, zero, suc, ◌+◌, ◌-◌, ◌⊎◌, inl, inr, ◌==◌, nat_lt, max, List, [], ◌∷◌, ◌++◌, length, take, drop, replicate, append_assoc, append-nil, Option, Some, None, Result, Ok, Err, refl, sym, subst, ap, ap₂, ◌∙◌, take-append-drop}
+use Rattle.std.proofs.Common.{◌≡◌, ℕ, zero, suc, ◌-◌, ◌⊎◌, inl, inr, ◌==◌, nat_lt, max, List, [], ◌∷◌, ◌++◌, length, take, drop, replicate, append_assoc, append-nil, Option, Some, None, Result, Ok, Err, refl, sym, subst, ap, ap₂, ◌∙◌, take-append-drop}
 use Rattle.std.specs.Prelude.{fold, ◌&&◌, not}
 use Rattle.std.proofs.lemmas.Bool.{cases_Bool, eqb-true, both_ways}
 use Rattle.ini_interp.specs.declared.value_error.InterpError.{InterpError}
@@ -12,14 +12,14 @@ use Rattle.tag_subst.specs.declared.tag_error.TagError.TheVariants.{Interp, NoMe
 use Rattle.tag_subst.specs.Errors.{tag_fault}
 use Rattle.tag_subst.specs.Marked.{Marked, no_text, added, cut}
 use Rattle.tag_subst.specs.Names.{name_start, is_open, open_name, is_reserved}
-use Rattle.tag_subst.specs.TagLaws.{IsWithoutValue, IsDone, TagLaw}
-use Rattle.tag_subst.specs.Tags.{Valuation, tag_depth, replacement, asked, closed, onward, replaced_by, read_byte, read_bytes, read, text_of}
+use Rattle.tag_subst.specs.TagLaws.{IsWithoutValue, IsDone}
+use Rattle.tag_subst.specs.Tags.{Valuation, tag_depth, replacement, asked, closed, onward, replaced_by, read_byte, read_bytes, read, text_of, substituted}
 use Rattle.tag_subst.specs.Values.{tag_value}
 use Rattle.tag_subst.proofs.ReadLemmas.{deeper_in, read-bytes}
 
 -- ---- the last byte of a text
 
-nothing : (bs rest : List ℕ) (c : ℕ) → [] ≡ bs ++ c ∷ rest → ⊥
+pub nothing : (bs rest : List ℕ) (c : ℕ) → [] ≡ bs ++ c ∷ rest → ⊥
 nothing [] rest c is = cc
 nothing (b ∷ bs) rest c is = cc
 
@@ -35,7 +35,7 @@ split_last (x ∷ xs) (y ∷ before) rest b c is =
     ]
 
 module _ (value : Valuation) where
-  done_taken : (n : ℕ) (text : List ℕ) → IsDone value text → IsDone value (take n text)
+  pub done_taken : (n : ℕ) (text : List ℕ) → IsDone value text → IsDone value (take n text)
   done_taken n text done before behind is =
       done before (behind ++ drop n text) (sym (take-append-drop n text) ∙ ap (λ (t : List ℕ). t ++ drop n text) is ∙ append_assoc before (62 ∷ behind) (drop n text))
 
@@ -63,21 +63,20 @@ module _ (value : Valuation) where
 
   -- ---- what is kept is done
 
-  onward_ok : (f : Marked → Result Marked TagError) (r : Result Marked TagError) (done : Marked) → onward f r ≡ Ok done → (kept : Marked) × (r ≡ Ok kept) × (f kept ≡ Ok done)
+  pub onward_ok : (f : Marked → Result Marked TagError) (r : Result Marked TagError) (done : Marked) → onward f r ≡ Ok done → (kept : Marked) × (r ≡ Ok kept) × (f kept ≡ Ok done)
   onward_ok f (Err fault) done is = absurd (cc)
   onward_ok f (Ok kept) done is = (kept, refl, is)
 
-  IsKeeping : (Replacement → Marked → Result Marked TagError) → Type 0
+  abbrev pub IsKeeping : (Replacement → Marked → Result Marked TagError) → Type 0
   IsKeeping deeper = (r : Replacement) (before after : Marked) → IsDone value before.text → deeper r before ≡ Ok after → IsDone value after.text
 
   done_replaced : (deeper : Replacement → Marked → Result Marked TagError) (kept same after : Marked) (found : Result (Option Replacement) TagError) → IsKeeping deeper →
       IsDone value kept.text → (found ≡ Ok None → IsDone value same.text) → replaced_by deeper kept same found ≡ Ok after → IsDone value after.text
-  unfolding IsKeeping
   done_replaced deeper kept same after (Err fault) keeps done none is = absurd (cc)
   done_replaced deeper kept same after (Ok None) keeps done none is = let here : same ≡ after = cc in subst (λ (m : Marked). IsDone value m.text) here (none refl)
   done_replaced deeper kept same after (Ok (Some r)) keeps done none is = keeps r (cut r.place kept) after (done_taken r.place kept.text done) is
 
-  done_byte : (deeper : Replacement → Marked → Result Marked TagError) (depth b : ℕ) (kept after : Marked) → IsKeeping deeper → IsDone value kept.text →
+  pub done_byte : (deeper : Replacement → Marked → Result Marked TagError) (depth b : ℕ) (kept after : Marked) → IsKeeping deeper → IsDone value kept.text →
       read_byte value deeper depth b kept ≡ Ok after → IsDone value after.text
   done_byte deeper depth b kept after keeps done is = elim (cases_Bool (b == 62)) [
     | inl y ↦
@@ -96,8 +95,7 @@ module _ (value : Valuation) where
       let next = onward_ok (read_bytes value deeper depth text) (read_byte value deeper depth b kept) after is in
       done_bytes deeper depth text next.0 after keeps (done_byte deeper depth b kept next.0 keeps done next.1) next.2
 
-  done_read : (left depth : ℕ) (text : List ℕ) (kept after : Marked) → IsDone value kept.text → read value left depth text kept ≡ Ok after → IsDone value after.text
-  unfolding IsKeeping
+  pub done_read : (left depth : ℕ) (text : List ℕ) (kept after : Marked) → IsDone value kept.text → read value left depth text kept ≡ Ok after → IsDone value after.text
   done_read zero depth text kept after done is =
       done_bytes (deeper_in value zero) depth text kept after
       (λ r before later so_far same. let here : before ≡ later = cc in subst (λ (m : Marked). IsDone value m.text) here so_far) done
@@ -148,20 +146,24 @@ module _ (value : Valuation) where
 
 -- ---- the laws
 
-text_ok : (r : Result Marked TagError) (done : List ℕ) → text_of r ≡ Ok done → (kept : Marked) × (r ≡ Ok kept) × (kept.text ≡ done)
+pub text_ok : (r : Result Marked TagError) (done : List ℕ) → text_of r ≡ Ok done → (kept : Marked) × (r ≡ Ok kept) × (kept.text ≡ done)
 text_ok (Err fault) done is = absurd (cc)
 text_ok (Ok kept) done is = (kept, refl, (cc))
 
-pub tag_law : TagLaw
-tag_law = record {
-  stays = λ sections scope text done.
-      let value = tag_value sections scope in
-      ap text_of (read-bytes value most_depth 0 text no_text ∙ stays_from value (deeper_in value most_depth) text [] done);
-  ends = λ sections scope text done is.
-      let value = tag_value sections scope in
-      let kept = text_ok (read value most_depth 0 text no_text) done is in
-      subst (IsDone value) kept.2 (done_read value most_depth 0 text no_text kept.0 (λ before behind none. absurd (nothing before behind 62 none)) kept.1);
-}
+pub done_stays : (sections : Sections) (scope : Scope) (text : List ℕ) → IsDone (tag_value sections scope) text → substituted sections scope text ≡ Ok text
+done_stays sections scope text done =
+    let value = tag_value sections scope in
+    ap text_of (read-bytes value most_depth 0 text no_text ∙ stays_from value (deeper_in value most_depth) text [] done)
+
+-- no tag stands in no text
+pub nothing_is_done : (value : Valuation) → IsDone value []
+nothing_is_done value before behind none = absurd (nothing before behind 62 none)
+
+pub ends_done : (sections : Sections) (scope : Scope) (text done : List ℕ) → substituted sections scope text ≡ Ok done → IsDone (tag_value sections scope) done
+ends_done sections scope text done is =
+    let value = tag_value sections scope in
+    let kept = text_ok (read value most_depth 0 text no_text) done is in
+    subst (IsDone value) kept.2 (done_read value most_depth 0 text no_text kept.0 (nothing_is_done value) kept.1)
 
 -- ---- no fault is want of memory by another name
 

@@ -4,3 +4,4 @@ pub mod FillLemmas
 pub mod ReadLemmas
 pub mod TagRows
 pub mod ValueLemmas
+pub mod StepLemmas

@@ -54,7 +54,7 @@ fn value_of_section(
     ensures fault { IfErr result (λ fault. fault ≢ InterpError.NoMemory
         → value_of_section sections.now scope.now section.now name.now ≡ Err fault) }
 {
-    if sections.raw(section, name).is_none() {
+    if sections.find(alloc, section, name)?.is_none() {
         return Ok(None);
     }
     value(alloc, sections, &with_first(alloc, section, scope)?, name)

@@ -1,5 +1,5 @@
 use Rattle.std.proofs.Common.{◌≡◌, Err, refl, ap, ◌∙◌, rules}
-use Rattle.date_detect.specs.Directives.{expanded}
+use Rattle.date_words.specs.Directives.{expanded}
 use Rattle.date_detect.specs.Forms.{framed}
 use Rattle.date_detect.specs.declared.error.BuildError.TheVariants.{NoMemory}
 use Rattle.date_detect.proofs.BuildLemmas.{have_none, have_more, fails_as, lacks, ends}

@@ -1,4 +1,4 @@
-use Rattle.tag_subst.proofs.DoneLemmas.{tag_law}
+use Rattle.tag_subst.proofs.StepLemmas.{tag_law}
 use Rattle.tag_subst.proofs.laws.tag_law.Goals as goal
 
 pub returns : goal.returns

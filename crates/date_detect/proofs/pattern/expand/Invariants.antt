@@ -1,8 +1,0 @@
-use Rattle.std.proofs.Common.{◌≡◌, ◌++◌, length, drop, string_bytes}
-use Rattle.std.specs.Str.{chars}
-use Rattle.date_detect.specs.Directives.{written, expanded}
-use Rattle.date_detect.proofs.pattern.expand.Given as goal
-
-abbrev pub invariant-loop-c : goal.invariant-loop-c
-invariant-loop-c l =
-    string_bytes l.written ++ written l.after (drop (length l.yielded) (chars l.text)) ≡ expanded l.text
