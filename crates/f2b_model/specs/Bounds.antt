@@ -1,5 +1,5 @@
 -- Which definitions and inputs have their numbers within bounds, and which inputs are taken.
-use Rattle.std.specs.Prelude.{ℕ, ◌^◌, ◌<◌, ◌≤◌, ◌≤ℤ◌, pos}
+use Rattle.std.specs.Prelude.{◌^◌, ◌<◌, ◌≤◌, ◌≤ℤ◌, pos}
 use Rattle.f2b_base.specs.Span.{IsRule}
 use Rattle.f2b_base.specs.declared.input.Input.{Input}
 use Rattle.f2b_base.specs.declared.input.What.{What}

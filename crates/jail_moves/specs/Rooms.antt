@@ -1,5 +1,5 @@
 -- What code keeps of a jail beside its definition, and the middle state that it stands for.
-use Rattle.std.specs.Prelude.{◌≡◌, ℕ, ◌^◌, ◌<◌, ◌≤◌, Bool, List, [], ◌∷◌, ◌++◌, Option, filter}
+use Rattle.std.specs.Prelude.{◌≡◌, ℕ, ◌<◌, ◌≤◌, Bool, List, [], ◌∷◌, ◌++◌, Option, filter}
 use Rattle.ban_table.specs.declared.lists.BanLists.{BanLists}
 use Rattle.ban_table.specs.Tables.{ended}
 use Rattle.f2b_base.specs.declared.addr.Addr.{Addr}

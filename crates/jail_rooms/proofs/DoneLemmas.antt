@@ -1,7 +1,7 @@
 -- What happened to the jails alone is done beside the purge, which it leaves.
 use Rattle.std.proofs.Common.{◌≡◌, ℕ, true, false, refl}
 use Rattle.f2b_base.specs.declared.input.What.{What}
-use Rattle.f2b_base.specs.declared.input.What.TheVariants.{Tick, Ended, Config, Stop, CheckFailed}
+use Rattle.f2b_base.specs.declared.input.What.TheVariants.{Tick, Config}
 use Rattle.f2b_model.specs.Nows.{JailsNow}
 use Rattle.f2b_model.specs.Steps.{moves_now, with_serial, done}
 use Rattle.f2b_model.specs.Told.{told_done}
