@@ -4,17 +4,14 @@ use Rattle.std.proofs.Common.{◌≡◌, ℕ, max, ◌≤◌, Bool, true, false,
 use Rattle.std.specs.Prelude.{bytes_eq, sum}
 use Rattle.std.proofs.lemmas.List.{length-map}
 use Rattle.f2b_base.specs.Limits.{last_moment}
-use Rattle.f2b_base.specs.declared.addr.Addr.{Addr}
 use Rattle.f2b_base.specs.declared.addr.Cidr.{Cidr}
-use Rattle.f2b_base.specs.declared.ban.Failure.{Failure}
 use Rattle.f2b_base.specs.declared.input.Input.{Input}
 use Rattle.f2b_base.specs.declared.input.What.{What}
-use Rattle.f2b_base.specs.declared.input.What.TheVariants.{Tick, Read, Ended, Config, Stop, Ban as BanThese, Unban, Attempt, Ignore, Findtime, Bantime, Maxretry, Idle, CheckFailed}
+use Rattle.f2b_base.specs.declared.input.What.TheVariants.{Config}
 use Rattle.f2b_base.specs.declared.jail.JailDef.{JailDef}
 use Rattle.f2b_model.specs.declared.jail_now.JailNow.{JailNow}
 use Rattle.f2b_model.specs.Lists.{AreDistinct}
 use Rattle.f2b_model.specs.Moves.{ignored}
-use Rattle.f2b_model.specs.NowMoves.{found_now, banned_now}
 use Rattle.f2b_model.specs.Nows.{JailsNow}
 use Rattle.f2b_model.specs.Steps.{moves_now, named, names, is_spent, at_reading, done, jails_step_now}
 use Rattle.f2b_model.specs.Storable.{longest_span, patterns_of, AreFewPatterns, IsStorableInput, IsStorableWhat}

@@ -20,7 +20,7 @@ use Rattle.f2b_base.specs.Addresses.{same_addr}
 use Rattle.f2b_model.specs.LaneSound.{AtMostOne, IsBanStep, Follows, AreAlike, NonePasses, follow_told, led_to}
 use Rattle.f2b_model.specs.Lists.{AllOf, AreDistinct, in_order}
 use Rattle.f2b_model.specs.Moves.{JailAndSerial, is_banned}
-use Rattle.f2b_model.specs.NowMoves.{dropped_now, found_now, banned_now}
+use Rattle.f2b_model.specs.NowMoves.{dropped_now}
 use Rattle.f2b_model.specs.Nows.{JailsNow}
 use Rattle.f2b_model.specs.Orders.{is_held_of, is_active}
 use Rattle.f2b_model.specs.Sound.{IsFit, IsFitWhat, IsOnceEach}

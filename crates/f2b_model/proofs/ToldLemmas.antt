@@ -19,7 +19,7 @@ use Rattle.f2b_model.specs.Watches.{is_watched}
 use Rattle.f2b_model.specs.Steps.{JailOps, moves, moves_now, is_spent, is_due, ends_before, is_meant, is_meant_jail, ended_by_time, each_jail, raised}
 use Rattle.f2b_model.specs.Sound.{IsFit, IsGoodJail, AreSoundJails}
 use Rattle.f2b_model.specs.declared.happening.Happening.{Happening}
-use Rattle.f2b_model.specs.Told.{begins, told_each, told_new, told_found, told_banned, told_ends, told_unbanned, told_in, told_done, jails_told, told_found_in_turn, told_banned_in_turn, told_read}
+use Rattle.f2b_model.specs.Told.{begins, told_each, told_new, told_found, told_ends, told_unbanned, told_in, told_done, jails_told, told_found_in_turn, told_banned_in_turn, told_read}
 use Rattle.f2b_model.specs.declared.happening.Happening.TheVariants.{Counts, Ends}
 use Rattle.f2b_model.proofs.ListLemmas.{by_test}
 use Rattle.f2b_model.proofs.StepLemmas.{Shows, out_map, GoodWorld, each_shows, by_time_shows, calm_world, raised_good, ended_good}

@@ -12,8 +12,8 @@ ghost use Rattle.f2b_model.specs.StorableViews.{taken_up, IsStorableView};
 ghost use Rattle.f2b_model.specs.Views.{empty_view, gathered, spread};
 ghost use Rattle.f2b_model.specs.Whole.{is_whole_spent, step_now, told_now};
 ghost use Rattle.f2b_model.specs.declared.jail_now.JailNow.{JailNow};
-ghost use Rattle.jail_rooms.specs.Configured.{configured_now};
-ghost use Rattle.jail_rooms.specs.Kept.{IsTakenInput};
+ghost use Rattle.f2b_model.specs.Configured.{configured_now};
+ghost use Rattle.f2b_model.specs.Bounds.{IsTakenInput};
 ghost use Rattle.jail_rooms.specs.Shown.{ban_from, lately_in, totals_of};
 ghost use Rattle.lane_moves.specs.CheckText.{check_text_of};
 

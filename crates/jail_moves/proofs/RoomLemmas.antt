@@ -28,7 +28,8 @@ use Rattle.f2b_model.proofs.ListLemmas.{by_test, filter_swap}
 use Rattle.f2b_model.proofs.OrderlyLemmas.{all_of-filter, all_of-kept, all_of-push}
 use Rattle.fail_window.specs.Opened.{KeepsLimits, Opened}
 use Rattle.jail_moves.specs.Added.{with_failure}
-use Rattle.jail_moves.specs.Rooms.{Contents, all_ended, jail_in, with_ban, with_count, IsBounded, IsCounted, IsKeptJail, IsStored}
+use Rattle.jail_moves.specs.Rooms.{Contents, all_ended, jail_in, with_ban, with_count, IsCounted, IsKeptJail, IsStored}
+use Rattle.f2b_model.specs.Bounds.{IsBounded}
 
 -- ---- lists
 

@@ -16,7 +16,8 @@ ghost use Rattle.f2b_model.specs.Views.{jail_view};
 ghost use Rattle.f2b_model.specs.Watches.{is_watched, with_place};
 ghost use Rattle.f2b_model.specs.declared.happening.Happening.TheVariants.{Ends};
 ghost use Rattle.jail_moves.specs.Lately.{failed_lately};
-ghost use Rattle.jail_moves.specs.Rooms.{jail_in, stale_in, with_ban, IsBounded, IsCounted, IsKeptJail, IsStored};
+ghost use Rattle.jail_moves.specs.Rooms.{jail_in, stale_in, with_ban, IsCounted, IsKeptJail, IsStored};
+ghost use Rattle.f2b_model.specs.Bounds.{IsBounded};
 
 use crate::bans::{begin, drop_past, end_due, unban};
 use crate::matches::matches_of;

@@ -1,12 +1,12 @@
 -- What happened to the jails alone is done beside the purge, which it leaves.
 use Rattle.std.proofs.Common.{◌≡◌, ℕ, true, false, refl}
 use Rattle.f2b_base.specs.declared.input.What.{What}
-use Rattle.f2b_base.specs.declared.input.What.TheVariants.{Tick, Ended, Config, Stop, CheckFailed}
+use Rattle.f2b_base.specs.declared.input.What.TheVariants.{Tick, Config}
 use Rattle.f2b_model.specs.Nows.{JailsNow}
 use Rattle.f2b_model.specs.Steps.{moves_now, with_serial, done}
 use Rattle.f2b_model.specs.Told.{told_done}
 use Rattle.jail_rooms.specs.Happened.{happened, told_happened}
-use Rattle.jail_rooms.specs.Jails.{is_of_jails}
+use Rattle.f2b_model.specs.OfJails.{is_of_jails}
 
 -- what is done of an input of the jails alone
 pub done_is : (word : ℕ) (what : What) (w : JailsNow) → is_of_jails what ≡ true → done moves_now word what w ≡ with_serial w (happened w.at word what w.next_ban w.jails)

@@ -1,7 +1,7 @@
 pub mod DoneLemmas
 pub mod ConfigureLemmas
 pub mod ConfigureRooms
-pub mod EachLemmas
+pub mod MovedLemmas
 pub mod PlaceLemmas
 pub mod ReadLemmas
 pub mod StoredLemmas

@@ -1,7 +1,5 @@
-pub mod Configured
-pub mod Each
+pub mod Moved
 pub mod Happened
-pub mod Jails
 pub mod Kept
 pub mod Left
 pub mod Places

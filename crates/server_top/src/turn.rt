@@ -3,7 +3,7 @@ ghost use Rattle.std.specs.Prelude.{◌≡◌, ◌≢◌, IfErr, IfOk, IfSome, O
 ghost use Rattle.server_top.specs.Law.{AtClock, AtLook, AtPause, path_of};
 ghost use Rattle.server_top.specs.Stages.{HasCause, IsSteady, Moves, MoveFails, ReadsAt, ReadsLines, Looked, brought, read_by, turn_end};
 ghost use Rattle.f2b_model.specs.Sound.{IsFitWhat};
-ghost use Rattle.jail_rooms.specs.Kept.{IsBoundedWhat};
+ghost use Rattle.f2b_model.specs.Bounds.{IsBoundedWhat};
 ghost use Rattle.log_follow.specs.Followed.{ask_of};
 ghost use Rattle.log_follow.specs.Watches.{Answers};
 ghost use Rattle.f2b_world.specs.declared.answer.Look.TheVariants.{NoMemory as LookNoMemory};
