@@ -13,7 +13,7 @@ ghost use Rattle.f2b_model.specs.Lists.{AreDistinct};
 ghost use Rattle.f2b_model.specs.Sound.{same_kind};
 ghost use Rattle.f2b_base.specs.Limits.{last_moment};
 ghost use Rattle.jail_moves.specs.Rooms.{IsBounded};
-ghost use Rattle.jail_rooms.specs.Kept.{IsTakenInput};
+ghost use Rattle.f2b_model.specs.Bounds.{IsTakenInput};
 
 use f2b_base::{
     ActionDef, Addr, BanRule, Bytes, DateSpec, Defs, Failure, Family, Input, JailDef, LAST_MOMENT,

@@ -1,8 +1,11 @@
 -- How many bans each address has: one more, one that ends, and one that is dropped.
-use Rattle.std.proofs.Common.{◌≡◌, ℕ, ◌+◌, ◌-◌, ◌<◌, Bool, true, false, not, cond, ◌||◌, List, [], ◌∷◌, ◌++◌, length, length-append, Option, None, Result, Ok, Err, refl, sym, ◌∙◌, ap, arith}
+use Rattle.std.proofs.Common.{◌≡◌, ℕ, ◌+◌, ◌-◌, ◌<◌, Bool, true, false, not, cond, ◌||◌, List, [], ◌∷◌, ◌++◌, length, length-append, Option, None, Result, Ok, Err, refl, sym, ◌∙◌, ap, subst, arith}
 use mir.Val.{bool_byte}
 use Rattle.std.specs.BTreeMap as tree
-use Rattle.std.specs.List.{filter, find}
+use Rattle.std.specs.BTreeMap.{BTreeMap, insert_entry, is_at}
+use Rattle.std.specs.List.{All, filter, find}
+use Rattle.std.specs.Map.{remove_entry, values_of}
+use Rattle.std.proofs.lemmas.Map.Views.{All-map-remove_entry, All-values-insert_entry}
 use Rattle.std.specs.Option.{is_some, option_map, unwrap_or}
 use Rattle.std.specs.Result.{OnOk, OnErr}
 use Rattle.std.specs.Ordering.{is_eq}
@@ -22,35 +25,51 @@ use Rattle.ban_table.specs.Tables.{by_serial}
 use Rattle.ban_table.proofs.BanLemmas.{any_placed, other_addr}
 use Rattle.ban_table.proofs.IndexLemmas.{key_same}
 
--- the counts once the number of one address was put in or taken out
-pub counted_put : (old new : Counts) (addr : Addr) (count : Option ℕ)
-    → ((q : ℕ × ℕ) → tree.get pair_cmp new.by_addr q ≡ cond (is_eq (pair_cmp (key_of addr) q)) count (tree.get pair_cmp old.by_addr q))
-    → (other : Addr) → counted new other ≡ cond (same_addr addr other) (unwrap_or count 0) (counted old other)
-counted_put old new addr count put other =
-    let here = put (key_of other) ∙ ap (λ t. cond t count (tree.get pair_cmp old.by_addr (key_of other))) (key_same addr other) in
+-- without a key no number is 0, where none was before
+pub some_left : (k : ℕ × ℕ) (es new : List ((ℕ × ℕ) × ℕ)) → new ≡ remove_entry (is_at (pair_cmp k)) es → All (λ n. 0 < n) (values_of es) → All (λ n. 0 < n) (values_of new)
+some_left k es new is some =
+    subst (λ (r : List ((ℕ × ℕ) × ℕ)). All (λ n. 0 < n) (values_of r)) (sym is) (All-map-remove_entry (is_at (pair_cmp k)) (λ (e : (ℕ × ℕ) × ℕ). e.1) (λ n. 0 < n) es some)
+
+-- nor with one under which a number stands that is not 0, whether memory was there or not
+pub some_put : {T E : Type 0} (r : Result T E) (k : ℕ × ℕ) (count : ℕ) (es new : List ((ℕ × ℕ) × ℕ)) → OnOk r (new ≡ insert_entry pair_cmp es k count) → OnErr r (new ≡ es)
+    → 0 < count → All (λ n. 0 < n) (values_of es) → All (λ n. 0 < n) (values_of new)
+some_put (Ok x) k count es new ok err above some =
+    subst (λ (r : List ((ℕ × ℕ) × ℕ)). All (λ n. 0 < n) (values_of r)) (sym ok) (All-values-insert_entry pair_cmp k count (λ n. 0 < n) es some above)
+some_put (Err e) k count es new ok err above some = subst (λ (r : List ((ℕ × ℕ) × ℕ)). All (λ n. 0 < n) (values_of r)) (sym err) some
+
+-- the number under an address
+abbrev pub number : BTreeMap (ℕ × ℕ) ℕ → Addr → ℕ
+number m addr = unwrap_or (tree.get pair_cmp m (key_of addr)) 0
+
+-- the numbers once that of one address was put in or taken out
+pub number_put : (old new : BTreeMap (ℕ × ℕ) ℕ) (addr : Addr) (count : Option ℕ)
+    → ((q : ℕ × ℕ) → tree.get pair_cmp new q ≡ cond (is_eq (pair_cmp (key_of addr) q)) count (tree.get pair_cmp old q))
+    → (other : Addr) → number new other ≡ cond (same_addr addr other) (unwrap_or count 0) (number old other)
+number_put old new addr count put other =
+    let here = put (key_of other) ∙ ap (λ t. cond t count (tree.get pair_cmp old (key_of other))) (key_same addr other) in
     by_test (same_addr addr other) _
-    (λ e. let h : tree.get pair_cmp new.by_addr (key_of other) ≡ count = rw e at here in rw e (ap (λ o. unwrap_or o 0) h))
-    (λ e. let h : tree.get pair_cmp new.by_addr (key_of other) ≡ tree.get pair_cmp old.by_addr (key_of other) = rw e at here in rw e (ap (λ o. unwrap_or o 0) h))
+    (λ e. let h : tree.get pair_cmp new (key_of other) ≡ count = rw e at here in rw e (ap (λ o. unwrap_or o 0) h))
+    (λ e. let h : tree.get pair_cmp new (key_of other) ≡ tree.get pair_cmp old (key_of other) = rw e at here in rw e (ap (λ o. unwrap_or o 0) h))
 
 -- a number that grew by one
-pub one_more : (old new : Counts) (addr : Addr) → ((other : Addr) → counted new other ≡ cond (same_addr addr other) (counted old addr + 1) (counted old other))
-    → IsOneMore addr old new
+pub one_more : (old new : BTreeMap (ℕ × ℕ) ℕ) (addr : Addr) → ((other : Addr) → number new other ≡ cond (same_addr addr other) (number old addr + 1) (number old other))
+    → (other : Addr) → number new other ≡ number old other + cond (same_addr addr other) 1 0
 one_more old new addr put other =
     let here = put other in
     by_test (same_addr addr other) _
-    (λ e. let same = ap (counted old) (same_addr_true addr other e) in
-    let h : counted new other ≡ counted old addr + 1 = rw e at here in rw e (omega arith))
-    (λ e. let h : counted new other ≡ counted old other = rw e at here in rw e (omega arith))
+    (λ e. let same = ap (number old) (same_addr_true addr other e) in
+    let h : number new other ≡ number old addr + 1 = rw e at here in rw e (omega arith))
+    (λ e. let h : number new other ≡ number old other = rw e at here in rw e (omega arith))
 
 -- a number that fell by one, where it was not 0
-pub one_fewer : (old new : Counts) (addr : Addr) → ((other : Addr) → counted new other ≡ cond (same_addr addr other) (counted old addr - 1) (counted old other))
-    → IsOneFewer addr old new
+pub one_fewer : (old new : BTreeMap (ℕ × ℕ) ℕ) (addr : Addr) → ((other : Addr) → number new other ≡ cond (same_addr addr other) (number old addr - 1) (number old other))
+    → (other : Addr) → number new other ≡ number old other - cond (same_addr addr other) 1 0
 one_fewer old new addr put other =
     let here = put other in
     by_test (same_addr addr other) _
-    (λ e. let same = ap (counted old) (same_addr_true addr other e) in
-    let h : counted new other ≡ counted old addr - 1 = rw e at here in rw e (omega arith))
-    (λ e. let h : counted new other ≡ counted old other = rw e at here in rw e (omega arith))
+    (λ e. let same = ap (number old) (same_addr_true addr other e) in
+    let h : number new other ≡ number old addr - 1 = rw e at here in rw e (omega arith))
+    (λ e. let h : number new other ≡ number old other = rw e at here in rw e (omega arith))
 
 -- what can not have failed was done
 pub not_failed : {T E : Type 0} (r : Result T E) (P Q : Type 0) → OnOk r P → OnErr r Q → (Q → ⊥) → P

@@ -1,7 +1,7 @@
 //! How many bans each address has. A ban counts from its start until its past entry is dropped, so its end changes no count.
-ghost use Rattle.std.specs.Prelude.{◌≡◌, ◌<◌, ◌-◌, ◌^◌, [], IfOk, OnOk, OnErr};
+ghost use Rattle.std.specs.Prelude.{◌≡◌, ◌<◌, ◌-◌, ◌^◌, [], All, IfOk, OnOk, OnErr};
+ghost use Rattle.std.specs.BTreeMap.{values};
 ghost use Rattle.f2b_base.specs.declared.addr.Addr.{Addr};
-ghost use Rattle.ban_table.specs.Counts.{counted, IsOneMore, IsOneFewer, IsAsMany, IsCountOf};
 
 use crate::addresses::key_of;
 use f2b_base::{Addr, NoMemory, Past};
@@ -11,11 +11,14 @@ use std::collections::BTreeMap;
 /// How many bans each address has.
 #[derive(Drop)]
 pub struct Counts {
-    /// No address that has none.
     by_addr: BTreeMap<(u8, u128), u64>,
+    /// An address that has none is not kept.
+    ghost some: { All (λ count. 0 < count) (values by_addr) },
 }
 
 impl Counts {
+    ghost use Rattle.ban_table.specs.Counts.{counted, IsOneMore, IsOneFewer, IsAsMany, IsCountOf};
+
     /// No bans. Takes no memory.
     pub fn new(alloc: Global) -> Counts
         ensures { IsCountOf result [] [] }

@@ -4,19 +4,16 @@ use Rattle.std.proofs.Common.{◌≡◌, ℕ, max, ◌≤◌, Bool, true, false,
 use Rattle.std.specs.Prelude.{bytes_eq, sum}
 use Rattle.std.proofs.lemmas.List.{length-map}
 use Rattle.f2b_base.specs.Limits.{last_moment}
-use Rattle.f2b_base.specs.declared.addr.Addr.{Addr}
 use Rattle.f2b_base.specs.declared.addr.Cidr.{Cidr}
-use Rattle.f2b_base.specs.declared.ban.Failure.{Failure}
 use Rattle.f2b_base.specs.declared.input.Input.{Input}
 use Rattle.f2b_base.specs.declared.input.What.{What}
-use Rattle.f2b_base.specs.declared.input.What.TheVariants.{Tick, Read, Ended, Config, Stop, Ban as BanThese, Unban, Attempt, Ignore, Findtime, Bantime, Maxretry, Idle, CheckFailed}
+use Rattle.f2b_base.specs.declared.input.What.TheVariants.{Config}
 use Rattle.f2b_base.specs.declared.jail.JailDef.{JailDef}
 use Rattle.f2b_model.specs.declared.jail_now.JailNow.{JailNow}
 use Rattle.f2b_model.specs.Lists.{AreDistinct}
 use Rattle.f2b_model.specs.Moves.{ignored}
-use Rattle.f2b_model.specs.NowMoves.{found_now, banned_now}
 use Rattle.f2b_model.specs.Nows.{JailsNow}
-use Rattle.f2b_model.specs.Steps.{moves_now, named, names, is_spent, at_jail, at_reading, is_followed, followed_to, found_all, ban_all, done, jails_step_now}
+use Rattle.f2b_model.specs.Steps.{moves_now, named, names, is_spent, at_reading, done, jails_step_now}
 use Rattle.f2b_model.specs.Storable.{longest_span, patterns_of, AreFewPatterns, IsStorableInput, IsStorableWhat}
 use Rattle.f2b_model.proofs.ListLemmas.{by_test}
 use Rattle.f2b_model.proofs.NameLemmas.{name_of, all_seen, seen_after, keeps_now, moves_now_names, step_names, Keeps}
@@ -26,30 +23,9 @@ use Rattle.f2b_model.proofs.NameLemmas.{name_of, all_seen, seen_after, keeps_now
 abbrev pub IsBeside : JailsNow → Type 0
 IsBeside w = (w.at ≤ last_moment) × (w.purge ≤ longest_span)
 
-found_all_beside : (word : ℕ) (name : List ℕ) (fs : List Failure) (w : JailsNow) → IsBeside w → IsBeside (found_all moves_now word name fs w)
-found_all_beside word name [] w b = b
-found_all_beside word name (f ∷ fs) w b = found_all_beside word name fs (at_jail moves_now name (λ n j. found_now w.at word n f j) w) b
-
-ban_all_beside : (word : ℕ) (name : List ℕ) (addrs : List Addr) (w : JailsNow) → IsBeside w → IsBeside (ban_all moves_now word name addrs w)
-ban_all_beside word name [] w b = b
-ban_all_beside word name (addr ∷ addrs) w b = ban_all_beside word name addrs (at_jail moves_now name (λ n j. banned_now w.at word n addr j) w) b
-
 done_beside : (word : ℕ) (what : What) (w : JailsNow) → IsStorableWhat what → IsBeside w → IsBeside (done moves_now word what w)
-done_beside word (Read jail path place fs) w s b =
-    by_test (is_followed moves_now jail path w) _ (λ t. rw t (found_all_beside word jail fs (followed_to moves_now jail path place w) b)) (λ t. rw t b)
-done_beside word (Attempt jail addr) w s b = found_all_beside word jail (record { addr = addr; time = w.at; line = [] } ∷ []) w b
-done_beside word (BanThese jail addrs) w s b = ban_all_beside word jail addrs w b
 done_beside word (Config defs) w s b = (b.0, s.purge)
-done_beside word Tick w s b = b
-done_beside word (Unban jail addrs) w s b = b
-done_beside word (Findtime jail secs) w s b = b
-done_beside word (Bantime jail secs) w s b = b
-done_beside word (Maxretry jail number) w s b = b
-done_beside word (Idle jail idle) w s b = b
-done_beside word (Ignore jail cidr add) w s b = b
-done_beside word (Ended job outcome) w s b = b
-done_beside word (CheckFailed job outcome) w s b = b
-done_beside word Stop w s b = b
+done_beside word what w s b = b
 
 pub step_beside : (w : JailsNow) (input : Input) → IsStorableInput input → IsBeside w → IsBeside (jails_step_now w input)
 step_beside w input s b =

@@ -20,17 +20,17 @@ use Rattle.f2b_base.specs.Addresses.{same_addr}
 use Rattle.f2b_model.specs.LaneSound.{AtMostOne, IsBanStep, Follows, AreAlike, NonePasses, follow_told, led_to}
 use Rattle.f2b_model.specs.Lists.{AllOf, AreDistinct, in_order}
 use Rattle.f2b_model.specs.Moves.{JailAndSerial, is_banned}
-use Rattle.f2b_model.specs.NowMoves.{dropped_now, found_now, banned_now}
+use Rattle.f2b_model.specs.NowMoves.{dropped_now}
 use Rattle.f2b_model.specs.Nows.{JailsNow}
 use Rattle.f2b_model.specs.Orders.{is_held_of, is_active}
 use Rattle.f2b_model.specs.Sound.{IsFit, IsFitWhat, IsOnceEach}
-use Rattle.f2b_model.specs.Steps.{moves_now, named, names, is_spent, is_due, own_end, ends_before, is_meant_jail, ended_by_time, unbanned, in_jail, at_jail, alone, find_jail, is_followed, followed_to, found_all, ban_all, kept_or_fresh, configured, done, at_reading, jails_step_now}
-use Rattle.f2b_model.specs.Told.{told_each, told_ends, told_in, told_found, told_banned, told_unbanned, told_all_found, told_all_banned, told_done, jails_told}
+use Rattle.f2b_model.specs.Steps.{moves_now, named, names, is_spent, is_due, own_end, ends_before, is_meant_jail, ended_by_time, unbanned, in_jail, at_jail, alone, find_jail, kept_or_fresh, configured, done, at_reading, jails_step_now, found_in_turn, read_in_jail, banned_in_turn}
+use Rattle.f2b_model.specs.Told.{told_each, told_ends, told_in, told_unbanned, told_done, jails_told, told_found_in_turn, told_banned_in_turn, told_read}
 use Rattle.f2b_model.proofs.FollowLemmas.{follow_told-append, follows_nothing, follows_both}
 use Rattle.f2b_model.proofs.FullLemmas.{not_true_both, same_test}
-use Rattle.f2b_model.proofs.LeadLemmas.{Leads, leads_by_time, leads_unbanned, leads_found, leads_banned, once_end_all}
+use Rattle.f2b_model.proofs.LeadLemmas.{Leads, leads_by_time, leads_unbanned, once_end_all, leads_found_in_turn, leads_read, leads_banned_in_turn}
 use Rattle.f2b_model.proofs.ListLemmas.{by_test}
-use Rattle.f2b_model.proofs.NameLemmas.{moves_now_names, by_time_name, each_names, in_jail_names, followed_to_names, unbanned_name, configured_names, at_reading_names}
+use Rattle.f2b_model.proofs.NameLemmas.{moves_now_names, by_time_name, each_names, in_jail_names, unbanned_name, configured_names, at_reading_names, found_in_turn_name, read_in_jail_name, banned_in_turn_name}
 use Rattle.f2b_model.proofs.SameLemmas.{bytes_eq-true, same_addr-true}
 use Rattle.f2b_model.proofs.StepLemmas.{all_of-map}
 
@@ -173,30 +173,6 @@ module _ (at : List ℕ) (t : JailNow → List Happening) (g : ℕ → JailNow �
         ∙ ap (λ b. Some b) (sym (active_is name addr (in_jail moves_now at g n js).jails after));
   }
 
-found_follows : (word : ℕ) (name : List ℕ) (fs : List Failure) (w : JailsNow) → AreDistinct bytes_eq (names moves_now w.jails)
-    → Follows (told_all_found moves_now word name fs w) (held moves_now w) (held moves_now (found_all moves_now word name fs w))
-found_follows word name [] w d = follows_nothing _ _ (λ jail addr. refl)
-found_follows word name (f ∷ fs) w d =
-    let g : ℕ → JailNow → JailAndSerial JailNow = λ n j. found_now w.at word n f j in
-    let keeps : (n : ℕ) (j : JailNow) → named moves_now (g n j).jail ≡ named moves_now j = λ n j. moves_now_names.found w.at word n f j in
-    let next = at_jail moves_now name g w in
-    follows_both (told_in moves_now name (told_found moves_now w.at word f w.next_ban) w.jails) (told_all_found moves_now word name fs next) (held moves_now w) (held moves_now next)
-    (held moves_now (found_all moves_now word name fs next))
-    (in_follows name (told_found moves_now w.at word f w.next_ban) g w.next_ban keeps (λ j. leads_found w.at word w.next_ban f j) w.jails d)
-    (found_follows word name fs next (subst (AreDistinct bytes_eq) (sym (in_jail_names moves_now moves_now_names name g keeps w.next_ban w.jails)) d))
-
-banned_follows : (word : ℕ) (name : List ℕ) (addrs : List Addr) (w : JailsNow) → AreDistinct bytes_eq (names moves_now w.jails)
-    → Follows (told_all_banned moves_now word name addrs w) (held moves_now w) (held moves_now (ban_all moves_now word name addrs w))
-banned_follows word name [] w d = follows_nothing _ _ (λ jail addr. refl)
-banned_follows word name (a ∷ addrs) w d =
-    let g : ℕ → JailNow → JailAndSerial JailNow = λ n j. banned_now w.at word n a j in
-    let keeps : (n : ℕ) (j : JailNow) → named moves_now (g n j).jail ≡ named moves_now j = λ n j. moves_now_names.banned w.at word n a j in
-    let next = at_jail moves_now name g w in
-    follows_both (told_in moves_now name (told_banned moves_now w.at word a w.next_ban) w.jails) (told_all_banned moves_now word name addrs next) (held moves_now w) (held moves_now next)
-    (held moves_now (ban_all moves_now word name addrs next))
-    (in_follows name (told_banned moves_now w.at word a w.next_ban) g w.next_ban keeps (λ j. leads_banned w.at word w.next_ban a j) w.jails d)
-    (banned_follows word name addrs next (subst (AreDistinct bytes_eq) (sym (in_jail_names moves_now moves_now_names name g keeps w.next_ban w.jails)) d))
-
 -- a move that changes no ban
 held_alone : (name : List ℕ) (f : JailNow → JailNow) → ((j : JailNow) → (named moves_now (f j) ≡ named moves_now j) × ((f j).bans ≡ j.bans)) → (n : ℕ) (js : List JailNow)
     → held_by moves_now (in_jail moves_now name (alone moves_now f) n js).jails ≡ held_by moves_now js
@@ -224,15 +200,11 @@ pub done_follows : (word : ℕ) (what : What) (w : JailsNow) → AreDistinct byt
     → Follows (told_done moves_now word what w) (held moves_now w) (led_to what (held moves_now w) (held moves_now (done moves_now word what w)))
 done_follows word Tick w d once = follows_nothing _ _ (λ jail addr. refl)
 done_follows word (Read jail path place fs) w d once =
-    by_test (is_followed moves_now jail path w) _
-    (λ t.
-    let there = followed_to moves_now jail path place w in
-    let same : held moves_now there ≡ held moves_now w = held_alone jail (moves_now.followed path place) (λ j. (refl, refl)) w.next_ban w.jails in
-    let d2 = subst (AreDistinct bytes_eq) (sym (followed_to_names moves_now moves_now_names jail path place w)) d in
-    let follows = found_follows word jail fs there d2 in
-    rw t (subst (λ hs. Follows (told_all_found moves_now word jail fs there) hs (held moves_now (found_all moves_now word jail fs there))) same follows))
-    (λ t. rw t (follows_nothing (held moves_now w) (held moves_now w) (λ jail addr. refl)))
-done_follows word (BanThese jail addrs) w d once = banned_follows word jail addrs w d
+    in_follows jail (told_read moves_now w.at word path place fs w.next_ban) (read_in_jail moves_now w.at word path place fs) w.next_ban
+    (read_in_jail_name moves_now moves_now_names w.at word path place fs) (leads_read w.at word path place fs w.next_ban) w.jails d
+done_follows word (BanThese jail addrs) w d once =
+    in_follows jail (told_banned_in_turn moves_now w.at word addrs w.next_ban) (banned_in_turn moves_now w.at word addrs) w.next_ban
+    (banned_in_turn_name moves_now moves_now_names w.at word addrs) (leads_banned_in_turn w.at word addrs w.next_ban) w.jails d
 done_follows word (Unban jail addrs) w d once =
     each_follows (told_unbanned moves_now jail addrs) (λ j. cond (is_meant_jail jail j.definition) (unbanned moves_now w.at addrs j) j)
     (unbanned_name moves_now moves_now_names w.at jail addrs) w.jails (all_lead w.jails once) d
@@ -241,7 +213,10 @@ done_follows word (Unban jail addrs) w d once =
         → AllOf (λ (j : JailNow). Leads j.definition.name (told_unbanned moves_now jail addrs j) j.bans (cond (is_meant_jail jail j.definition) (unbanned moves_now w.at addrs j) j).bans) js
     all_lead [] a = tt
     all_lead (j ∷ js) a = (leads_unbanned w.at jail addrs j a.0, all_lead js a.1)
-done_follows word (Attempt jail addr) w d once = found_follows word jail (record { addr = addr; time = w.at; line = [] } ∷ []) w d
+done_follows word (Attempt jail addr) w d once =
+    let fs : List Failure = record { addr = addr; time = w.at; line = [] } ∷ [] in
+    in_follows jail (told_found_in_turn moves_now w.at word fs w.next_ban) (found_in_turn moves_now w.at word fs) w.next_ban
+    (found_in_turn_name moves_now moves_now_names w.at word fs) (leads_found_in_turn w.at word fs w.next_ban) w.jails d
 done_follows word (Findtime jail secs) w d once =
     alone_follows jail (λ j. moves_now.limited secs j.definition.maxretry j) (λ j. (moves_now_names.limited secs j.definition.maxretry j, limited_bans secs j.definition.maxretry j)) w
 done_follows word (Bantime jail secs) w d once = alone_follows jail (moves_now.spanned secs) (λ j. (refl, refl)) w

@@ -16,12 +16,15 @@ use Rattle.f2b_model.specs.Lists.{AllOf, in_order, placed, placed_all}
 use Rattle.f2b_model.specs.Moves.{counts, ban_of, is_banned, is_near, new_ban}
 use Rattle.f2b_model.specs.NowMoves.{shown_now, counted_now, found_now, banned_now, ended_now}
 use Rattle.f2b_model.specs.Sound.{IsOnceEach}
-use Rattle.f2b_model.specs.Steps.{moves_now, is_due, own_end, ends_before, is_meant, is_meant_jail, end_all, ended_by_time, unbanned}
-use Rattle.f2b_model.specs.Told.{begins, told_found, told_banned, told_ends, told_unbanned}
+use Rattle.f2b_base.specs.declared.jail.Place.{Place}
+use Rattle.f2b_model.specs.Watches.{is_watched}
+use Rattle.f2b_model.specs.Steps.{moves_now, is_due, own_end, ends_before, is_meant, is_meant_jail, end_all, ended_by_time, unbanned, found_in_turn, read_in_jail, banned_in_turn}
+use Rattle.f2b_model.specs.Told.{begins, told_found, told_banned, told_ends, told_unbanned, told_found_in_turn, told_banned_in_turn, told_read}
 use Rattle.f2b_model.proofs.EndLemmas.{all_not, all_placed_all, same_addr_same}
 use Rattle.f2b_model.proofs.FollowLemmas.{follow_told-append}
 use Rattle.f2b_model.proofs.FullLemmas.{both_true}
 use Rattle.f2b_model.proofs.ListLemmas.{by_test}
+use Rattle.f2b_model.proofs.NameLemmas.{moves_now_names}
 use Rattle.f2b_model.proofs.OrderlyLemmas.{all_of-filter, once_filter, same_addr_sym}
 use Rattle.f2b_model.proofs.SoundLemmas.{same_addr_true, not_true}
 use Rattle.f2b_model.proofs.StepLemmas.{all_of-more}
@@ -193,7 +196,7 @@ leads_new name lines b bs free = subst (λ ds. Leads name (map (begins lines nam
 leads_none_new : (name lines : List ℕ) (bs : List Ban) → Leads name (map (begins lines name) (drop (length bs) bs)) bs bs
 leads_none_new name lines bs = subst (λ ds. Leads name (map (begins lines name) ds) bs bs) (sym (none_new bs)) (leads_nothing name bs)
 
-pub leads_found : (at word n : ℕ) (f : Failure) (j : JailNow) → Leads j.definition.name (told_found moves_now at word f n j) j.bans (found_now at word n f j).jail.bans
+leads_found : (at word n : ℕ) (f : Failure) (j : JailNow) → Leads j.definition.name (told_found moves_now at word f n j) j.bans (found_now at word n f j).jail.bans
 leads_found at word n f j =
     by_test (counts at j.definition j.bans f) _
     (λ e.
@@ -210,11 +213,39 @@ leads_found at word n f j =
     (leads_count name f.addr j.bans) (leads_none_new name lines j.bans)))))
     (λ e. rw e (leads_nothing j.definition.name j.bans))
 
-pub leads_banned : (at word n : ℕ) (addr : Addr) (j : JailNow) → Leads j.definition.name (told_banned moves_now at word addr n j) j.bans (banned_now at word n addr j).jail.bans
+leads_banned : (at word n : ℕ) (addr : Addr) (j : JailNow) → Leads j.definition.name (told_banned moves_now at word addr n j) j.bans (banned_now at word n addr j).jail.bans
 leads_banned at word n addr j =
     by_test (is_banned addr j.bans) _
     (λ e. rw e (leads_none_new j.definition.name [] j.bans))
     (λ e. rw e (leads_new j.definition.name [] (new_ban j.definition j.past at word n addr 0) j.bans e))
+
+-- what moves one after the other tell
+pub leads_found_in_turn : (at word : ℕ) (fs : List Failure) (n : ℕ) (j : JailNow)
+    → Leads j.definition.name (told_found_in_turn moves_now at word fs n j) j.bans (found_in_turn moves_now at word fs n j).jail.bans
+leads_found_in_turn at word [] n j = leads_nothing j.definition.name j.bans
+leads_found_in_turn at word (f ∷ fs) n j =
+    let o = found_now at word n f j in
+    let rest = told_found_in_turn moves_now at word fs o.next o.jail in
+    let after = (found_in_turn moves_now at word fs o.next o.jail).jail.bans in
+    leads_both j.definition.name (told_found moves_now at word f n j) rest j.bans o.jail.bans after (leads_found at word n f j)
+    (subst (λ name. Leads name rest o.jail.bans after) (moves_now_names.found at word n f j) (leads_found_in_turn at word fs o.next o.jail))
+
+pub leads_read : (at word : ℕ) (path : List ℕ) (place : Place) (fs : List Failure) (n : ℕ) (j : JailNow)
+    → Leads j.definition.name (told_read moves_now at word path place fs n j) j.bans (read_in_jail moves_now at word path place fs n j).jail.bans
+leads_read at word path place fs n j =
+    by_test (is_watched path j.watches) _
+    (λ t. rw t (leads_found_in_turn at word fs n (moves_now.followed path place j)))
+    (λ t. rw t (leads_nothing j.definition.name j.bans))
+
+pub leads_banned_in_turn : (at word : ℕ) (addrs : List Addr) (n : ℕ) (j : JailNow)
+    → Leads j.definition.name (told_banned_in_turn moves_now at word addrs n j) j.bans (banned_in_turn moves_now at word addrs n j).jail.bans
+leads_banned_in_turn at word [] n j = leads_nothing j.definition.name j.bans
+leads_banned_in_turn at word (addr ∷ addrs) n j =
+    let o = banned_now at word n addr j in
+    let rest = told_banned_in_turn moves_now at word addrs o.next o.jail in
+    let after = (banned_in_turn moves_now at word addrs o.next o.jail).jail.bans in
+    leads_both j.definition.name (told_banned moves_now at word addr n j) rest j.bans o.jail.bans after (leads_banned at word n addr j)
+    (subst (λ name. Leads name rest o.jail.bans after) (moves_now_names.banned at word n addr j) (leads_banned_in_turn at word addrs o.next o.jail))
 
 -- no address is banned twice once bans have ended
 pub once_end_all : (moment : Ban → ℕ) (ds : List Ban) (j : JailNow) → IsOnceEach j.bans → IsOnceEach (end_all moves_now moment ds j).bans

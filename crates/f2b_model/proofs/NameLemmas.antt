@@ -20,7 +20,8 @@ use Rattle.f2b_model.specs.NowMoves.{counted_now}
 use Rattle.f2b_model.specs.Nows.{jail_now, jail_from}
 use Rattle.f2b_model.specs.Sound.{IsFitWhat}
 use Rattle.f2b_model.specs.State.{Jail, JailsOf, open_of, active_of}
-use Rattle.f2b_model.specs.Steps.{JailOps, moves, moves_now, names, is_spent, is_due, own_end, ends_before, is_meant, is_meant_jail, end_all, ended_by_time, unbanned, in_jail, at_jail, alone, find_jail, is_followed, followed_to, found_all, read_all, ban_all, kept_or_fresh, configured, done, raised, at_reading, step_by}
+use Rattle.f2b_model.specs.Watches.{is_watched}
+use Rattle.f2b_model.specs.Steps.{JailOps, moves, moves_now, names, is_spent, is_due, own_end, ends_before, is_meant, is_meant_jail, end_all, ended_by_time, unbanned, in_jail, at_jail, alone, find_jail, kept_or_fresh, configured, done, raised, at_reading, step_by, found_in_turn, read_in_jail, banned_in_turn}
 use Rattle.f2b_model.proofs.ListLemmas.{by_test}
 
 -- what is seen of the definition of a jail, and of the definitions of jails
@@ -123,25 +124,20 @@ module _ {J X : Type 0} (m : JailOps J) {see : JailDef → X} (keeps : Keeps m s
       (λ t. rw t (ap (λ x. x ∷ all_seen m see js) (e n j)))
       (λ t. rw t (ap (λ ns. seen m see j ∷ ns) (in_jail_names name f e n js)))
 
-  pub found_all_names : (word : ℕ) (name : List ℕ) (fs : List Failure) (w : JailsOf J) → all_seen m see (found_all m word name fs w).jails ≡ all_seen m see w.jails
-  found_all_names word name [] w = refl
-  found_all_names word name (f ∷ fs) w =
-      found_all_names word name fs (at_jail m name (λ n j. m.found w.at word n f j) w)
-      ∙ in_jail_names name (λ n j. m.found w.at word n f j) (λ n j. keeps.found w.at word n f j) w.next_ban w.jails
+  pub found_in_turn_name : (at word : ℕ) (fs : List Failure) (n : ℕ) (j : J) → seen m see (found_in_turn m at word fs n j).jail ≡ seen m see j
+  found_in_turn_name at word [] n j = refl
+  found_in_turn_name at word (f ∷ fs) n j = let o = m.found at word n f j in found_in_turn_name at word fs o.next o.jail ∙ keeps.found at word n f j
 
-  pub ban_all_names : (word : ℕ) (name : List ℕ) (addrs : List Addr) (w : JailsOf J) → all_seen m see (ban_all m word name addrs w).jails ≡ all_seen m see w.jails
-  ban_all_names word name [] w = refl
-  ban_all_names word name (addr ∷ addrs) w =
-      ban_all_names word name addrs (at_jail m name (λ n j. m.banned w.at word n addr j) w)
-      ∙ in_jail_names name (λ n j. m.banned w.at word n addr j) (λ n j. keeps.banned w.at word n addr j) w.next_ban w.jails
+  pub banned_in_turn_name : (at word : ℕ) (addrs : List Addr) (n : ℕ) (j : J) → seen m see (banned_in_turn m at word addrs n j).jail ≡ seen m see j
+  banned_in_turn_name at word [] n j = refl
+  banned_in_turn_name at word (addr ∷ addrs) n j =
+      let o = m.banned at word n addr j in banned_in_turn_name at word addrs o.next o.jail ∙ keeps.banned at word n addr j
 
-  pub followed_to_names : (name path : List ℕ) (place : Place) (w : JailsOf J) → all_seen m see (followed_to m name path place w).jails ≡ all_seen m see w.jails
-  followed_to_names name path place w = in_jail_names name (alone m (m.followed path place)) (λ n j. keeps.followed path place j) w.next_ban w.jails
-
-  read_all_names : (word : ℕ) (name path : List ℕ) (place : Place) (fs : List Failure) (w : JailsOf J) → all_seen m see (read_all m word name path place fs w).jails ≡ all_seen m see w.jails
-  read_all_names word name path place fs w =
-      by_test (is_followed m name path w) _
-      (λ t. rw t (found_all_names word name fs (followed_to m name path place w) ∙ followed_to_names name path place w))
+  pub read_in_jail_name : (at word : ℕ) (path : List ℕ) (place : Place) (fs : List Failure) (n : ℕ) (j : J)
+      → seen m see (read_in_jail m at word path place fs n j).jail ≡ seen m see j
+  read_in_jail_name at word path place fs n j =
+      by_test (is_watched path (m.watches j)) _
+      (λ t. rw t (found_in_turn_name at word fs n (m.followed path place j) ∙ keeps.followed path place j))
       (λ t. rw t refl)
 
   pub configured_names : (ds : List JailDef) (js : List J) → all_seen m see (configured m ds js) ≡ map see ds
@@ -162,11 +158,13 @@ module _ {J X : Type 0} (m : JailOps J) {see : JailDef → X} (keeps : Keeps m s
 
   pub done_names : (word : ℕ) (what : What) (w : JailsOf J) → all_seen m see (done m word what w).jails ≡ seen_after see what (all_seen m see w.jails)
   done_names word Tick w = refl
-  done_names word (Read jail path place fs) w = read_all_names word jail path place fs w
-  done_names word (BanThese jail addrs) w = ban_all_names word jail addrs w
+  done_names word (Read jail path place fs) w = in_jail_names jail (read_in_jail m w.at word path place fs) (read_in_jail_name w.at word path place fs) w.next_ban w.jails
+  done_names word (BanThese jail addrs) w = in_jail_names jail (banned_in_turn m w.at word addrs) (banned_in_turn_name w.at word addrs) w.next_ban w.jails
   done_names word (Unban jail addrs) w =
       each_names (λ j. cond (is_meant_jail jail (m.definition j)) (unbanned m w.at addrs j) j) (unbanned_name w.at jail addrs) w.jails
-  done_names word (Attempt jail addr) w = found_all_names word jail (record { addr = addr; time = w.at; line = [] } ∷ []) w
+  done_names word (Attempt jail addr) w =
+      let fs : List Failure = record { addr = addr; time = w.at; line = [] } ∷ [] in
+      in_jail_names jail (found_in_turn m w.at word fs) (found_in_turn_name w.at word fs) w.next_ban w.jails
   done_names word (Findtime jail secs) w = alone_names jail (λ j. m.limited secs (m.definition j).maxretry j) (λ j. keeps.limited secs (m.definition j).maxretry j) w
   done_names word (Bantime jail secs) w = alone_names jail (m.spanned secs) (keeps.spanned secs) w
   done_names word (Maxretry jail number) w = alone_names jail (λ j. m.limited (m.definition j).findtime number j) (λ j. keeps.limited (m.definition j).findtime number j) w

@@ -15,7 +15,9 @@ use Rattle.f2b_model.specs.Full.{is_full}
 use Rattle.f2b_model.specs.Nows.{JailsNow}
 use Rattle.f2b_model.specs.Moves.{JailAndSerial, counts, is_banned, is_near, ban_of, new_ban}
 use Rattle.f2b_model.specs.NowMoves.{found_now, counted_now, begun_now, banned_now, ended_now, limited_now}
-use Rattle.f2b_model.specs.Steps.{moves_now, is_spent, is_due, own_end, ends_before, is_meant, is_meant_jail, end_all, ended_by_time, unbanned, in_jail, find_jail, kept_or_fresh, configured, at_jail, alone, is_followed, followed_to, found_all, ban_all, done, each_jail, raised, jails_step_now}
+use Rattle.f2b_base.specs.declared.jail.Place.{Place}
+use Rattle.f2b_model.specs.Watches.{is_watched}
+use Rattle.f2b_model.specs.Steps.{moves_now, is_spent, is_due, own_end, ends_before, is_meant, is_meant_jail, end_all, ended_by_time, unbanned, in_jail, find_jail, kept_or_fresh, configured, at_jail, alone, done, each_jail, raised, jails_step_now, found_in_turn, read_in_jail, banned_in_turn}
 use Rattle.f2b_model.specs.Sound.{IsNumbered, IsRisingSerials}
 use Rattle.f2b_model.specs.Laws.{AreNumbered}
 use Rattle.f2b_model.proofs.ListLemmas.{by_test}
@@ -90,17 +92,31 @@ at_jail_numbered : (name : List ℕ) (f : ℕ → JailNow → JailAndSerial Jail
     → AreNumbered (at_jail moves_now name f w)
 at_jail_numbered name f w e a = (in_jail_numbered name f w.next_ban w.jails e a).1
 
-found_all_numbered : (word : ℕ) (name : List ℕ) (fs : List Failure) (w : JailsNow) → AreNumbered w → AreNumbered (found_all moves_now word name fs w)
-found_all_numbered word name [] w a = a
-found_all_numbered word name (f ∷ fs) w a =
-    found_all_numbered word name fs (at_jail moves_now name (λ n j. found_now w.at word n f j) w)
-    (at_jail_numbered name (λ n j. found_now w.at word n f j) w (found_numbered w.at word w.next_ban f) a)
+later : (a b c : ℕ) → a ≤ b → b ≤ c → a ≤ c
+later a b c h g = omega arith
 
-ban_all_numbered : (word : ℕ) (name : List ℕ) (addrs : List Addr) (w : JailsNow) → AreNumbered w → AreNumbered (ban_all moves_now word name addrs w)
-ban_all_numbered word name [] w a = a
-ban_all_numbered word name (f ∷ fs) w a =
-    ban_all_numbered word name fs (at_jail moves_now name (λ n j. banned_now w.at word n f j) w)
-    (at_jail_numbered name (λ n j. banned_now w.at word n f j) w (banned_numbered w.at word w.next_ban f) a)
+found_in_turn_numbered : (at word : ℕ) (fs : List Failure) (n : ℕ) (j : JailNow) → Good n j → GoodOut n (found_in_turn moves_now at word fs n j)
+found_in_turn_numbered at word [] n j good = (omega arith, good)
+found_in_turn_numbered at word (f ∷ fs) n j good =
+    let o = found_now at word n f j in
+    let one = found_numbered at word n f j good in
+    let rest = found_in_turn_numbered at word fs o.next o.jail one.1 in
+    (later n o.next _ one.0 rest.0, rest.1)
+
+read_in_jail_numbered : (at word : ℕ) (path : List ℕ) (place : Place) (fs : List Failure) (n : ℕ) (j : JailNow) → Good n j
+    → GoodOut n (read_in_jail moves_now at word path place fs n j)
+read_in_jail_numbered at word path place fs n j good =
+    by_test (is_watched path j.watches) _
+    (λ t. rw t (found_in_turn_numbered at word fs n (moves_now.followed path place j) good))
+    (λ t. rw t (omega arith, good))
+
+banned_in_turn_numbered : (at word : ℕ) (addrs : List Addr) (n : ℕ) (j : JailNow) → Good n j → GoodOut n (banned_in_turn moves_now at word addrs n j)
+banned_in_turn_numbered at word [] n j good = (omega arith, good)
+banned_in_turn_numbered at word (addr ∷ addrs) n j good =
+    let o = banned_now at word n addr j in
+    let one = banned_numbered at word n addr j good in
+    let rest = banned_in_turn_numbered at word addrs o.next o.jail one.1 in
+    (later n o.next _ one.0 rest.0, rest.1)
 
 configured_numbered : (n : ℕ) (ds : List JailDef) (js : List JailNow) → AllOf (Good n) js → AllOf (Good n) (configured moves_now ds js)
 configured_numbered n [] js a = tt
@@ -113,17 +129,17 @@ configured_numbered n (d ∷ ds) js a = (one js a, configured_numbered n ds js a
 done_numbered : (word : ℕ) (what : What) (w : JailsNow) → AreNumbered w → AreNumbered (done moves_now word what w)
 done_numbered word Tick w a = a
 done_numbered word (Read jail path place fs) w a =
-    by_test (is_followed moves_now jail path w) _
-    (λ t. rw t (found_all_numbered word jail fs (followed_to moves_now jail path place w)
-    (at_jail_numbered jail (alone moves_now (moves_now.followed path place)) w (λ j good. (omega arith, good)) a)))
-    (λ t. rw t a)
-done_numbered word (BanThese jail addrs) w a = ban_all_numbered word jail addrs w a
+    at_jail_numbered jail (read_in_jail moves_now w.at word path place fs) w (read_in_jail_numbered w.at word path place fs w.next_ban) a
+done_numbered word (BanThese jail addrs) w a =
+    at_jail_numbered jail (banned_in_turn moves_now w.at word addrs) w (banned_in_turn_numbered w.at word addrs w.next_ban) a
 done_numbered word (Unban jail addrs) w a =
     all_of-map (Good w.next_ban) (Good w.next_ban) (λ j. cond (is_meant_jail jail j.definition) (unbanned moves_now w.at addrs j) j)
     (λ j good. by_test (is_meant_jail jail j.definition) _
     (λ t. rw t (end_all_numbered w.next_ban (λ b. w.at) (filter (is_meant addrs) j.bans) j good)) (λ t. rw t good))
     w.jails a
-done_numbered word (Attempt jail addr) w a = found_all_numbered word jail (record { addr = addr; time = w.at; line = [] } ∷ []) w a
+done_numbered word (Attempt jail addr) w a =
+    let fs : List Failure = record { addr = addr; time = w.at; line = [] } ∷ [] in
+    at_jail_numbered jail (found_in_turn moves_now w.at word fs) w (found_in_turn_numbered w.at word fs w.next_ban) a
 done_numbered word (Findtime jail secs) w a =
     at_jail_numbered jail (alone moves_now (λ j. limited_now secs j.definition.maxretry j)) w (λ j good. (omega arith, limited_numbered w.next_ban secs j.definition.maxretry j good)) a
 done_numbered word (Bantime jail secs) w a = at_jail_numbered jail (alone moves_now (moves_now.spanned secs)) w (λ j good. (omega arith, good)) a

@@ -13,11 +13,12 @@ use Rattle.f2b_model.specs.Full.{is_full}
 use Rattle.f2b_model.specs.Moves.{JailAndSerial, counts, is_banned}
 use Rattle.f2b_model.specs.NowMoves.{counted_now, found_now, banned_now, limited_now}
 use Rattle.f2b_model.specs.Nows.{JailsNow}
-use Rattle.f2b_model.specs.Steps.{moves_now, is_spent, in_jail, at_jail, alone, is_followed, followed_to, found_all, ban_all, done, at_reading, jails_step_now}
+use Rattle.f2b_model.specs.Watches.{is_watched}
+use Rattle.f2b_model.specs.Steps.{moves_now, is_spent, in_jail, at_jail, alone, done, at_reading, jails_step_now, found_in_turn, read_in_jail, banned_in_turn}
 use Rattle.f2b_model.specs.Storable.{most_numbers, IsStorableInput, IsStorableWhat}
 use Rattle.f2b_model.proofs.ListLemmas.{by_test}
 
-found_next : (at word n : ℕ) (f : Failure) (j : JailNow) → (found_now at word n f j).next ≤ n + 1
+pub found_next : (at word n : ℕ) (f : Failure) (j : JailNow) → (found_now at word n f j).next ≤ n + 1
 found_next at word n f j =
     by_test (counts at j.definition j.bans f) _
     (λ e. rw e (
@@ -25,7 +26,7 @@ found_next at word n f j =
     by_test (is_full c.definition.findtime c.definition.maxretry f.addr c.failures) _ (λ t. rw t (omega arith)) (λ t. rw t (omega arith))))
     (λ e. rw e (omega arith))
 
-banned_next : (at word n : ℕ) (addr : Addr) (j : JailNow) → (banned_now at word n addr j).next ≤ n + 1
+pub banned_next : (at word n : ℕ) (addr : Addr) (j : JailNow) → (banned_now at word n addr j).next ≤ n + 1
 banned_next at word n addr j = by_test (is_banned addr j.bans) _ (λ e. rw e (omega arith)) (λ e. rw e (omega arith))
 
 -- a move in one jail takes no more serials than the move
@@ -33,48 +34,46 @@ pub in_jail_next : (name : List ℕ) (f : ℕ → JailNow → JailAndSerial Jail
 in_jail_next name f n top [] le e = le
 in_jail_next name f n top (j ∷ js) le e = by_test (bytes_eq j.definition.name name) _ (λ t. rw t (e j)) (λ t. rw t (in_jail_next name f n top js le e))
 
-pub found_one_next : (word : ℕ) (name : List ℕ) (f : Failure) (w : JailsNow) → (at_jail moves_now name (λ n j. found_now w.at word n f j) w).next_ban ≤ w.next_ban + 1
-found_one_next word name f w = in_jail_next name (λ n j. found_now w.at word n f j) w.next_ban (w.next_ban + 1) w.jails (omega arith) (found_next w.at word w.next_ban f)
-
-pub banned_one_next : (word : ℕ) (name : List ℕ) (addr : Addr) (w : JailsNow) → (at_jail moves_now name (λ n j. banned_now w.at word n addr j) w).next_ban ≤ w.next_ban + 1
-banned_one_next word name addr w = in_jail_next name (λ n j. banned_now w.at word n addr j) w.next_ban (w.next_ban + 1) w.jails (omega arith) (banned_next w.at word w.next_ban addr)
-
 alone_next : (name : List ℕ) (f : JailNow → JailNow) (w : JailsNow) → (at_jail moves_now name (alone moves_now f) w).next_ban ≤ w.next_ban
 alone_next name f w = in_jail_next name (alone moves_now f) w.next_ban w.next_ban w.jails (omega arith) (λ j. omega arith)
 
-pub followed_next : (name path : List ℕ) (place : Place) (w : JailsNow) → (followed_to moves_now name path place w).next_ban ≤ w.next_ban
-followed_next name path place w = alone_next name (moves_now.followed path place) w
-
 -- each failure takes one serial at most
-found_all_next : (word : ℕ) (name : List ℕ) (fs : List Failure) (w : JailsNow) (top : ℕ) → w.next_ban + length fs ≤ top → (found_all moves_now word name fs w).next_ban ≤ top
-found_all_next word name [] w top le = omega (arith, le)
-found_all_next word name (f ∷ fs) w top le =
-    let next = at_jail moves_now name (λ n j. found_now w.at word n f j) w in
-    let one = found_one_next word name f w in
-    found_all_next word name fs next top (omega (arith, one, le))
+found_in_turn_next : (at word : ℕ) (fs : List Failure) (n : ℕ) (j : JailNow) (top : ℕ) → n + length fs ≤ top → (found_in_turn moves_now at word fs n j).next ≤ top
+found_in_turn_next at word [] n j top le = omega (arith, le)
+found_in_turn_next at word (f ∷ fs) n j top le =
+    let o = found_now at word n f j in
+    let one = found_next at word n f j in
+    found_in_turn_next at word fs o.next o.jail top (omega (arith, one, le))
+
+read_in_jail_next : (at word : ℕ) (path : List ℕ) (place : Place) (fs : List Failure) (n : ℕ) (j : JailNow) (top : ℕ) → n + length fs ≤ top
+    → (read_in_jail moves_now at word path place fs n j).next ≤ top
+read_in_jail_next at word path place fs n j top le =
+    by_test (is_watched path j.watches) _ (λ t. rw t (found_in_turn_next at word fs n (moves_now.followed path place j) top le)) (λ t. rw t (omega (arith, le)))
 
 -- so does each address
-ban_all_next : (word : ℕ) (name : List ℕ) (addrs : List Addr) (w : JailsNow) (top : ℕ) → w.next_ban + length addrs ≤ top → (ban_all moves_now word name addrs w).next_ban ≤ top
-ban_all_next word name [] w top le = omega (arith, le)
-ban_all_next word name (addr ∷ addrs) w top le =
-    let next = at_jail moves_now name (λ n j. banned_now w.at word n addr j) w in
-    let one = banned_one_next word name addr w in
-    ban_all_next word name addrs next top (omega (arith, one, le))
+banned_in_turn_next : (at word : ℕ) (addrs : List Addr) (n : ℕ) (j : JailNow) (top : ℕ) → n + length addrs ≤ top → (banned_in_turn moves_now at word addrs n j).next ≤ top
+banned_in_turn_next at word [] n j top le = omega (arith, le)
+banned_in_turn_next at word (addr ∷ addrs) n j top le =
+    let o = banned_now at word n addr j in
+    let one = banned_next at word n addr j in
+    banned_in_turn_next at word addrs o.next o.jail top (omega (arith, one, le))
 
 same_next : (next n : ℕ) → next ≤ n → n ≤ 2 ^ 62 → next ≤ most_numbers
 same_next next n le small = omega (arith, le, small)
 
 done_next : (word : ℕ) (what : What) (w : JailsNow) → w.next_ban ≤ 2 ^ 62 → IsStorableWhat what → (done moves_now word what w).next_ban ≤ most_numbers
 done_next word (Read jail path place fs) w small s =
-    by_test (is_followed moves_now jail path w) _
-    (λ t.
-    let begun = followed_to moves_now jail path place w in
-    let same = followed_next jail path place w in
     let few = s.4 in
-    rw t (found_all_next word jail fs begun most_numbers (omega (arith, same, few, small))))
-    (λ t. rw t (omega (arith, small)))
-done_next word (Attempt jail addr) w small s = found_all_next word jail (record { addr = addr; time = w.at; line = [] } ∷ []) w most_numbers (omega (arith, small))
-done_next word (BanThese jail addrs) w small s = let few = s.3 in ban_all_next word jail addrs w most_numbers (omega (arith, few, small))
+    in_jail_next jail (read_in_jail moves_now w.at word path place fs) w.next_ban most_numbers w.jails (omega (arith, small))
+    (λ j. read_in_jail_next w.at word path place fs w.next_ban j most_numbers (omega (arith, few, small)))
+done_next word (Attempt jail addr) w small s =
+    let fs : List Failure = record { addr = addr; time = w.at; line = [] } ∷ [] in
+    in_jail_next jail (found_in_turn moves_now w.at word fs) w.next_ban most_numbers w.jails (omega (arith, small))
+    (λ j. found_in_turn_next w.at word fs w.next_ban j most_numbers (omega (arith, small)))
+done_next word (BanThese jail addrs) w small s =
+    let few = s.3 in
+    in_jail_next jail (banned_in_turn moves_now w.at word addrs) w.next_ban most_numbers w.jails (omega (arith, small))
+    (λ j. banned_in_turn_next w.at word addrs w.next_ban j most_numbers (omega (arith, few, small)))
 done_next word (Findtime jail secs) w small s = same_next _ w.next_ban (alone_next jail (λ j. limited_now secs j.definition.maxretry j) w) small
 done_next word (Bantime jail secs) w small s = same_next _ w.next_ban (alone_next jail (moves_now.spanned secs) w) small
 done_next word (Maxretry jail number) w small s = same_next _ w.next_ban (alone_next jail (λ j. limited_now j.definition.findtime number j) w) small

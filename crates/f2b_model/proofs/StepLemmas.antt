@@ -1,6 +1,6 @@
 -- Where each move on a jail is seen as a move on its picture, a step is seen as the step of the picture.
 use Rattle.std.proofs.Common.{◌≡◌, ℕ, ◌≤◌, max, Bool, true, cond, List, [], ◌∷◌, map, refl, ◌∙◌, ap, ap₂, arith, ℤ}
-use Rattle.std.specs.Prelude.{bytes_eq, Option, Some, None, option_map}
+use Rattle.std.specs.Prelude.{bytes_eq, Option}
 use Rattle.std.specs.List.{filter}
 use Rattle.f2b_base.specs.declared.addr.Addr.{Addr}
 use Rattle.f2b_base.specs.declared.addr.Cidr.{Cidr}
@@ -14,7 +14,7 @@ use Rattle.f2b_base.specs.declared.input.What.TheVariants.{Tick, Read, Ended, Co
 use Rattle.f2b_model.specs.Lists.{AllOf, in_order}
 use Rattle.f2b_model.specs.State.{JailsOf, map_jails}
 use Rattle.f2b_model.specs.Moves.{JailAndSerial, counts}
-use Rattle.f2b_model.specs.Steps.{JailOps, JailsAndSerial, with_serial, is_spent, is_due, own_end, ends_before, is_meant, is_meant_jail, end_all, ended_by_time, unbanned, in_jail, find_jail, kept_or_fresh, configured, at_jail, alone, watches_path, is_followed, followed_to, found_all, read_all, ban_all, done, each_jail, raised, step_by}
+use Rattle.f2b_model.specs.Steps.{JailOps, JailsAndSerial, with_serial, is_spent, is_due, own_end, ends_before, is_meant, is_meant_jail, end_all, ended_by_time, unbanned, in_jail, find_jail, kept_or_fresh, configured, at_jail, alone, done, each_jail, raised, step_by, found_in_turn, read_in_jail, banned_in_turn}
 use Rattle.f2b_base.specs.Limits.{last_moment}
 use Rattle.f2b_model.specs.Watches.{is_watched}
 use Rattle.f2b_model.specs.Sound.{IsFitWhat, IsFit}
@@ -120,78 +120,50 @@ module _ {J K : Type 0} (m : JailOps J) (k : JailOps K) (h : J → K) (Good Calm
       → map_jails h (at_jail m name f w) ≡ at_jail k name g (map_jails h w)
   at_jail_shows name f g w e a = ap (λ (o : JailsAndSerial K). with_serial (map_jails h w) o) (in_jail_shows w.at name f g e w.next_ban w.jails a.1)
 
-  found_all_shows : (word : ℕ) (name : List ℕ) (fs : List Failure) (w : JailsOf J) → GoodWorld w
-      → map_jails h (found_all m word name fs w) ≡ found_all k word name fs (map_jails h w)
-  found_all_shows word name [] w a = refl
-  found_all_shows word name (f ∷ fs) w a =
-      found_all_shows word name fs (at_jail m name (λ n j. m.found w.at word n f j) w)
-      (a.0, in_jail_good w.at name (λ n j. m.found w.at word n f j) (λ n j. shows.good_found w.at word n f j a.0) w.next_ban w.jails a.1)
-      ∙ ap (λ r. found_all k word name fs r)
-      (at_jail_shows name (λ n j. m.found w.at word n f j) (λ n j. k.found w.at word n f j) w (λ n j. shows.found w.at word n f j) a)
+  found_in_turn_shows : (at word : ℕ) (fs : List Failure) (n : ℕ) (j : J) → at ≤ last_moment → Good at j
+      → out_map h (found_in_turn m at word fs n j) ≡ found_in_turn k at word fs n (h j)
+  found_in_turn_shows at word [] n j le good = refl
+  found_in_turn_shows at word (f ∷ fs) n j le good =
+      let o = m.found at word n f j in
+      found_in_turn_shows at word fs o.next o.jail le (shows.good_found at word n f j le good)
+      ∙ ap (λ (p : JailAndSerial K). found_in_turn k at word fs p.next p.jail) (shows.found at word n f j good)
 
-  found_all_good : (word : ℕ) (name : List ℕ) (fs : List Failure) (w : JailsOf J) → GoodWorld w → GoodWorld (found_all m word name fs w)
-  found_all_good word name [] w a = a
-  found_all_good word name (f ∷ fs) w a =
-      found_all_good word name fs (at_jail m name (λ n j. m.found w.at word n f j) w)
-      (a.0, in_jail_good w.at name (λ n j. m.found w.at word n f j) (λ n j. shows.good_found w.at word n f j a.0) w.next_ban w.jails a.1)
+  found_in_turn_good : (at word : ℕ) (fs : List Failure) (n : ℕ) (j : J) → at ≤ last_moment → Good at j → Good at (found_in_turn m at word fs n j).jail
+  found_in_turn_good at word [] n j le good = good
+  found_in_turn_good at word (f ∷ fs) n j le good =
+      let o = m.found at word n f j in found_in_turn_good at word fs o.next o.jail le (shows.good_found at word n f j le good)
+
+  read_in_jail_shows : (at word : ℕ) (path : List ℕ) (place : Place) (fs : List Failure) (n : ℕ) (j : J) → at ≤ last_moment → Good at j
+      → out_map h (read_in_jail m at word path place fs n j) ≡ read_in_jail k at word path place fs n (h j)
+  read_in_jail_shows at word path place fs n j le good =
+      let same = shows.watches j in
+      by_test (is_watched path (m.watches j)) _
+      (λ t. rw (same, t) (found_in_turn_shows at word fs n (m.followed path place j) le (shows.good_followed at path place j good)
+      ∙ ap (λ r. found_in_turn k at word fs n r) (shows.followed path place j)))
+      (λ t. rw (same, t) refl)
+
+  read_in_jail_good : (at word : ℕ) (path : List ℕ) (place : Place) (fs : List Failure) (n : ℕ) (j : J) → at ≤ last_moment → Good at j
+      → Good at (read_in_jail m at word path place fs n j).jail
+  read_in_jail_good at word path place fs n j le good =
+      by_test (is_watched path (m.watches j)) _
+      (λ t. rw t (found_in_turn_good at word fs n (m.followed path place j) le (shows.good_followed at path place j good)))
+      (λ t. rw t good)
+
+  banned_in_turn_shows : (at word : ℕ) (addrs : List Addr) (n : ℕ) (j : J) → out_map h (banned_in_turn m at word addrs n j) ≡ banned_in_turn k at word addrs n (h j)
+  banned_in_turn_shows at word [] n j = refl
+  banned_in_turn_shows at word (addr ∷ addrs) n j =
+      let o = m.banned at word n addr j in
+      banned_in_turn_shows at word addrs o.next o.jail
+      ∙ ap (λ (p : JailAndSerial K). banned_in_turn k at word addrs p.next p.jail) (shows.banned at word n addr j)
+
+  banned_in_turn_good : (at word : ℕ) (addrs : List Addr) (n : ℕ) (j : J) → at ≤ last_moment → Good at j → Good at (banned_in_turn m at word addrs n j).jail
+  banned_in_turn_good at word [] n j le good = good
+  banned_in_turn_good at word (addr ∷ addrs) n j le good =
+      let o = m.banned at word n addr j in banned_in_turn_good at word addrs o.next o.jail le (shows.good_banned at word n addr j le good)
 
   alone_shows : (at : ℕ) (f : J → J) (g : K → K) → ((j : J) → Good at j → h (f j) ≡ g (h j)) → (n : ℕ) (j : J) → Good at j
       → out_map h (alone m f n j) ≡ alone k g n (h j)
   alone_shows at f g e n j good = ap (λ (r : K). record { jail = r; next = n }) (e j good)
-
-  find_shows : (name : List ℕ) (js : List J) → find_jail k name (map h js) ≡ option_map h (find_jail m name js)
-  find_shows name [] = refl
-  find_shows name (j ∷ js) =
-      let d = shows.definition j in
-      by_test (bytes_eq (m.definition j).name name) _ (λ t. rw (d, t) refl) (λ t. rw (d, t) (find_shows name js))
-
-  watches_path_shows : (path : List ℕ) (o : Option J) → watches_path k path (option_map h o) ≡ watches_path m path o
-  watches_path_shows path None = refl
-  watches_path_shows path (Some j) = ap (is_watched path) (shows.watches j)
-
-  pub is_followed_shows : (name path : List ℕ) (w : JailsOf J) → is_followed k name path (map_jails h w) ≡ is_followed m name path w
-  is_followed_shows name path w = ap (watches_path k path) (find_shows name w.jails) ∙ watches_path_shows path (find_jail m name w.jails)
-
-  pub followed_to_shows : (name path : List ℕ) (place : Place) (w : JailsOf J) → GoodWorld w
-      → map_jails h (followed_to m name path place w) ≡ followed_to k name path place (map_jails h w)
-  followed_to_shows name path place w a =
-      at_jail_shows name (alone m (m.followed path place)) (alone k (k.followed path place)) w
-      (alone_shows w.at (m.followed path place) (k.followed path place) (λ j good. shows.followed path place j)) a
-
-  pub followed_to_good : (name path : List ℕ) (place : Place) (w : JailsOf J) → GoodWorld w → GoodWorld (followed_to m name path place w)
-  followed_to_good name path place w a =
-      (a.0, in_jail_good w.at name (alone m (m.followed path place)) (λ n j good. shows.good_followed w.at path place j good) w.next_ban w.jails a.1)
-
-  read_all_shows : (word : ℕ) (name path : List ℕ) (place : Place) (fs : List Failure) (w : JailsOf J) → GoodWorld w
-      → map_jails h (read_all m word name path place fs w) ≡ read_all k word name path place fs (map_jails h w)
-  read_all_shows word name path place fs w a =
-      let same = is_followed_shows name path w in
-      by_test (is_followed m name path w) _
-      (λ t. let t2 = same ∙ t in
-      rw (t, t2) (found_all_shows word name fs (followed_to m name path place w) (followed_to_good name path place w a)
-      ∙ ap (λ r. found_all k word name fs r) (followed_to_shows name path place w a)))
-      (λ t. let t2 = same ∙ t in rw (t, t2) refl)
-
-  read_all_good : (word : ℕ) (name path : List ℕ) (place : Place) (fs : List Failure) (w : JailsOf J) → GoodWorld w → GoodWorld (read_all m word name path place fs w)
-  read_all_good word name path place fs w a =
-      by_test (is_followed m name path w) _
-      (λ t. rw t (found_all_good word name fs (followed_to m name path place w) (followed_to_good name path place w a)))
-      (λ t. rw t a)
-
-  ban_all_shows : (word : ℕ) (name : List ℕ) (addrs : List Addr) (w : JailsOf J) → GoodWorld w
-      → map_jails h (ban_all m word name addrs w) ≡ ban_all k word name addrs (map_jails h w)
-  ban_all_shows word name [] w a = refl
-  ban_all_shows word name (f ∷ fs) w a =
-      ban_all_shows word name fs (at_jail m name (λ n j. m.banned w.at word n f j) w)
-      (a.0, in_jail_good w.at name (λ n j. m.banned w.at word n f j) (λ n j. shows.good_banned w.at word n f j a.0) w.next_ban w.jails a.1)
-      ∙ ap (λ r. ban_all k word name fs r)
-      (at_jail_shows name (λ n j. m.banned w.at word n f j) (λ n j. k.banned w.at word n f j) w (λ n j good. shows.banned w.at word n f j) a)
-
-  ban_all_good : (word : ℕ) (name : List ℕ) (addrs : List Addr) (w : JailsOf J) → GoodWorld w → GoodWorld (ban_all m word name addrs w)
-  ban_all_good word name [] w a = a
-  ban_all_good word name (f ∷ fs) w a =
-      ban_all_good word name fs (at_jail m name (λ n j. m.banned w.at word n f j) w)
-      (a.0, in_jail_good w.at name (λ n j. m.banned w.at word n f j) (λ n j. shows.good_banned w.at word n f j a.0) w.next_ban w.jails a.1)
 
   pub each_shows : (f : J → J) (g : K → K) (w : JailsOf J) → ((j : J) → Good w.at j → h (f j) ≡ g (h j)) → GoodWorld w
       → map_jails h (each_jail m f w) ≡ each_jail k g (map_jails h w)
@@ -217,14 +189,19 @@ module _ {J K : Type 0} (m : JailOps J) (k : JailOps K) (h : J → K) (Good Calm
 
   pub done_shows : (word : ℕ) (what : What) (w : JailsOf J) → GoodWorld w → map_jails h (done m word what w) ≡ done k word what (map_jails h w)
   done_shows word Tick w a = refl
-  done_shows word (Read jail path place fs) w a = read_all_shows word jail path place fs w a
-  done_shows word (BanThese jail addrs) w a = ban_all_shows word jail addrs w a
+  done_shows word (Read jail path place fs) w a =
+      at_jail_shows jail (read_in_jail m w.at word path place fs) (read_in_jail k w.at word path place fs) w
+      (λ n j good. read_in_jail_shows w.at word path place fs n j a.0 good) a
+  done_shows word (BanThese jail addrs) w a =
+      at_jail_shows jail (banned_in_turn m w.at word addrs) (banned_in_turn k w.at word addrs) w (λ n j good. banned_in_turn_shows w.at word addrs n j) a
   done_shows word (Unban jail addrs) w a =
       each_shows (λ j. cond (is_meant_jail jail (m.definition j)) (unbanned m w.at addrs j) j) (λ j. cond (is_meant_jail jail (k.definition j)) (unbanned k w.at addrs j) j) w
       (λ j good. let d = shows.definition j in
       by_test (is_meant_jail jail (m.definition j)) _ (λ t. rw (d, t) (unbanned_shows w.at addrs j)) (λ t. rw (d, t) refl))
       a
-  done_shows word (Attempt jail addr) w a = found_all_shows word jail (record { addr = addr; time = w.at; line = [] } ∷ []) w a
+  done_shows word (Attempt jail addr) w a =
+      let fs : List Failure = record { addr = addr; time = w.at; line = [] } ∷ [] in
+      at_jail_shows jail (found_in_turn m w.at word fs) (found_in_turn k w.at word fs) w (λ n j good. found_in_turn_shows w.at word fs n j a.0 good) a
   done_shows word (Findtime jail secs) w a =
       at_jail_shows jail (alone m (λ j. m.limited secs (m.definition j).maxretry j)) (alone k (λ j. k.limited secs (k.definition j).maxretry j)) w
       (alone_shows w.at (λ j. m.limited secs (m.definition j).maxretry j) (λ j. k.limited secs (k.definition j).maxretry j)
@@ -254,8 +231,10 @@ module _ {J K : Type 0} (m : JailOps J) (k : JailOps K) (h : J → K) (Good Calm
 
   pub done_good : (word : ℕ) (what : What) (w : JailsOf J) → IsFitWhat what → CalmWorld w → GoodWorld (done m word what w)
   done_good word Tick w fit a = calm_world w a
-  done_good word (Read jail path place fs) w fit a = read_all_good word jail path place fs w (calm_world w a)
-  done_good word (BanThese jail addrs) w fit a = ban_all_good word jail addrs w (calm_world w a)
+  done_good word (Read jail path place fs) w fit a =
+      in_good jail (read_in_jail m w.at word path place fs) w (calm_world w a) (λ n j good. read_in_jail_good w.at word path place fs n j a.0 good)
+  done_good word (BanThese jail addrs) w fit a =
+      in_good jail (banned_in_turn m w.at word addrs) w (calm_world w a) (λ n j good. banned_in_turn_good w.at word addrs n j a.0 good)
   done_good word (Unban jail addrs) w fit a = (
     a.0,
     all_of-map (Calm w.at) (Good w.at) (λ j. cond (is_meant_jail jail (m.definition j)) (unbanned m w.at addrs j) j)
@@ -263,7 +242,9 @@ module _ {J K : Type 0} (m : JailOps J) (k : JailOps K) (h : J → K) (Good Calm
         (λ t. rw t (shows.good_unbanned w.at addrs j calm)) (λ t. rw t (shows.calm_good w.at j calm)))
         w.jails a.1,
   )
-  done_good word (Attempt jail addr) w fit a = found_all_good word jail (record { addr = addr; time = w.at; line = [] } ∷ []) w (calm_world w a)
+  done_good word (Attempt jail addr) w fit a =
+      let fs : List Failure = record { addr = addr; time = w.at; line = [] } ∷ [] in
+      in_good jail (found_in_turn m w.at word fs) w (calm_world w a) (λ n j good. found_in_turn_good w.at word fs n j a.0 good)
   done_good word (Findtime jail secs) w fit a =
       in_good jail (alone m (λ j. m.limited secs (m.definition j).maxretry j)) w (calm_world w a)
       (λ n j good. shows.good_limited w.at secs (m.definition j).maxretry j (shows.positive w.at j good) good)

@@ -31,15 +31,15 @@ use Rattle.f2b_model.specs.Lists.{AllOf, in_order, placed}
 use Rattle.f2b_model.specs.Moves.{JailAndSerial, plus_one_capped, up_to_32, counts, is_banned, is_near, is_stale, ban_of, new_ban, past_of, same_cidr, spanned, ignored, is_timely}
 use Rattle.f2b_model.specs.NowMoves.{found_now, counted_now, begun_now, banned_now, ended_now, dropped_now, limited_now, kept_now, fresh_now}
 use Rattle.f2b_model.specs.Nows.{comes_before, JailsNow}
-use Rattle.f2b_model.specs.Steps.{moves_now, is_spent, is_due, own_end, end_of, ends_before, is_meant, is_meant_jail, end_all, ended_by_time, unbanned, in_jail, find_jail, kept_or_fresh, configured, at_jail, alone, is_followed, followed_to, found_all, ban_all, done, each_jail, raised, jails_step_now}
+use Rattle.f2b_model.specs.Steps.{moves_now, is_spent, is_due, own_end, end_of, ends_before, is_meant, is_meant_jail, end_all, ended_by_time, unbanned, in_jail, find_jail, kept_or_fresh, configured, at_jail, alone, done, each_jail, raised, jails_step_now, found_in_turn, read_in_jail, banned_in_turn}
 use Rattle.f2b_model.specs.Storable.{most_numbers, IsSpanOfTime, IsWithin, IsBase, IsStorableFailure, IsStorableUntil, IsStorableBan, IsStorablePast, IsStorablePlace, IsStorableWatch, IsStorableDef, IsStorableJail, IsStorableWhat, IsStorableInput}
 use Rattle.f2b_model.specs.Until.{until_after}
-use Rattle.f2b_model.specs.Watches.{first_place, place_in, watches_of, with_place}
+use Rattle.f2b_model.specs.Watches.{first_place, place_in, watches_of, with_place, is_watched}
 use Rattle.f2b_model.proofs.EndLemmas.{all_placed, all_placed_all}
 use Rattle.f2b_model.proofs.ListLemmas.{by_test, filter_in_order, placed_in_order}
 use Rattle.f2b_model.proofs.MarkLemmas.{failures_order}
 use Rattle.f2b_model.proofs.OrderlyLemmas.{all_of-filter, all_of-push, once_filter, once_push}
-use Rattle.f2b_model.proofs.SerialLemmas.{banned_one_next, few_taken, followed_next, found_one_next}
+use Rattle.f2b_model.proofs.SerialLemmas.{few_taken, banned_next, found_next}
 use Rattle.f2b_model.proofs.StepLemmas.{all_of-map, all_of-more}
 
 -- ---- bans
@@ -336,19 +336,32 @@ in_jail_stored name f n (j ∷ js) e a =
 pub at_jail_stored : (name : List ℕ) (f : ℕ → JailNow → JailAndSerial JailNow) (w : JailsNow) → ((j : JailNow) → IsStorableJail j → IsStorableJail (f w.next_ban j).jail) → AreStored w → AreStored (at_jail moves_now name f w)
 at_jail_stored name f w e a = in_jail_stored name f w.next_ban w.jails e a
 
-found_all_stored : (word : ℕ) (name : List ℕ) (fs : List Failure) (w : JailsNow) → w.at ≤ last_moment → w.next_ban + length fs ≤ most_numbers → AllOf IsStorableFailure fs → AreStored w → AreStored (found_all moves_now word name fs w)
-found_all_stored word name [] w h few all a = a
-found_all_stored word name (f ∷ fs) w h few all a =
-    let one = found_one_next word name f w in
-    found_all_stored word name fs (at_jail moves_now name (λ n j. found_now w.at word n f j) w) h (omega (arith, few, one)) all.1
-    (at_jail_stored name (λ n j. found_now w.at word n f j) w (λ j p. found_stored w.at word w.next_ban f j h (omega (arith, few)) all.0 p) a)
+pub found_in_turn_stored : (at word : ℕ) (fs : List Failure) (n : ℕ) (j : JailNow) → at ≤ last_moment → n + length fs ≤ most_numbers → AllOf IsStorableFailure fs
+    → IsStorableJail j → IsStorableJail (found_in_turn moves_now at word fs n j).jail
+found_in_turn_stored at word [] n j h few all p = p
+found_in_turn_stored at word (f ∷ fs) n j h few all p =
+    let o = found_now at word n f j in
+    let one = found_next at word n f j in
+    found_in_turn_stored at word fs o.next o.jail h (omega (arith, few, one)) all.1 (found_stored at word n f j h (omega (arith, few)) all.0 p)
 
-ban_all_stored : (word : ℕ) (name : List ℕ) (addrs : List Addr) (w : JailsNow) → w.at ≤ last_moment → w.next_ban + length addrs ≤ most_numbers → AllOf IsAddr addrs → AreStored w → AreStored (ban_all moves_now word name addrs w)
-ban_all_stored word name [] w h few all a = a
-ban_all_stored word name (addr ∷ addrs) w h few all a =
-    let one = banned_one_next word name addr w in
-    ban_all_stored word name addrs (at_jail moves_now name (λ n j. banned_now w.at word n addr j) w) h (omega (arith, few, one)) all.1
-    (at_jail_stored name (λ n j. banned_now w.at word n addr j) w (λ j p. banned_stored w.at word w.next_ban addr j h (omega (arith, few)) all.0 p) a)
+-- a jail whose log was followed to a place
+pub followed_stored : (path : List ℕ) (place : Place) (j : JailNow) → IsStorablePlace place → IsStorableJail j → IsStorableJail (moves_now.followed path place j)
+followed_stored path place j s p = watches_stored (with_place path place j.watches) j (place_stored path place j.watches s p.watches) p
+
+read_in_jail_stored : (at word : ℕ) (path : List ℕ) (place : Place) (fs : List Failure) (n : ℕ) (j : JailNow) → at ≤ last_moment → n + length fs ≤ most_numbers
+    → IsStorablePlace place → AllOf IsStorableFailure fs → IsStorableJail j → IsStorableJail (read_in_jail moves_now at word path place fs n j).jail
+read_in_jail_stored at word path place fs n j h few s all p =
+    by_test (is_watched path j.watches) _
+    (λ t. rw t (found_in_turn_stored at word fs n (moves_now.followed path place j) h few all (followed_stored path place j s p)))
+    (λ t. rw t p)
+
+banned_in_turn_stored : (at word : ℕ) (addrs : List Addr) (n : ℕ) (j : JailNow) → at ≤ last_moment → n + length addrs ≤ most_numbers → AllOf IsAddr addrs
+    → IsStorableJail j → IsStorableJail (banned_in_turn moves_now at word addrs n j).jail
+banned_in_turn_stored at word [] n j h few all p = p
+banned_in_turn_stored at word (addr ∷ addrs) n j h few all p =
+    let o = banned_now at word n addr j in
+    let one = banned_next at word n addr j in
+    banned_in_turn_stored at word addrs o.next o.jail h (omega (arith, few, one)) all.1 (banned_stored at word n addr j h (omega (arith, few)) all.0 p)
 
 configured_stored : (ds : List JailDef) (js : List JailNow) → AllOf IsStorableDef ds → AllOf IsStorableJail js → AllOf IsStorableJail (configured moves_now ds js)
 configured_stored [] js all a = tt
@@ -364,19 +377,19 @@ attempt_stored addr at a h = record { addr = a; time = h; line = (IsUtf8-nil, om
 done_stored : (word : ℕ) (what : What) (w : JailsNow) → w.at ≤ last_moment → w.next_ban ≤ 2 ^ 62 → IsStorableWhat what → AreStored w → AreStored (done moves_now word what w)
 done_stored word Tick w h few s a = a
 done_stored word (Read jail path place fs) w h few s a =
-    by_test (is_followed moves_now jail path w) _
-    (λ t.
-    let same = followed_next jail path place w in
     let most = s.4 in
-    rw t (found_all_stored word jail fs (followed_to moves_now jail path place w) h (omega (arith, few, same, most)) s.3
-    (at_jail_stored jail (alone moves_now (moves_now.followed path place)) w (λ j p. watches_stored (with_place path place j.watches) j (place_stored path place j.watches s.2 p.watches) p) a)))
-    (λ t. rw t a)
-done_stored word (BanThese jail addrs) w h few s a = let most = s.3 in ban_all_stored word jail addrs w h (omega (arith, few, most)) s.1 a
+    at_jail_stored jail (read_in_jail moves_now w.at word path place fs) w
+    (λ j p. read_in_jail_stored w.at word path place fs w.next_ban j h (omega (arith, few, most)) s.2 s.3 p) a
+done_stored word (BanThese jail addrs) w h few s a =
+    let most = s.3 in
+    at_jail_stored jail (banned_in_turn moves_now w.at word addrs) w (λ j p. banned_in_turn_stored w.at word addrs w.next_ban j h (omega (arith, few, most)) s.1 p) a
 done_stored word (Unban jail addrs) w h few s a =
     all_of-map IsStorableJail IsStorableJail (λ j. cond (is_meant_jail jail j.definition) (unbanned moves_now w.at addrs j) j)
     (λ j p. by_test (is_meant_jail jail j.definition) _ (λ t. rw t (unbanned_stored w.at addrs j h p)) (λ t. rw t p)) w.jails a
 done_stored word (Attempt jail addr) w h few s a =
-    found_all_stored word jail (record { addr = addr; time = w.at; line = [] } ∷ []) w h (omega (arith, few)) (attempt_stored addr w.at s.1 h, tt) a
+    let fs : List Failure = record { addr = addr; time = w.at; line = [] } ∷ [] in
+    at_jail_stored jail (found_in_turn moves_now w.at word fs) w
+    (λ j p. found_in_turn_stored w.at word fs w.next_ban j h (omega (arith, few)) (attempt_stored addr w.at s.1 h, tt) p) a
 done_stored word (Findtime jail secs) w h few s a =
     at_jail_stored jail (alone moves_now (λ j. limited_now secs j.definition.maxretry j)) w (λ j p. limited_stored secs j.definition.maxretry j s.1 p.definition.maxretry p) a
 done_stored word (Bantime jail secs) w h few s a =

@@ -19,17 +19,18 @@ use Rattle.f2b_model.specs.Lists.{AllOf, in_order}
 use Rattle.f2b_model.specs.Moves.{counts, is_near}
 use Rattle.f2b_model.specs.NowMoves.{counted_now, found_now, banned_now, shown_now}
 use Rattle.f2b_model.specs.Nows.{JailsNow}
-use Rattle.f2b_model.specs.Steps.{moves_now, named, is_spent, is_due, ends_before, is_meant, is_meant_jail, at_jail, at_reading, is_followed, followed_to, ended_by_time}
-use Rattle.f2b_model.specs.Storable.{most_numbers, IsStorableBan, IsStorableFailure, IsStorableInput, IsStorableJail, IsStorableWhat}
-use Rattle.f2b_model.specs.Told.{begins, told_each, told_new, told_found, told_banned, told_ends, told_unbanned, told_in, told_all_found, told_all_banned, told_done, jails_told}
-use Rattle.f2b_model.specs.Watches.{with_place}
+use Rattle.f2b_base.specs.declared.jail.Place.{Place}
+use Rattle.f2b_model.specs.Steps.{moves_now, named, is_spent, is_due, ends_before, is_meant, is_meant_jail, at_reading, ended_by_time}
+use Rattle.f2b_model.specs.Storable.{most_numbers, IsStorableBan, IsStorableFailure, IsStorableInput, IsStorableJail, IsStorableWhat, IsStorablePlace}
+use Rattle.f2b_model.specs.Told.{begins, told_each, told_new, told_found, told_banned, told_ends, told_unbanned, told_in, told_done, jails_told, told_found_in_turn, told_banned_in_turn, told_read}
+use Rattle.f2b_model.specs.Watches.{is_watched}
 use Rattle.f2b_model.proofs.EndLemmas.{all_placed_all}
 use Rattle.f2b_model.proofs.ListLemmas.{by_test}
 use Rattle.f2b_model.proofs.OrderlyLemmas.{all_of-filter}
-use Rattle.f2b_model.proofs.SerialLemmas.{banned_one_next, few_taken, followed_next, found_one_next}
+use Rattle.f2b_model.proofs.SerialLemmas.{few_taken, banned_next, found_next}
 use Rattle.f2b_model.proofs.ShownTextLemmas.{matches_utf8}
 use Rattle.f2b_model.proofs.StepLemmas.{all_of-map}
-use Rattle.f2b_model.proofs.StorableLemmas.{at_jail_stored, banned_stored, by_time_stored, found_stored, place_stored, watches_stored, attempt_stored}
+use Rattle.f2b_model.proofs.StorableLemmas.{banned_stored, by_time_stored, found_stored, attempt_stored, followed_stored}
 use Rattle.f2b_model.proofs.StorableLaneLemmas.{all_both, all_drop, IsStorableHeld, IsToldWell}
 
 -- ---- what jails hold and tell
@@ -63,25 +64,32 @@ told_each_well : (t : JailNow → List Happening) → ((j : JailNow) → IsStora
 told_each_well t each [] a = tt
 told_each_well t each (j ∷ js) a = all_both IsToldWell (t j) (told_each t js) (each j a.0) (told_each_well t each js a.1)
 
-all_found_well : (word : ℕ) (name : List ℕ) (fs : List Failure) (w : JailsNow) → w.at ≤ last_moment → w.next_ban + length fs ≤ most_numbers → AllOf IsStorableFailure fs → AllOf IsStorableJail w.jails → AllOf IsToldWell (told_all_found moves_now word name fs w)
-all_found_well word name [] w h few b a = tt
-all_found_well word name (f ∷ fs) w h few b a =
-    let one = found_one_next word name f w in
-    let next = at_jail moves_now name (λ n j. found_now w.at word n f j) w in
-    all_both IsToldWell (told_in moves_now name (told_found moves_now w.at word f w.next_ban) w.jails) (told_all_found moves_now word name fs next)
-    (told_in_well name (told_found moves_now w.at word f w.next_ban) (λ j s. told_found_well w.at word w.next_ban f j h (omega (arith, few)) b.0 s) w.jails a)
-    (all_found_well word name fs next h (omega (arith, few, one)) b.1
-    (at_jail_stored name (λ n j. found_now w.at word n f j) w (λ j s. found_stored w.at word w.next_ban f j h (omega (arith, few)) b.0 s) a))
+found_in_turn_well : (at word : ℕ) (fs : List Failure) (n : ℕ) (j : JailNow) → at ≤ last_moment → n + length fs ≤ most_numbers → AllOf IsStorableFailure fs
+    → IsStorableJail j → AllOf IsToldWell (told_found_in_turn moves_now at word fs n j)
+found_in_turn_well at word [] n j h few b s = tt
+found_in_turn_well at word (f ∷ fs) n j h few b s =
+    let o = found_now at word n f j in
+    let one = found_next at word n f j in
+    all_both IsToldWell (told_found moves_now at word f n j) (told_found_in_turn moves_now at word fs o.next o.jail)
+    (told_found_well at word n f j h (omega (arith, few)) b.0 s)
+    (found_in_turn_well at word fs o.next o.jail h (omega (arith, few, one)) b.1 (found_stored at word n f j h (omega (arith, few)) b.0 s))
 
-all_banned_well : (word : ℕ) (name : List ℕ) (addrs : List Addr) (w : JailsNow) → w.at ≤ last_moment → w.next_ban + length addrs ≤ most_numbers → AllOf IsAddr addrs → AllOf IsStorableJail w.jails → AllOf IsToldWell (told_all_banned moves_now word name addrs w)
-all_banned_well word name [] w h few b a = tt
-all_banned_well word name (addr ∷ addrs) w h few b a =
-    let one = banned_one_next word name addr w in
-    let next = at_jail moves_now name (λ n j. banned_now w.at word n addr j) w in
-    all_both IsToldWell (told_in moves_now name (told_banned moves_now w.at word addr w.next_ban) w.jails) (told_all_banned moves_now word name addrs next)
-    (told_in_well name (told_banned moves_now w.at word addr w.next_ban) (λ j s. told_new_well [] j (banned_now w.at word w.next_ban addr j).jail IsUtf8-nil (banned_stored w.at word w.next_ban addr j h (omega (arith, few)) b.0 s)) w.jails a)
-    (all_banned_well word name addrs next h (omega (arith, few, one)) b.1
-    (at_jail_stored name (λ n j. banned_now w.at word n addr j) w (λ j s. banned_stored w.at word w.next_ban addr j h (omega (arith, few)) b.0 s) a))
+told_read_well : (at word : ℕ) (path : List ℕ) (place : Place) (fs : List Failure) (n : ℕ) (j : JailNow) → at ≤ last_moment → n + length fs ≤ most_numbers
+    → IsStorablePlace place → AllOf IsStorableFailure fs → IsStorableJail j → AllOf IsToldWell (told_read moves_now at word path place fs n j)
+told_read_well at word path place fs n j h few q b s =
+    where_told (is_watched path j.watches) (told_found_in_turn moves_now at word fs n (moves_now.followed path place j))
+    (found_in_turn_well at word fs n (moves_now.followed path place j) h few b (followed_stored path place j q s))
+
+banned_in_turn_well : (at word : ℕ) (addrs : List Addr) (n : ℕ) (j : JailNow) → at ≤ last_moment → n + length addrs ≤ most_numbers → AllOf IsAddr addrs
+    → IsStorableJail j → AllOf IsToldWell (told_banned_in_turn moves_now at word addrs n j)
+banned_in_turn_well at word [] n j h few b s = tt
+banned_in_turn_well at word (addr ∷ addrs) n j h few b s =
+    let o = banned_now at word n addr j in
+    let one = banned_next at word n addr j in
+    let there = banned_stored at word n addr j h (omega (arith, few)) b.0 s in
+    all_both IsToldWell (told_banned moves_now at word addr n j) (told_banned_in_turn moves_now at word addrs o.next o.jail)
+    (told_new_well [] j o.jail IsUtf8-nil there)
+    (banned_in_turn_well at word addrs o.next o.jail h (omega (arith, few, one)) b.1 there)
 
 ends_well : (name : List ℕ) (bs : List Banned) → AllOf IsStorableBan bs → AllOf IsToldWell (map (Ends name) bs)
 ends_well name bs a = all_of-map IsStorableBan IsToldWell (Ends name) (λ b s. s) bs a
@@ -98,15 +106,17 @@ told_unbanned_well jail addrs j s =
 
 told_done_well : (word : ℕ) (what : What) (w : JailsNow) → w.at ≤ last_moment → w.next_ban ≤ 2 ^ 62 → IsStorableWhat what → AllOf IsStorableJail w.jails → AllOf IsToldWell (told_done moves_now word what w)
 told_done_well word (Read jail path place fs) w h few b a =
-    by_test (is_followed moves_now jail path w) _
-    (λ e.
-    let same = followed_next jail path place w in
     let most = b.4 in
-    rw e (all_found_well word jail fs (followed_to moves_now jail path place w) h (omega (arith, few, same, most)) b.3
-    (at_jail_stored jail (λ n j. record { jail = moves_now.followed path place j; next = n }) w (λ j s. watches_stored (with_place path place j.watches) j (place_stored path place j.watches b.2 s.watches) s) a)))
-    (λ e. rw e tt)
-told_done_well word (Attempt jail addr) w h few b a = all_found_well word jail (record { addr = addr; time = w.at; line = [] } ∷ []) w h (omega (arith, few)) (attempt_stored addr w.at b.1 h, tt) a
-told_done_well word (BanThese jail addrs) w h few b a = let most = b.3 in all_banned_well word jail addrs w h (omega (arith, few, most)) b.1 a
+    told_in_well jail (told_read moves_now w.at word path place fs w.next_ban)
+    (λ j s. told_read_well w.at word path place fs w.next_ban j h (omega (arith, few, most)) b.2 b.3 s) w.jails a
+told_done_well word (Attempt jail addr) w h few b a =
+    let fs : List Failure = record { addr = addr; time = w.at; line = [] } ∷ [] in
+    told_in_well jail (told_found_in_turn moves_now w.at word fs w.next_ban)
+    (λ j s. found_in_turn_well w.at word fs w.next_ban j h (omega (arith, few)) (attempt_stored addr w.at b.1 h, tt) s) w.jails a
+told_done_well word (BanThese jail addrs) w h few b a =
+    let most = b.3 in
+    told_in_well jail (told_banned_in_turn moves_now w.at word addrs w.next_ban)
+    (λ j s. banned_in_turn_well w.at word addrs w.next_ban j h (omega (arith, few, most)) b.1 s) w.jails a
 told_done_well word (UnbanThese jail addrs) w h few b a = told_each_well (told_unbanned moves_now jail addrs) (told_unbanned_well jail addrs) w.jails a
 told_done_well word Tick w h few b a = tt
 told_done_well word (Ended job outcome) w h few b a = tt

@@ -1,5 +1,5 @@
 -- What a step tells is told by the middle state alone.
-use Rattle.std.proofs.Common.{◌≡◌, ℕ, cond, List, [], ◌∷◌, ◌++◌, length, drop, map, refl, sym, ◌∙◌, ap, ap₂}
+use Rattle.std.proofs.Common.{◌≡◌, ℕ, cond, List, [], ◌∷◌, ◌++◌, length, drop, map, refl, sym, ◌∙◌, ap, ap₂, ◌≤◌}
 use Rattle.std.specs.Prelude.{bytes_eq, Option}
 use Rattle.std.specs.List.{filter}
 use Rattle.f2b_base.specs.declared.addr.Addr.{Addr}
@@ -13,13 +13,16 @@ use Rattle.f2b_model.specs.Lists.{AllOf, in_order}
 use Rattle.f2b_model.specs.State.{JailsOf, map_jails, JailsState}
 use Rattle.f2b_model.specs.Nows.{jail_now, jails_now_of}
 use Rattle.f2b_model.specs.Moves.{JailAndSerial, counts}
-use Rattle.f2b_model.specs.Steps.{JailOps, moves, moves_now, is_spent, is_due, ends_before, is_meant, is_meant_jail, ended_by_time, at_jail, is_followed, followed_to, each_jail, raised}
+use Rattle.f2b_base.specs.declared.jail.Place.{Place}
+use Rattle.f2b_base.specs.Limits.{last_moment}
+use Rattle.f2b_model.specs.Watches.{is_watched}
+use Rattle.f2b_model.specs.Steps.{JailOps, moves, moves_now, is_spent, is_due, ends_before, is_meant, is_meant_jail, ended_by_time, each_jail, raised}
 use Rattle.f2b_model.specs.Sound.{IsFit, IsGoodJail, AreSoundJails}
 use Rattle.f2b_model.specs.declared.happening.Happening.{Happening}
-use Rattle.f2b_model.specs.Told.{begins, told_each, told_new, told_found, told_banned, told_ends, told_unbanned, told_in, told_all_found, told_all_banned, told_done, jails_told}
+use Rattle.f2b_model.specs.Told.{begins, told_each, told_new, told_found, told_ends, told_unbanned, told_in, told_done, jails_told, told_found_in_turn, told_banned_in_turn, told_read}
 use Rattle.f2b_model.specs.declared.happening.Happening.TheVariants.{Counts, Ends}
 use Rattle.f2b_model.proofs.ListLemmas.{by_test}
-use Rattle.f2b_model.proofs.StepLemmas.{Shows, out_map, GoodWorld, at_jail_shows, is_followed_shows, followed_to_shows, followed_to_good, in_good, each_shows, by_time_shows, calm_world, raised_good, ended_good}
+use Rattle.f2b_model.proofs.StepLemmas.{Shows, out_map, GoodWorld, each_shows, by_time_shows, calm_world, raised_good, ended_good}
 use Rattle.f2b_model.proofs.SoundLemmas.{jail_shows, IsCalmJail}
 
 module _ {J K : Type 0} (m : JailOps J) (k : JailOps K) (h : J → K) (Good Calm : ℕ → J → Type 0) (shows : Shows m k h Good Calm) where
@@ -56,28 +59,33 @@ module _ {J K : Type 0} (m : JailOps J) (k : JailOps K) (h : J → K) (Good Calm
       ∙ ap (λ (ls : List ℕ). told_new k ls (h j) (k.found at word n f (h j)).jail) (shows.shown at f j good q))))
       (λ q. let there = alike ∙ q in rw (q, there) refl)
 
-  all_found_shows : (word : ℕ) (name : List ℕ) (fs : List Failure) (w : JailsOf J) → GoodWorld m k h Good Calm shows w
-      → told_all_found m word name fs w ≡ told_all_found k word name fs (map_jails h w)
-  all_found_shows word name [] w a = refl
-  all_found_shows word name (f ∷ fs) w a =
+  found_in_turn_told : (at word : ℕ) (fs : List Failure) (n : ℕ) (j : J) → at ≤ last_moment → Good at j
+      → told_found_in_turn m at word fs n j ≡ told_found_in_turn k at word fs n (h j)
+  found_in_turn_told at word [] n j le good = refl
+  found_in_turn_told at word (f ∷ fs) n j le good =
+      let o = m.found at word n f j in
       ap₂ (λ x y. x ++ y)
-      (told_in_shows w.at name (told_found m w.at word f w.next_ban) (told_found k w.at word f w.next_ban) (told_found_shows w.at word f w.next_ban) w.jails a.1)
-      (all_found_shows word name fs (at_jail m name (λ n j. m.found w.at word n f j) w)
-      (in_good m k h Good Calm shows name (λ n j. m.found w.at word n f j) w a (λ n j. shows.good_found w.at word n f j a.0))
-      ∙ ap (told_all_found k word name fs)
-      (at_jail_shows m k h Good Calm shows name (λ n j. m.found w.at word n f j) (λ n j. k.found w.at word n f j) w (λ n j. shows.found w.at word n f j) a))
+      (told_found_shows at word f n j good)
+      (found_in_turn_told at word fs o.next o.jail le (shows.good_found at word n f j le good)
+      ∙ ap (λ (p : JailAndSerial K). told_found_in_turn k at word fs p.next p.jail) (shows.found at word n f j good))
 
-  all_banned_shows : (word : ℕ) (name : List ℕ) (addrs : List Addr) (w : JailsOf J) → GoodWorld m k h Good Calm shows w
-      → told_all_banned m word name addrs w ≡ told_all_banned k word name addrs (map_jails h w)
-  all_banned_shows word name [] w a = refl
-  all_banned_shows word name (f ∷ fs) w a =
+  told_read_shows : (at word : ℕ) (path : List ℕ) (place : Place) (fs : List Failure) (n : ℕ) (j : J) → at ≤ last_moment → Good at j
+      → told_read m at word path place fs n j ≡ told_read k at word path place fs n (h j)
+  told_read_shows at word path place fs n j le good =
+      let same = shows.watches j in
+      by_test (is_watched path (m.watches j)) _
+      (λ t. rw (same, t) (found_in_turn_told at word fs n (m.followed path place j) le (shows.good_followed at path place j good)
+      ∙ ap (λ r. told_found_in_turn k at word fs n r) (shows.followed path place j)))
+      (λ t. rw (same, t) refl)
+
+  banned_in_turn_told : (at word : ℕ) (addrs : List Addr) (n : ℕ) (j : J) → told_banned_in_turn m at word addrs n j ≡ told_banned_in_turn k at word addrs n (h j)
+  banned_in_turn_told at word [] n j = refl
+  banned_in_turn_told at word (addr ∷ addrs) n j =
+      let o = m.banned at word n addr j in
+      let same = shows.banned at word n addr j in
       ap₂ (λ x y. x ++ y)
-      (told_in_shows w.at name (told_banned m w.at word f w.next_ban) (told_banned k w.at word f w.next_ban)
-      (λ j good. told_new_shows [] j (m.banned w.at word w.next_ban f j) (k.banned w.at word w.next_ban f (h j)) (shows.banned w.at word w.next_ban f j)) w.jails a.1)
-      (all_banned_shows word name fs (at_jail m name (λ n j. m.banned w.at word n f j) w)
-      (in_good m k h Good Calm shows name (λ n j. m.banned w.at word n f j) w a (λ n j. shows.good_banned w.at word n f j a.0))
-      ∙ ap (told_all_banned k word name fs)
-      (at_jail_shows m k h Good Calm shows name (λ n j. m.banned w.at word n f j) (λ n j. k.banned w.at word n f j) w (λ n j good. shows.banned w.at word n f j) a))
+      (told_new_shows [] j o (k.banned at word n addr (h j)) same)
+      (banned_in_turn_told at word addrs o.next o.jail ∙ ap (λ (p : JailAndSerial K). told_banned_in_turn k at word addrs p.next p.jail) same)
 
   told_ends_shows : (at : ℕ) (j : J) → told_ends m at j ≡ told_ends k at (h j)
   told_ends_shows at j =
@@ -90,15 +98,16 @@ module _ {J K : Type 0} (m : JailOps J) (k : JailOps K) (h : J → K) (Good Calm
   done_told : (word : ℕ) (what : What) (w : JailsOf J) → GoodWorld m k h Good Calm shows w → told_done m word what w ≡ told_done k word what (map_jails h w)
   done_told word Tick w a = refl
   done_told word (Read jail path place fs) w a =
-      let same = is_followed_shows m k h Good Calm shows jail path w in
-      by_test (is_followed m jail path w) _
-      (λ t. let t2 = same ∙ t in
-      rw (t, t2) (all_found_shows word jail fs (followed_to m jail path place w) (followed_to_good m k h Good Calm shows jail path place w a)
-      ∙ ap (told_all_found k word jail fs) (followed_to_shows m k h Good Calm shows jail path place w a)))
-      (λ t. let t2 = same ∙ t in rw (t, t2) refl)
-  done_told word (BanThese jail addrs) w a = all_banned_shows word jail addrs w a
+      told_in_shows w.at jail (told_read m w.at word path place fs w.next_ban) (told_read k w.at word path place fs w.next_ban)
+      (λ j good. told_read_shows w.at word path place fs w.next_ban j a.0 good) w.jails a.1
+  done_told word (BanThese jail addrs) w a =
+      told_in_shows w.at jail (told_banned_in_turn m w.at word addrs w.next_ban) (told_banned_in_turn k w.at word addrs w.next_ban)
+      (λ j good. banned_in_turn_told w.at word addrs w.next_ban j) w.jails a.1
   done_told word (Unban jail addrs) w a = told_each_shows (told_unbanned m jail addrs) (told_unbanned k jail addrs) (told_unbanned_shows jail addrs) w.jails
-  done_told word (Attempt jail addr) w a = all_found_shows word jail (record { addr = addr; time = w.at; line = [] } ∷ []) w a
+  done_told word (Attempt jail addr) w a =
+      let fs : List Failure = record { addr = addr; time = w.at; line = [] } ∷ [] in
+      told_in_shows w.at jail (told_found_in_turn m w.at word fs w.next_ban) (told_found_in_turn k w.at word fs w.next_ban)
+      (λ j good. found_in_turn_told w.at word fs w.next_ban j a.0 good) w.jails a.1
   done_told word (Findtime jail secs) w a = refl
   done_told word (Bantime jail secs) w a = refl
   done_told word (Maxretry jail number) w a = refl

@@ -20,8 +20,8 @@ use Rattle.f2b_model.specs.Lists.{AllOf, in_order}
 use Rattle.f2b_model.specs.Moves.{JailAndSerial, counts, is_banned}
 use Rattle.f2b_model.specs.NowMoves.{counted_now, found_now, banned_now, ended_now, limited_now, followed_now, dropped_now}
 use Rattle.f2b_model.specs.Nows.{JailsNow}
-use Rattle.f2b_model.specs.Steps.{moves_now, is_spent, is_due, own_end, ends_before, is_meant, is_meant_jail, end_all, ended_by_time, unbanned, in_jail, at_jail, alone, find_jail, is_followed, followed_to, found_all, ban_all, kept_or_fresh, configured, done, at_reading, jails_step_now}
-use Rattle.f2b_model.specs.Watches.{watches_of, with_place}
+use Rattle.f2b_model.specs.Steps.{moves_now, is_spent, is_due, own_end, ends_before, is_meant, is_meant_jail, end_all, ended_by_time, unbanned, in_jail, at_jail, alone, find_jail, kept_or_fresh, configured, done, at_reading, jails_step_now, found_in_turn, read_in_jail, banned_in_turn}
+use Rattle.f2b_model.specs.Watches.{watches_of, with_place, is_watched}
 use Rattle.f2b_model.proofs.ListLemmas.{by_test}
 use Rattle.f2b_model.proofs.StepLemmas.{all_of-map}
 
@@ -71,17 +71,22 @@ in_jail_good name f e n [] a = tt
 in_jail_good name f e n (j ∷ js) a =
     by_test (bytes_eq j.definition.name name) _ (λ t. rw t (e n j a.0, a.1)) (λ t. rw t (a.0, in_jail_good name f e n js a.1))
 
-found_all_good : (word : ℕ) (name : List ℕ) (fs : List Failure) (w : JailsNow) → AreWatched w → AreWatched (found_all moves_now word name fs w)
-found_all_good word name [] w a = a
-found_all_good word name (f ∷ fs) w a =
-    found_all_good word name fs (at_jail moves_now name (λ n j. found_now w.at word n f j) w)
-    (in_jail_good name (λ n j. found_now w.at word n f j) (λ n j. found_good w.at word n f j) w.next_ban w.jails a)
+found_in_turn_good : (at word : ℕ) (fs : List Failure) (n : ℕ) (j : JailNow) → Good j → Good (found_in_turn moves_now at word fs n j).jail
+found_in_turn_good at word [] n j good = good
+found_in_turn_good at word (f ∷ fs) n j good =
+    let o = found_now at word n f j in found_in_turn_good at word fs o.next o.jail (found_good at word n f j good)
 
-ban_all_good : (word : ℕ) (name : List ℕ) (addrs : List Addr) (w : JailsNow) → AreWatched w → AreWatched (ban_all moves_now word name addrs w)
-ban_all_good word name [] w a = a
-ban_all_good word name (addr ∷ addrs) w a =
-    ban_all_good word name addrs (at_jail moves_now name (λ n j. banned_now w.at word n addr j) w)
-    (in_jail_good name (λ n j. banned_now w.at word n addr j) (λ n j. banned_good w.at word n addr j) w.next_ban w.jails a)
+read_in_jail_good : (at word : ℕ) (path : List ℕ) (place : Place) (fs : List Failure) (n : ℕ) (j : JailNow) → Good j
+    → Good (read_in_jail moves_now at word path place fs n j).jail
+read_in_jail_good at word path place fs n j good =
+    by_test (is_watched path j.watches) _
+    (λ t. rw t (found_in_turn_good at word fs n (followed_now path place j) (followed_good path place j good)))
+    (λ t. rw t good)
+
+banned_in_turn_good : (at word : ℕ) (addrs : List Addr) (n : ℕ) (j : JailNow) → Good j → Good (banned_in_turn moves_now at word addrs n j).jail
+banned_in_turn_good at word [] n j good = good
+banned_in_turn_good at word (addr ∷ addrs) n j good =
+    let o = banned_now at word n addr j in banned_in_turn_good at word addrs o.next o.jail (banned_good at word n addr j good)
 
 alone_good : (name : List ℕ) (f : JailNow → JailNow) → ((j : JailNow) → Good j → Good (f j)) → (w : JailsNow) → AreWatched w → AreWatched (at_jail moves_now name (alone moves_now f) w)
 alone_good name f e w a = in_jail_good name (alone moves_now f) (λ n j. e j) w.next_ban w.jails a
@@ -97,14 +102,14 @@ configured_good (d ∷ ds) js = (one (find_jail moves_now d.name js), configured
 done_good : (word : ℕ) (what : What) (w : JailsNow) → AreWatched w → AreWatched (done moves_now word what w)
 done_good word Tick w a = a
 done_good word (Read jail path place fs) w a =
-    by_test (is_followed moves_now jail path w) _
-    (λ t. rw t (found_all_good word jail fs (followed_to moves_now jail path place w) (alone_good jail (followed_now path place) (followed_good path place) w a)))
-    (λ t. rw t a)
-done_good word (BanThese jail addrs) w a = ban_all_good word jail addrs w a
+    in_jail_good jail (read_in_jail moves_now w.at word path place fs) (read_in_jail_good w.at word path place fs) w.next_ban w.jails a
+done_good word (BanThese jail addrs) w a = in_jail_good jail (banned_in_turn moves_now w.at word addrs) (banned_in_turn_good w.at word addrs) w.next_ban w.jails a
 done_good word (Unban jail addrs) w a =
     all_of-map Good Good (λ j. cond (is_meant_jail jail j.definition) (unbanned moves_now w.at addrs j) j)
     (λ j good. by_test (is_meant_jail jail j.definition) _ (λ t. rw t (end_all_good (λ b. w.at) (filter (is_meant addrs) j.bans) j good)) (λ t. rw t good)) w.jails a
-done_good word (Attempt jail addr) w a = found_all_good word jail (record { addr = addr; time = w.at; line = [] } ∷ []) w a
+done_good word (Attempt jail addr) w a =
+    let fs : List Failure = record { addr = addr; time = w.at; line = [] } ∷ [] in
+    in_jail_good jail (found_in_turn moves_now w.at word fs) (found_in_turn_good w.at word fs) w.next_ban w.jails a
 done_good word (Findtime jail secs) w a = alone_good jail (λ j. limited_now secs j.definition.maxretry j) (λ j. limited_good secs j.definition.maxretry j) w a
 done_good word (Bantime jail secs) w a = alone_good jail (moves_now.spanned secs) (λ j good. good) w a
 done_good word (Maxretry jail number) w a = alone_good jail (λ j. limited_now j.definition.findtime number j) (λ j. limited_good j.definition.findtime number j) w a

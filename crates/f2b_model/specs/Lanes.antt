@@ -1,5 +1,5 @@
 -- The lanes of a server and their jobs, and what a step of the server makes of them.
-use Rattle.std.specs.Prelude.{ℕ, ◌+◌, Bool, true, false, not, if◌then◌else◌, List, [], ◌∷◌, ◌++◌, length, map, filter, Option, Some, None}
+use Rattle.std.specs.Prelude.{ℕ, ◌+◌, Bool, true, false, not, if◌then◌else◌, List, [], ◌∷◌, ◌++◌, length, map, filter, Option, Some, None, ◌&&◌}
 use Rattle.std.specs.List.{list_any, flat_map}
 use Rattle.f2b_base.specs.declared.input.What.{What}
 use Rattle.f2b_base.specs.declared.input.What.TheVariants.{Ended, Config, Stop, CheckFailed}
@@ -49,6 +49,10 @@ lanes_of defs = flat_map lanes_of_jail defs.jails
 -- whether a lane is among these, with the same jail and the same action
 abbrev pub is_among : List UpLane → UpLane → Bool
 is_among lanes lane = list_any (same_up lane) lanes
+
+-- whether the lanes that are up are just these: none has to go down, and none to come up
+abbrev pub are_just : List UpLane → List UpLane → Bool
+are_just new up = not (list_any (λ lane. not (is_among new lane)) up) && not (list_any (λ lane. not (is_up up (lane_id lane))) new)
 
 module _ {L : Type 0} (b : Books L) where
   -- the orders become jobs, due at `at`

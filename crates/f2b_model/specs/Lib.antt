@@ -31,3 +31,6 @@ pub mod Views
 pub mod StorableViews
 pub mod JobLaws
 pub mod RenderLaws
+pub mod Bounds
+pub mod Configured
+pub mod OfJails

@@ -177,32 +177,20 @@ module _ {J : Type 0} (m : JailOps J) where
   find_jail name [] = None
   find_jail name (j ∷ js) = cond (bytes_eq (m.definition j).name name) (Some j) (find_jail name js)
 
-  -- whether a jail is there and watches a path
-  abbrev pub watches_path : List ℕ → Option J → Bool
-  watches_path path None = false
-  watches_path path (Some j) = is_watched path (m.watches j)
+  -- failures that were found in one jail, in their order
+  abbrev pub found_in_turn : ℕ → ℕ → List Failure → ℕ → J → JailAndSerial J
+  found_in_turn at word [] n j = record { jail = j; next = n }
+  found_in_turn at word (f ∷ fs) n j = let o = m.found at word n f j in found_in_turn at word fs o.next o.jail
 
-  -- whether the jail of a name watches a path
-  abbrev pub is_followed : List ℕ → List ℕ → JailsOf J → Bool
-  is_followed name path w = watches_path path (find_jail name w.jails)
+  -- what was read of a log of one jail: its place is set and the failures are taken, where the jail watches it
+  abbrev pub read_in_jail : ℕ → ℕ → List ℕ → Place → List Failure → ℕ → J → JailAndSerial J
+  read_in_jail at word path place fs n j =
+      cond (is_watched path (m.watches j)) (found_in_turn at word fs n (m.followed path place j)) (record { jail = j; next = n })
 
-  -- a log of a jail was followed to a place
-  abbrev pub followed_to : List ℕ → List ℕ → Place → JailsOf J → JailsOf J
-  followed_to name path place w = at_jail name (alone (m.followed path place)) w
-
-  -- failures that were found in a jail, in their order
-  abbrev pub found_all : ℕ → List ℕ → List Failure → JailsOf J → JailsOf J
-  found_all word name [] w = w
-  found_all word name (f ∷ fs) w = found_all word name fs (at_jail name (λ n j. m.found w.at word n f j) w)
-
-  -- what was read of a log: its place is set, and the failures are taken, where the jail watches it
-  abbrev pub read_all : ℕ → List ℕ → List ℕ → Place → List Failure → JailsOf J → JailsOf J
-  read_all word name path place fs w = cond (is_followed name path w) (found_all word name fs (followed_to name path place w)) w
-
-  -- bans by command in a jail, in their order
-  abbrev pub ban_all : ℕ → List ℕ → List Addr → JailsOf J → JailsOf J
-  ban_all word name [] w = w
-  ban_all word name (addr ∷ addrs) w = ban_all word name addrs (at_jail name (λ n j. m.banned w.at word n addr j) w)
+  -- bans by command in one jail, in their order
+  abbrev pub banned_in_turn : ℕ → ℕ → List Addr → ℕ → J → JailAndSerial J
+  banned_in_turn at word [] n j = record { jail = j; next = n }
+  banned_in_turn at word (addr ∷ addrs) n j = let o = m.banned at word n addr j in banned_in_turn at word addrs o.next o.jail
 
   -- the jail of a definition, from the one that was there
   abbrev pub kept_or_fresh : JailDef → Option J → J
@@ -217,10 +205,10 @@ module _ {J : Type 0} (m : JailOps J) where
   -- no part of the jails.
   abbrev pub done : ℕ → What → JailsOf J → JailsOf J
   done word Tick w = w
-  done word (Read jail path place fs) w = read_all word jail path place fs w
-  done word (BanThese jail addrs) w = ban_all word jail addrs w
+  done word (Read jail path place fs) w = at_jail jail (read_in_jail w.at word path place fs) w
+  done word (BanThese jail addrs) w = at_jail jail (banned_in_turn w.at word addrs) w
   done word (Unban jail addrs) w = record w { jails = map (λ j. cond (is_meant_jail jail (m.definition j)) (unbanned w.at addrs j) j) w.jails }
-  done word (Attempt jail addr) w = found_all word jail (record { addr = addr; time = w.at; line = [] } ∷ []) w
+  done word (Attempt jail addr) w = at_jail jail (found_in_turn w.at word (record { addr = addr; time = w.at; line = [] } ∷ [])) w
   done word (Findtime jail secs) w = at_jail jail (alone (λ j. m.limited secs (m.definition j).maxretry j)) w
   done word (Bantime jail secs) w = at_jail jail (alone (m.spanned secs)) w
   done word (Maxretry jail number) w = at_jail jail (alone (λ j. m.limited (m.definition j).findtime number j)) w

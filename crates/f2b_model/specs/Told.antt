@@ -11,7 +11,9 @@ use Rattle.f2b_model.specs.declared.happening.Happening.TheVariants.{Counts, Beg
 use Rattle.f2b_model.specs.Lists.{in_order}
 use Rattle.f2b_model.specs.State.{JailsOf}
 use Rattle.f2b_model.specs.Moves.{counts}
-use Rattle.f2b_model.specs.Steps.{JailOps, named, is_spent, is_due, ends_before, is_meant, is_meant_jail, at_jail, is_followed, followed_to, at_reading}
+use Rattle.f2b_base.specs.declared.jail.Place.{Place}
+use Rattle.f2b_model.specs.Watches.{is_watched}
+use Rattle.f2b_model.specs.Steps.{JailOps, named, is_spent, is_due, ends_before, is_meant, is_meant_jail, at_reading}
 
 -- what each jail tells, jail by jail
 abbrev pub told_each : {J : Type 0} → (J → List Happening) → List J → List Happening
@@ -48,23 +50,27 @@ module _ {J : Type 0} (m : JailOps J) where
   told_in name t [] = []
   told_in name t (j ∷ js) = cond (bytes_eq (m.definition j).name name) (t j) (told_in name t js)
 
-  -- found failures, each told of the jails after those before
-  abbrev pub told_all_found : ℕ → List ℕ → List Failure → JailsOf J → List Happening
-  told_all_found word name [] w = []
-  told_all_found word name (f ∷ fs) w =
-      told_in name (told_found w.at word f w.next_ban) w.jails ++ told_all_found word name fs (at_jail m name (λ n j. m.found w.at word n f j) w)
+  -- failures that were found in one jail, each told of the jail after those before
+  abbrev pub told_found_in_turn : ℕ → ℕ → List Failure → ℕ → J → List Happening
+  told_found_in_turn at word [] n j = []
+  told_found_in_turn at word (f ∷ fs) n j =
+      let o = m.found at word n f j in told_found at word f n j ++ told_found_in_turn at word fs o.next o.jail
 
-  -- bans by command, each told of the jails after those before
-  abbrev pub told_all_banned : ℕ → List ℕ → List Addr → JailsOf J → List Happening
-  told_all_banned word name [] w = []
-  told_all_banned word name (addr ∷ addrs) w =
-      told_in name (told_banned w.at word addr w.next_ban) w.jails ++ told_all_banned word name addrs (at_jail m name (λ n j. m.banned w.at word n addr j) w)
+  -- what was read of a log of one jail, where the jail watches it
+  abbrev pub told_read : ℕ → ℕ → List ℕ → Place → List Failure → ℕ → J → List Happening
+  told_read at word path place fs n j = cond (is_watched path (m.watches j)) (told_found_in_turn at word fs n (m.followed path place j)) []
+
+  -- bans by command in one jail, each told of the jail after those before
+  abbrev pub told_banned_in_turn : ℕ → ℕ → List Addr → ℕ → J → List Happening
+  told_banned_in_turn at word [] n j = []
+  told_banned_in_turn at word (addr ∷ addrs) n j =
+      let o = m.banned at word n addr j in told_banned at word addr n j ++ told_banned_in_turn at word addrs o.next o.jail
 
   -- what happened. A configuration tells nothing, also of the bans that go with a lost jail
   abbrev pub told_done : ℕ → What → JailsOf J → List Happening
-  told_done word (Read jail path place fs) w = cond (is_followed m jail path w) (told_all_found word jail fs (followed_to m jail path place w)) []
-  told_done word (Attempt jail addr) w = told_all_found word jail (record { addr = addr; time = w.at; line = [] } ∷ []) w
-  told_done word (BanThese jail addrs) w = told_all_banned word jail addrs w
+  told_done word (Read jail path place fs) w = told_in jail (told_read w.at word path place fs w.next_ban) w.jails
+  told_done word (Attempt jail addr) w = told_in jail (told_found_in_turn w.at word (record { addr = addr; time = w.at; line = [] } ∷ []) w.next_ban) w.jails
+  told_done word (BanThese jail addrs) w = told_in jail (told_banned_in_turn w.at word addrs w.next_ban) w.jails
   told_done word (Unban jail addrs) w = told_each (told_unbanned jail addrs) w.jails
   told_done word _ w = []
 

@@ -18,6 +18,7 @@
 
 mod fill;
 mod happening;
+mod jail_bans;
 mod jail_now;
 mod job_laws;
 mod lane_happening;
@@ -26,6 +27,7 @@ mod told;
 
 pub use fill::Fill;
 pub use happening::Happening;
+pub use jail_bans::JailBans;
 pub use jail_now::JailNow;
 pub use job_laws::{job_law, render_law};
 pub use lane_happening::LaneHappening;

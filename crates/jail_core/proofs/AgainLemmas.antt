@@ -9,7 +9,7 @@ use Rattle.f2b_model.specs.Storable.{IsStorable, IsStorableInput}
 use Rattle.f2b_model.specs.Views.{gathered, spread, view_of}
 use Rattle.f2b_model.specs.Whole.{State, Now, step_now, steps, steps_now}
 use Rattle.f2b_model.proofs.WholeLemmas.{view_kept, view_sound, view_taken, whole_keeps}
-use Rattle.jail_rooms.specs.Kept.{IsTakenInput}
+use Rattle.f2b_model.specs.Bounds.{IsTakenInput}
 
 -- ---- the model's steps
 

@@ -3,13 +3,12 @@ use Rattle.std.proofs.Common.{◌≡◌, ◌≢◌, ◌↔◌, Bool, true, false
 use Rattle.std.specs.List.{list_any}
 use Rattle.f2b_base.specs.declared.jail.Defs.{Defs}
 use Rattle.f2b_model.specs.declared.jail_now.JailNow.{JailNow}
-use Rattle.f2b_model.specs.Lanes.{lanes_of}
+use Rattle.f2b_model.specs.Lanes.{lanes_of, are_just}
 use Rattle.f2b_model.specs.Laws.{AreWatched}
 use Rattle.f2b_model.specs.Sound.{AreFitDefs}
 use Rattle.f2b_model.specs.Whole.{Now}
 use Rattle.f2b_model.proofs.ListLemmas.{by_test}
-use Rattle.lane_moves.specs.Held.{are_just}
-use Rattle.jail_rooms.specs.Configured.{configured_now}
+use Rattle.f2b_model.specs.Configured.{configured_now}
 use Rattle.jail_rooms.proofs.ConfigureLemmas.{IsConfigured, configured_stays, defs_now, stays_configured}
 
 -- of four tests that all pass each does

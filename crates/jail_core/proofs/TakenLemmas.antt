@@ -14,8 +14,7 @@ use Rattle.f2b_model.specs.Lists.{AllOf, AreDistinct}
 use Rattle.f2b_model.specs.Sound.{AreFitDefs, IsFit, IsFitWhat, same_kind}
 use Rattle.f2b_model.specs.Storable.{IsBase, IsWithin, AreStorableDefs, IsStorableDef, IsStorableInput, IsStorableRule, IsStorableWhat}
 use Rattle.f2b_model.proofs.StepLemmas.{all_of-more}
-use Rattle.jail_moves.specs.Rooms.{IsBounded}
-use Rattle.jail_rooms.specs.Kept.{IsBoundedWhat, IsTakenInput}
+use Rattle.f2b_model.specs.Bounds.{IsBounded, IsBoundedWhat, IsTakenInput}
 
 -- one more element
 all_more : (P : ℕ → Type 0) (x : ℕ) (xs : List ℕ) → P x → All P xs → (k : ℕ) (d : ℕ) → k < length (x ∷ xs) → P (get_or (x ∷ xs) k d)

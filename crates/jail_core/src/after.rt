@@ -7,9 +7,8 @@ ghost use Rattle.f2b_model.specs.Lists.{AllOf};
 ghost use Rattle.f2b_model.specs.Sound.{AreFitDefs, IsFitWhat};
 ghost use Rattle.f2b_model.specs.Steps.{done, moves_now};
 ghost use Rattle.f2b_model.specs.Told.{told_done};
-ghost use Rattle.jail_moves.specs.Rooms.{IsBounded};
-ghost use Rattle.jail_rooms.specs.Jails.{is_of_jails};
-ghost use Rattle.jail_rooms.specs.Kept.{IsBoundedWhat};
+ghost use Rattle.f2b_model.specs.Bounds.{IsBounded, IsBoundedWhat};
+ghost use Rattle.f2b_model.specs.OfJails.{is_of_jails};
 
 use f2b_base::{Defs, NoMemory, Outcome, Seq, What};
 use f2b_model::{Happening, LaneHappening};

@@ -6,7 +6,7 @@ ghost use Rattle.f2b_model.specs.Storable.{IsStorable, IsStorableInput};
 ghost use Rattle.f2b_model.specs.StorableViews.{IsStorableView};
 ghost use Rattle.f2b_model.specs.Views.{view_of};
 ghost use Rattle.f2b_model.specs.Whole.{State, steps, steps_now};
-ghost use Rattle.jail_rooms.specs.Kept.{IsTakenInput};
+ghost use Rattle.f2b_model.specs.Bounds.{IsTakenInput};
 
 use crate::state::Core;
 use f2b_base::{Input, NoMemory, View};

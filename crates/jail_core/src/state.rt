@@ -12,8 +12,8 @@ ghost use Rattle.f2b_model.specs.StorableViews.{taken_up, IsStorableView};
 ghost use Rattle.f2b_model.specs.Views.{empty_view, gathered, spread};
 ghost use Rattle.f2b_model.specs.Whole.{is_whole_spent, step_now, told_now};
 ghost use Rattle.f2b_model.specs.declared.jail_now.JailNow.{JailNow};
-ghost use Rattle.jail_rooms.specs.Configured.{configured_now};
-ghost use Rattle.jail_rooms.specs.Kept.{IsTakenInput};
+ghost use Rattle.f2b_model.specs.Configured.{configured_now};
+ghost use Rattle.f2b_model.specs.Bounds.{IsTakenInput};
 ghost use Rattle.jail_rooms.specs.Shown.{ban_from, lately_in, totals_of};
 ghost use Rattle.lane_moves.specs.CheckText.{check_text_of};
 
@@ -199,6 +199,15 @@ impl Core {
         ensures { result ≡ option_map_or (lately_in now) (find_jail moves_now name.now self.now.jails.jails) 0 }
     {
         self.jails.failed_lately(name, now)
+    }
+
+    /// Forgets, in all jails together, the failures of up to `most` addresses that have none which still matters: called once a turn, it
+    /// gives the memory of a burst back. The state stays as it is. It takes no time by the addresses of a jail where none is so, and no
+    /// memory.
+    pub fn sweep(&mut self, most: u64)
+        ensures { self.new ≡ self.old }
+    {
+        self.jails.sweep(most);
     }
 
     /// Whether the serials of bans or the ids of jobs are used up. Nothing happens any more then. Takes no memory.

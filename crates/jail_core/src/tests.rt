@@ -8,7 +8,7 @@ ghost use Rattle.f2b_model.specs.Lists.{AllOf, AreDistinct};
 ghost use Rattle.f2b_model.specs.Sound.{same_kind};
 ghost use Rattle.f2b_model.specs.Storable.{patterns_of, IsJailName, IsStorable, IsStorableAction, IsStorableDef, IsStorableInput, IsStorablePlace, IsStorableRule, IsStorableWhat};
 ghost use Rattle.f2b_model.specs.StorableViews.{IsStorableView};
-ghost use Rattle.jail_rooms.specs.Kept.{IsTakenInput};
+ghost use Rattle.f2b_model.specs.Bounds.{IsTakenInput};
 
 mod checks;
 mod histories;

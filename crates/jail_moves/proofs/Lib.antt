@@ -2,6 +2,8 @@ pub mod BanLemmas
 pub mod PastLemmas
 pub mod EndLemmas
 pub mod RoomLemmas
+pub mod StaleLemmas
+pub mod SweepLemmas
 pub mod WatchLemmas
 pub mod WindowLists
 pub mod WindowEntries

@@ -26,9 +26,10 @@ use Rattle.f2b_model.specs.Views.{jail_of}
 use Rattle.f2b_model.proofs.FullLemmas.{both_true}
 use Rattle.f2b_model.proofs.ListLemmas.{by_test, filter_swap}
 use Rattle.f2b_model.proofs.OrderlyLemmas.{all_of-filter, all_of-kept, all_of-push}
-use Rattle.fail_window.specs.Opened.{Opened}
+use Rattle.fail_window.specs.Opened.{KeepsLimits, Opened}
 use Rattle.jail_moves.specs.Added.{with_failure}
-use Rattle.jail_moves.specs.Rooms.{Contents, all_ended, jail_in, with_ban, with_count, IsBounded, IsCounted, IsKeptJail, IsStored}
+use Rattle.jail_moves.specs.Rooms.{Contents, all_ended, jail_in, with_ban, with_count, IsCounted, IsKeptJail, IsStored}
+use Rattle.f2b_model.specs.Bounds.{IsBounded}
 
 -- ---- lists
 
@@ -297,4 +298,27 @@ stored_kept at next moment d c v bounded stored moment_is c_moment bans findtime
       (all_of-filter (λ (f : Failure). f.time ≤ at) (λ (f : Failure). not (is_full d.findtime d.maxretry f.addr (filter (can_matter moment d.findtime) v.failures)))
       (filter (can_matter moment d.findtime) v.failures) (all_of-filter (λ (f : Failure). f.time ≤ at) (can_matter moment d.findtime) v.failures stored.times));
   serials = subst (λ (bs : List Ban). AllOf (λ (b : Ban). b.serial < next) bs) (sym bans) stored.serials;
+}
+
+-- ---- addresses of which nothing matters are forgotten
+
+-- the jail stays
+pub swept_jail : (d : JailDef) (c : Contents) (w : Opened) → filter (is_recent c.moment c.windows.findtime) w.failures ≡ filter (is_recent c.moment c.windows.findtime) c.windows.failures
+    → c.windows.findtime ≡ d.findtime → jail_in d (record c { windows = w }) ≡ jail_in d c
+swept_jail d c w recent limits =
+    let same : filter (is_recent c.moment d.findtime) w.failures ≡ filter (is_recent c.moment d.findtime) c.windows.failures =
+    subst (λ (n : ℕ). filter (is_recent c.moment n) w.failures ≡ filter (is_recent c.moment n) c.windows.failures) limits recent in
+    ap (λ (fs : List Failure). let j : JailNow = record (jail_in d c) { failures = fs } in j) same
+
+-- and so does what always holds of it
+pub swept_kept : (at next : ℕ) (d : JailDef) (c : Contents) (w : Opened) → KeepsLimits c.windows w
+    → ((moment : ℕ) → AllOf (λ (f : Failure). f.time ≤ moment) c.windows.failures → AllOf (λ (f : Failure). f.time ≤ moment) w.failures) → IsKeptJail at next d c
+    → IsKeptJail at next d (record c { windows = w })
+swept_kept at next d c w limits times kept = record {
+  bounded = kept.bounded;
+  findtime = limits.findtime ∙ kept.findtime;
+  maxretry = limits.maxretry ∙ kept.maxretry;
+  moment = kept.moment;
+  times = times at kept.times;
+  serials = kept.serials;
 }

@@ -231,6 +231,7 @@ own_under findtime maxretry addr w e own some at =
         own = own.own;
         in_order = own.in_order;
         latest = own.latest;
+        last = own.last;
       },
     )
 

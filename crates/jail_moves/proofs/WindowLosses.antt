@@ -106,7 +106,7 @@ counted_out findtime maxretry now f old mid new full near held is_full_now enter
 -- ---- old windows go
 
 -- where the latest failure is not recent, none is
-none_recent : (now findtime latest : ℕ) (fs : List Failure) → nat_lt now (latest + 2 * findtime) ≡ false → AllOf (λ (f : Failure). f.time ≤ latest) fs
+pub none_recent : (now findtime latest : ℕ) (fs : List Failure) → nat_lt now (latest + 2 * findtime) ≡ false → AllOf (λ (f : Failure). f.time ≤ latest) fs
     → AllOf (λ (f : Failure). is_recent now findtime f ≡ false) fs
 none_recent now findtime latest [] old a = tt
 none_recent now findtime latest (f ∷ fs) old a = (older f.time a.0, none_recent now findtime latest fs old a.1)

@@ -1,9 +1,11 @@
 -- The windows of a jail by address, and what a call does to the failures that they hold.
-use Rattle.std.specs.Prelude.{◌≡◌, ℕ, ◌+◌, ◌*◌, ◌≤◌, ◌↔◌, Bool, true, false, not, nat_lt, max, Option, is_some, IfSome, List, [], ◌∷◌, ◌++◌, filter}
+use Rattle.std.specs.Prelude.{◌≡◌, ℕ, ◌+◌, ◌*◌, ◌≤◌, ◌↔◌, ◌==◌, Bool, true, false, not, nat_lt, max, Option, is_some, IfSome, List, [], ◌∷◌, ◌++◌, filter}
 use Rattle.std.specs.List.{list_any}
 use Rattle.std.specs.List.Sorted.{IsStrictlySortedBy}
 use Rattle.std.specs.BTreeMap.{is_at}
+use Rattle.std.specs.BTreeMap.Range.{entries_between}
 use Rattle.std.specs.Map.{keys_of, lookup}
+use Rattle.std.specs.declared.ops.Bound.TheVariants.{Included, Unbounded}
 use Rattle.ban_table.specs.Places.{pair_cmp, key_of}
 use Rattle.f2b_base.specs.declared.addr.Addr.{Addr}
 use Rattle.f2b_base.specs.declared.ban.Failure.{Failure}
@@ -28,7 +30,8 @@ failures_in (e ∷ es) = e.1.window.failures ++ failures_in es
 abbrev pub window_at : ℕ × ℕ → List Entry → Option AddrWindow
 window_at k es = lookup (is_at (pair_cmp k)) es
 
--- what always holds of an address's window: it has the jail's limits, and its failures are the address's, in order, the latest known
+-- what always holds of an address's window: it has the jail's limits, and its failures are the address's, in order, and not none; the time of
+-- the latest is known
 pub record IsOwn (findtime maxretry : ℕ) (addr : Addr) (e : Entry) : Type 0 where
   pub key : e.0 ≡ key_of addr
   pub span : e.1.window.findtime ≡ findtime
@@ -36,6 +39,7 @@ pub record IsOwn (findtime maxretry : ℕ) (addr : Addr) (e : Entry) : Type 0 wh
   pub own : AllOf (λ (f : Failure). is_of addr f ≡ true) e.1.window.failures
   pub in_order : IsInOrder comes_before e.1.window.failures
   pub latest : AllOf (λ (f : Failure). f.time ≤ e.1.latest) e.1.window.failures
+  pub last : list_any (λ (f : Failure). f.time == e.1.latest) e.1.window.failures ≡ true
 
 -- each entry is some address's, and the keys rise
 pub record AreWindows (findtime maxretry : ℕ) (es : List Entry) : Type 0 where
@@ -103,3 +107,15 @@ pub record Counts (findtime maxretry now : ℕ) (f : Failure) (old new : List En
 -- whether an address's latest failure is recent at a moment
 abbrev pub is_live : ℕ → ℕ → Entry → Bool
 is_live now findtime e = nat_lt now (e.1.latest + 2 * findtime)
+
+-- whether nothing of an address's window is recent at a moment
+abbrev pub is_stale : ℕ → ℕ → Entry → Bool
+is_stale now findtime e = not (is_live now findtime e)
+
+-- no address's latest failure is before a time
+abbrev pub AreNotBefore : ℕ → List Entry → Type 0
+AreNotBefore time es = AllOf (λ (e : Entry). time ≤ e.1.latest) es
+
+-- the windows from a key on
+abbrev pub windows_from : ℕ × ℕ → List Entry → List Entry
+windows_from k es = entries_between pair_cmp (Included k) Unbounded es

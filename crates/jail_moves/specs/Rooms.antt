@@ -1,5 +1,5 @@
 -- What code keeps of a jail beside its definition, and the middle state that it stands for.
-use Rattle.std.specs.Prelude.{◌≡◌, ℕ, ◌^◌, ◌<◌, ◌≤◌, Bool, List, [], ◌∷◌, ◌++◌, Option, filter}
+use Rattle.std.specs.Prelude.{◌≡◌, ℕ, ◌<◌, ◌≤◌, Bool, List, [], ◌∷◌, ◌++◌, Option, filter}
 use Rattle.ban_table.specs.declared.lists.BanLists.{BanLists}
 use Rattle.ban_table.specs.Tables.{ended}
 use Rattle.f2b_base.specs.declared.addr.Addr.{Addr}
@@ -8,7 +8,7 @@ use Rattle.f2b_base.specs.declared.ban.Failure.{Failure}
 use Rattle.f2b_base.specs.declared.jail.JailDef.{JailDef}
 use Rattle.f2b_base.specs.declared.view.JailView.{JailView}
 use Rattle.f2b_base.specs.declared.view.WatchView.{WatchView}
-use Rattle.f2b_base.specs.Span.{IsRule}
+use Rattle.f2b_model.specs.Bounds.{IsBounded}
 use Rattle.f2b_model.specs.declared.jail_now.JailNow.{JailNow}
 use Rattle.f2b_model.specs.Full.{is_recent}
 use Rattle.f2b_model.specs.Lists.{AllOf, IsInOrder}
@@ -17,6 +17,7 @@ use Rattle.f2b_model.specs.Nows.{comes_before}
 use Rattle.f2b_model.specs.Sound.{IsOnceEach, IsRisingSerials}
 use Rattle.fail_window.specs.Opened.{KeepsLimits, Opened}
 use Rattle.jail_moves.specs.Added.{IsAdded}
+use Rattle.jail_moves.specs.Stale.{stale_addrs}
 
 -- what is kept of a jail beside its definition
 pub record Contents : Type 0 where
@@ -43,12 +44,9 @@ jail_in d c = record {
   past = c.bans.past;
 }
 
--- a definition within its bounds
-pub record IsBounded (d : JailDef) : Type 0 where
-  pub rule : IsRule d.rule
-  pub findtime : 1 ≤ d.findtime
-  pub maxretry : 1 ≤ d.maxretry
-  pub most : d.maxretry < 2 ^ 32
+-- the addresses of which failures are kept though none matters, each once
+abbrev pub stale_in : Contents → List Addr
+stale_in c = stale_addrs c.moment c.windows.findtime c.windows.failures
 
 -- What always holds of a jail at a moment, where the ban to come has that serial: the definition is bounded and its limits are those
 -- of the windows, nothing is to come, and each active ban has a lower serial.

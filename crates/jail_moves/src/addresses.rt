@@ -6,7 +6,7 @@ ghost use Rattle.f2b_model.specs.Lists.{AllOf};
 ghost use Rattle.f2b_model.specs.Moves.{is_near_to};
 ghost use Rattle.f2b_model.specs.StorableViews.{can_matter};
 ghost use Rattle.ban_table.specs.Places.{key_of};
-ghost use Rattle.jail_moves.specs.Addresses.{failures_in, window_at, AreWindows, Counts, Enters, Grows, IsHeld, Loses, LosesEach, Sweeps};
+ghost use Rattle.jail_moves.specs.Addresses.{failures_in, window_at, AreNotBefore, AreWindows, Counts, Enters, Grows, IsHeld, Loses, LosesEach, Sweeps};
 
 use f2b_base::{Addr, Failure, NoMemory, Plain, Seq};
 use fail_window::Window;
@@ -17,7 +17,7 @@ use std::collections::BTreeMap;
 #[derive(Drop)]
 pub struct AddrWindow {
     pub window: Window,
-    /// No failure of the window is later.
+    /// The time of its latest failure.
     pub latest: u64,
 }
 
@@ -35,7 +35,7 @@ fn key_of(addr: Addr) -> (u8, u128)
 }
 
 /// Whether a time is later than two `findtime` before a moment.
-fn is_recent(at: u64, findtime: u64, time: u64) -> bool
+pub fn is_recent(at: u64, findtime: u64, time: u64) -> bool
     ensures { result ≡ nat_lt at (time + 2 * findtime) }
 {
     at < time || (at - time) / 2 < findtime
@@ -102,6 +102,7 @@ fn begin(
     requires absent { window_at (key_of failure.addr) windows.old.entries ≡ None }
     ensures ok { IfOk result (Enters findtime maxretry now failure windows.old.entries windows.new.entries) }
     ensures err { OnErr result (windows.new.entries ≡ windows.old.entries) }
+    ensures latest { (time : ℕ) → time ≤ failure.time → AreNotBefore time windows.old.entries → AreNotBefore time windows.new.entries }
 {
     let addr = failure.addr;
     let mut first = AddrWindow {
@@ -128,6 +129,7 @@ fn enter(
     requires forward { AllOf (λ (f : Failure). f.time ≤ now) (filter (is_of failure.addr) (failures_in windows.old.entries)) }
     ensures ok { IfOk result (Enters findtime maxretry now failure windows.old.entries windows.new.entries) }
     ensures err { OnErr result (windows.new.entries ≡ windows.old.entries) }
+    ensures latest { (time : ℕ) → time ≤ failure.time → AreNotBefore time windows.old.entries → AreNotBefore time windows.new.entries }
 {
     match windows.get_mut(&key_of(failure.addr)) {
         Some(window) => window.add(failure, now),
@@ -139,6 +141,7 @@ fn enter(
 pub fn remove(windows: &mut ByAddr, addr: Addr) -> Option<AddrWindow>
     ensures value { result ≡ window_at (key_of addr) windows.old.entries }
     ensures loses { (findtime maxretry : ℕ) → AreWindows findtime maxretry windows.old.entries → Loses findtime maxretry addr windows.old.entries windows.new.entries }
+    ensures latest { (time : ℕ) → AreNotBefore time windows.old.entries → AreNotBefore time windows.new.entries }
 {
     windows.remove(&key_of(addr))
 }
@@ -163,6 +166,7 @@ fn take_out(
     ensures near { (maxretry : ℕ) → AreWindows findtime maxretry windows.old.entries
         → result ≡ filter (is_near_to addr time findtime) (filter (is_of addr) (failures_in windows.old.entries)) }
     ensures loses { (maxretry : ℕ) → AreWindows findtime maxretry windows.old.entries → Loses findtime maxretry addr windows.old.entries windows.new.entries }
+    ensures latest { (time : ℕ) → AreNotBefore time windows.old.entries → AreNotBefore time windows.new.entries }
 {
     match remove(windows, addr) {
         Some(gone) => {
@@ -190,6 +194,7 @@ pub fn count(
     requires forward { AllOf (λ (f : Failure). f.time ≤ now) (filter (is_of failure.addr) (failures_in windows.old.entries)) }
     ensures ok { IfOk result (Counts findtime maxretry now failure windows.old.entries windows.new.entries) }
     ensures err { OnErr result (windows.new.entries ≡ windows.old.entries) }
+    ensures latest { (time : ℕ) → time ≤ failure.time → AreNotBefore time windows.old.entries → AreNotBefore time windows.new.entries }
 {
     let addr = failure.addr;
     let time = failure.time;
@@ -202,14 +207,16 @@ pub fn count(
 
 /// Takes out each window of which nothing is recent at a moment.
 fn sweep(windows: &mut ByAddr, now: u64, findtime: u64)
-    ensures { (maxretry : ℕ) → IsHeld findtime maxretry windows.old.entries → Sweeps findtime maxretry now windows.old.entries windows.new.entries }
+    ensures sweeps { (maxretry : ℕ) → IsHeld findtime maxretry windows.old.entries → Sweeps findtime maxretry now windows.old.entries windows.new.entries }
+    ensures latest { (time : ℕ) → AreNotBefore time windows.old.entries → AreNotBefore time windows.new.entries }
 {
     windows.retain(|_, window| is_recent(now, findtime, window.latest));
 }
 
 /// Sweeps once as many failures came in as there were windows after the last sweep, so that each failure pays for one window.
 pub fn sweep_in_turn(windows: &mut ByAddr, until_sweep: &mut u64, now: u64, findtime: u64)
-    ensures { (maxretry : ℕ) → IsHeld findtime maxretry windows.old.entries → Sweeps findtime maxretry now windows.old.entries windows.new.entries }
+    ensures sweeps { (maxretry : ℕ) → IsHeld findtime maxretry windows.old.entries → Sweeps findtime maxretry now windows.old.entries windows.new.entries }
+    ensures latest { (time : ℕ) → AreNotBefore time windows.old.entries → AreNotBefore time windows.new.entries }
 {
     if *until_sweep == 0 {
         sweep(windows, now, findtime);

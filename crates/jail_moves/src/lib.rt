@@ -15,6 +15,7 @@ mod matches;
 mod matches_tests;
 mod room;
 mod stored;
+mod sweep;
 mod totals;
 mod unbans;
 mod watches;

@@ -1,6 +1,7 @@
 //! Worked rows of the lines that a ban shows, through `matches_of` and the calls of `Room`.
 ghost use Rattle.std.specs.Prelude.{◌≡◌, IfOk};
-ghost use Rattle.jail_moves.specs.Rooms.{IsBounded, IsKeptJail, IsStored};
+ghost use Rattle.jail_moves.specs.Rooms.{IsKeptJail, IsStored};
+ghost use Rattle.f2b_model.specs.Bounds.{IsBounded};
 
 use crate::matches::matches_of;
 use crate::room::Room;

@@ -3,6 +3,7 @@ ghost use Rattle.std.specs.Prelude.{◌≡◌, ◌≤◌, ◌<◌, ◌+◌, ◌^
 ghost use Rattle.std.specs.List.{list_any};
 ghost use Rattle.ban_table.specs.Walks.{is_from};
 ghost use Rattle.f2b_base.specs.declared.ban.Ban.{Ban};
+ghost use Rattle.f2b_base.specs.declared.jail.JailDef.{JailDef};
 ghost use Rattle.f2b_model.specs.Lists.{AllOf};
 ghost use Rattle.f2b_model.specs.Matches.{matches_of};
 ghost use Rattle.f2b_model.specs.Moves.{counts, is_banned, new_ban};
@@ -15,7 +16,8 @@ ghost use Rattle.f2b_model.specs.Views.{jail_view};
 ghost use Rattle.f2b_model.specs.Watches.{is_watched, with_place};
 ghost use Rattle.f2b_model.specs.declared.happening.Happening.TheVariants.{Ends};
 ghost use Rattle.jail_moves.specs.Lately.{failed_lately};
-ghost use Rattle.jail_moves.specs.Rooms.{jail_in, with_ban, IsBounded, IsCounted, IsKeptJail, IsStored};
+ghost use Rattle.jail_moves.specs.Rooms.{jail_in, stale_in, with_ban, IsCounted, IsKeptJail, IsStored};
+ghost use Rattle.f2b_model.specs.Bounds.{IsBounded};
 
 use crate::bans::{begin, drop_past, end_due, unban};
 use crate::matches::matches_of;
@@ -201,6 +203,19 @@ impl Room {
         ensures { result ≡ failed_lately now definition.now.findtime (jail_in definition.now self.now).failures }
     {
         self.windows.failed_lately(now)
+    }
+
+    /// Forgets the failures of up to `most` addresses that have none which still matters, and gives of how many. The jail stays as it is.
+    /// Takes no memory.
+    pub fn sweep(&mut self, most: u64) -> u64
+        ensures room { self.new ≡ record self.old { windows = self.new.windows } }
+        ensures jail { (definition : JailDef) → self.old.windows.findtime ≡ definition.findtime → jail_in definition self.new ≡ jail_in definition self.old }
+        ensures kept { (at next : ℕ) → (definition : JailDef) → IsKeptJail at next definition self.old → IsKeptJail at next definition self.new }
+        ensures most { result ≤ most }
+        ensures left { length (stale_in self.new) + result ≡ length (stale_in self.old) }
+        ensures none { result < most → stale_in self.new ≡ [] }
+    {
+        self.windows.sweep(self.moment, most)
     }
 
     /// Counts a failure, and gives those of its address's failures that are near it, where the address is now full. Its failures are

@@ -1,5 +1,5 @@
 //! The failures of a jail that can still fill an address: a window for each address.
-ghost use Rattle.std.specs.Prelude.{◌≡◌, ℕ, ◌≤◌, ◌<◌, ◌+◌, [], not, filter, OnOk, IfOk};
+ghost use Rattle.std.specs.Prelude.{◌≡◌, ℕ, ◌≤◌, ◌<◌, ◌+◌, [], length, not, filter, OnOk, IfOk};
 ghost use Rattle.f2b_base.specs.declared.ban.Failure.{Failure};
 ghost use Rattle.f2b_model.specs.Full.{is_recent, is_of};
 ghost use Rattle.f2b_model.specs.Lists.{AllOf, IsInOrder};
@@ -8,11 +8,13 @@ ghost use Rattle.f2b_model.specs.StorableViews.{can_matter, unfilled};
 ghost use Rattle.fail_window.specs.Opened.{KeepsLimits};
 ghost use Rattle.jail_moves.specs.Added.{IsAdded};
 ghost use Rattle.jail_moves.specs.Lately.{failed_lately};
+ghost use Rattle.jail_moves.specs.Stale.{stale_addrs};
 
 use crate::addresses::{
-    ByAddr, can_matter, count, recent_failures, remove, remove_each, sweep_in_turn,
+    ByAddr, can_matter, count, is_recent, recent_failures, remove, remove_each, sweep_in_turn,
 };
 use crate::lately::failed_lately;
+use crate::sweep::{drop_stale, earliest};
 use f2b_base::{Addr, Failure, NoMemory, Plain, Seq};
 use std::alloc::Global;
 use std::collections::BTreeMap;
@@ -24,6 +26,8 @@ pub struct Windows {
     findtime: u64,
     maxretry: u32,
     by_addr: ByAddr,
+    /// No address's latest failure is before it.
+    earliest: u64,
     /// How many failures come in before the next sweep.
     until_sweep: u64,
     alloc: Global,
@@ -31,13 +35,13 @@ pub struct Windows {
 
 impl Model for Windows {
     ghost use Rattle.fail_window.specs.Opened.{Opened};
-    ghost use Rattle.jail_moves.specs.Addresses.{failures_in, IsHeld};
+    ghost use Rattle.jail_moves.specs.Addresses.{failures_in, AreNotBefore, IsHeld};
 
     ghost Value = { Opened };
 
     ghost view = { λ w. record { findtime = w.findtime; maxretry = w.maxretry; failures = failures_in w.by_addr.entries } };
 
-    ghost invariant = { λ w. IsHeld w.findtime w.maxretry w.by_addr.entries };
+    ghost invariant = { λ w. IsHeld w.findtime w.maxretry w.by_addr.entries × AreNotBefore w.earliest w.by_addr.entries };
 }
 
 impl Windows {
@@ -51,6 +55,7 @@ impl Windows {
             findtime,
             maxretry,
             by_addr: BTreeMap::new(alloc),
+            earliest: u64::MAX,
             until_sweep: 0,
             alloc,
         }
@@ -89,10 +94,12 @@ impl Windows {
         }
         // An address that is full stays so, whatever came behind.
         remove_each(&mut by_addr, full.as_slice());
+        let earliest = earliest(&by_addr);
         Ok(Windows {
             findtime,
             maxretry,
             by_addr,
+            earliest,
             until_sweep: 0,
             alloc,
         })
@@ -107,7 +114,9 @@ impl Windows {
         ensures limits { OnOk result (KeepsLimits self.old self.new) }
         ensures added { IfOk result (λ full. IsAdded now failure self.old self.new full) }
     {
+        // Stays beside `sweep`: while failures come, each pays for a look at one window, even where nobody calls that.
         sweep_in_turn(&mut self.by_addr, &mut self.until_sweep, now, self.findtime);
+        self.earliest = self.earliest.min(failure.time);
         count(
             &mut self.by_addr,
             self.alloc,
@@ -123,6 +132,26 @@ impl Windows {
         ensures { self.new ≡ record self.old { failures = filter (λ (f : Failure). not (is_of addr f)) self.old.failures } }
     {
         let _ = remove(&mut self.by_addr, addr);
+    }
+
+    /// Forgets the failures of up to `most` addresses that have none which is recent at a moment, and gives of how many. Where no
+    /// address can be so it takes no time, and otherwise time by the addresses. Takes no memory.
+    pub fn sweep(&mut self, moment: u64, most: u64) -> u64
+        ensures limits { KeepsLimits self.old self.new }
+        ensures recent { filter (is_recent moment self.old.findtime) self.new.failures ≡ filter (is_recent moment self.old.findtime) self.old.failures }
+        ensures times { (now : ℕ) → AllOf (λ (f : Failure). f.time ≤ now) self.old.failures → AllOf (λ (f : Failure). f.time ≤ now) self.new.failures }
+        ensures most { result ≤ most }
+        ensures left { length (stale_addrs moment self.old.findtime self.new.failures) + result ≡ length (stale_addrs moment self.old.findtime self.old.failures) }
+        ensures none { result < most → stale_addrs moment self.old.findtime self.new.failures ≡ [] }
+    {
+        if is_recent(moment, self.findtime, self.earliest) {
+            return 0;
+        }
+        let dropped = drop_stale(&mut self.by_addr, moment, self.findtime, most);
+        if dropped < most {
+            self.earliest = earliest(&self.by_addr);
+        }
+        dropped
     }
 
     /// How many addresses have a failure that is later than `findtime` before a moment. Takes no memory.

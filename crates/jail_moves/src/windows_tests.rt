@@ -137,6 +137,26 @@ fn old_addresses_are_not_kept(rt: HostRuntime) -> Result<(), Fail> {
     Ok(())
 }
 
+#[test]
+fn a_burst_is_forgotten_in_parts(rt: HostRuntime) -> Result<(), Fail> {
+    let mut rows = Vec::new(rt.alloc());
+    for number in 0..2000 {
+        rows.push((Addr::V4(number), 100, 100))?;
+    }
+    rows.push((THIRD, 1300, 1300))?;
+    let (mut windows, _filled) = fed(rt.alloc(), 600, 9, rows.as_slice())?;
+    let before = windows.failures(1300)?;
+    assert_eq!(rt; windows.sweep(1299, 100), 0);
+    for round in 0..20 {
+        assert_eq!(rt; count_kept(&windows)?, 2001 - 100 * round);
+        assert_eq!(rt; windows.sweep(1300, 100), 100);
+    }
+    assert_eq!(rt; windows.sweep(1300, 100), 0);
+    assert_eq!(rt; count_kept(&windows)?, 1);
+    assert!(rt; windows.failures(1300)? == before);
+    Ok(())
+}
+
 /// How many failures are kept of two of an address.
 fn kept_of_two(alloc: Global, maxretry: u32) -> Result<usize, NoMemory>
     requires { 1 ≤ maxretry }

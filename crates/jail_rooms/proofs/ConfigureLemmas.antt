@@ -16,7 +16,7 @@ use Rattle.f2b_base.specs.declared.job.UpLane.{UpLane}
 use Rattle.f2b_base.specs.declared.view.WatchView.{WatchView}
 use Rattle.f2b_model.specs.declared.jail_now.JailNow.{JailNow}
 use Rattle.f2b_model.specs.Active.{held}
-use Rattle.f2b_model.specs.Lanes.{Lanes, all_down, all_up, books_now, is_among, lane_down, lane_up, lanes_configured, lanes_of, missing_up, others_down}
+use Rattle.f2b_model.specs.Lanes.{Lanes, all_down, all_up, books_now, is_among, lane_down, lane_up, lanes_configured, lanes_of, missing_up, others_down, are_just}
 use Rattle.f2b_model.specs.Laws.{AreWatched, IsWatched}
 use Rattle.f2b_model.specs.Lists.{AllOf, AreDistinct}
 use Rattle.f2b_model.specs.NowMoves.{kept_now}
@@ -28,8 +28,7 @@ use Rattle.f2b_model.specs.Watches.{place_in, watches_of}
 use Rattle.f2b_model.specs.Whole.{Now}
 use Rattle.f2b_model.proofs.ListLemmas.{by_test}
 use Rattle.jail_moves.specs.Rooms.{Contents}
-use Rattle.lane_moves.specs.Held.{are_just}
-use Rattle.jail_rooms.specs.Configured.{configured_now}
+use Rattle.f2b_model.specs.Configured.{configured_now}
 use Rattle.jail_rooms.specs.Kept.{jails_in}
 
 -- ---- what is asked
@@ -248,7 +247,7 @@ configured_stays defs n fit watched stands =
     let jails : done moves_now 0 (Config defs) n.jails ≡ n.jails = ap₂ (λ (p : ℕ) (ks : List JailNow). let w : JailsNow = record (n.jails) { purge = p; jails = ks } in w) purge jails in
     let lanes : lanes_configured books_now n.jails.at (held moves_now n.jails) (held moves_now (done moves_now 0 (Config defs) n.jails)) (lanes_of defs) n.lanes ≡ n.lanes =
     lanes_stay n.jails.at (held moves_now n.jails) (held moves_now (done moves_now 0 (Config defs) n.jails)) (lanes_of defs) n.lanes stands.not_stopping stands.just in
-    ap₂ (λ (w : JailsNow) (l : Lanes (List Job)). let m : Now = record { jails = w; lanes = l } in m) jails lanes
+    ap₂ (λ (w : JailsNow) (l : Lanes (List Job)). let m : Now = record { jails = w; lanes = l } in m) as_they_were lanes
 
 -- and one that changes nothing gives what stands
 pub stays_configured : (defs : Defs) (n : Now) → configured_now defs n ≡ n → IsConfigured defs n
@@ -275,8 +274,8 @@ definitions_in (d ∷ ds) [] same = absurd (omega arith)
 definitions_in (d ∷ ds) (c ∷ cs) same = ap (λ (es : List JailDef). d ∷ es) (definitions_in ds cs (omega arith))
 
 -- and one is idle where what is kept of it says so
-pub idle_in : (ds : List JailDef) (cs : List Contents) → length cs ≡ length ds → list_any (λ (j : JailNow). j.idle) (jails_in ds cs) ≡ list_any (λ (c : Contents). c.idle) cs
-idle_in [] [] same = refl
-idle_in [] (c ∷ cs) same = absurd (omega arith)
-idle_in (d ∷ ds) [] same = absurd (omega arith)
-idle_in (d ∷ ds) (c ∷ cs) same = ap (λ (b : Bool). c.idle || b) (idle_in ds cs (omega arith))
+pub idle_as_kept : (ds : List JailDef) (cs : List Contents) → length cs ≡ length ds → list_any (λ (j : JailNow). j.idle) (jails_in ds cs) ≡ list_any (λ (c : Contents). c.idle) cs
+idle_as_kept [] [] same = refl
+idle_as_kept [] (c ∷ cs) same = absurd (omega arith)
+idle_as_kept (d ∷ ds) [] same = absurd (omega arith)
+idle_as_kept (d ∷ ds) (c ∷ cs) same = ap (λ (b : Bool). c.idle || b) (idle_as_kept ds cs (omega arith))

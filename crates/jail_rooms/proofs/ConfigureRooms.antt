@@ -9,10 +9,11 @@ use Rattle.f2b_model.specs.Lists.{AllOf, AreDistinct}
 use Rattle.f2b_model.specs.Steps.{find_jail, moves_now}
 use Rattle.f2b_model.proofs.ListLemmas.{by_test}
 use Rattle.f2b_model.proofs.SameLemmas.{bytes_eq-true}
-use Rattle.jail_moves.specs.Rooms.{Contents, jail_in, IsBounded, IsKeptJail}
+use Rattle.jail_moves.specs.Rooms.{Contents, jail_in, IsKeptJail}
+use Rattle.f2b_model.specs.Bounds.{IsBounded}
 use Rattle.jail_rooms.specs.Kept.{jails_in, AreKept}
 use Rattle.jail_rooms.specs.Left.{jail_left, find_left, IsLeftKept, AreLeftKept}
-use Rattle.jail_rooms.specs.LogRead.{jail_place}
+use Rattle.jail_rooms.specs.Places.{jail_place}
 
 -- where no jail has the name, none is left
 pub none_left : (name : List ℕ) (ds : List JailDef) (os : List (Option Contents)) → length ds ≤ jail_place name ds → find_left name ds os ≡ None

@@ -1,11 +1,11 @@
 pub mod DoneLemmas
 pub mod ConfigureLemmas
 pub mod ConfigureRooms
-pub mod EachLemmas
-pub mod LogLemmas
+pub mod MovedLemmas
 pub mod PlaceLemmas
 pub mod ReadLemmas
 pub mod StoredLemmas
 pub mod StorableLemmas
 pub mod TakenLemmas
 pub mod ShownLemmas
+pub mod SweepLemmas

@@ -15,7 +15,8 @@ use Rattle.f2b_model.specs.Sound.{IsNumbered}
 use Rattle.f2b_model.specs.Storable.{IsBase, IsStorableDef, IsStorableJail, IsStorableRule, IsWithin}
 use Rattle.f2b_model.specs.StorableViews.{IsStorableView}
 use Rattle.f2b_model.specs.Views.{jail_of, jails_of}
-use Rattle.jail_moves.specs.Rooms.{IsBounded, IsStored}
+use Rattle.jail_moves.specs.Rooms.{IsStored}
+use Rattle.f2b_model.specs.Bounds.{IsBounded}
 use Rattle.jail_rooms.specs.Stored.{AreStored}
 
 -- ---- definitions

@@ -8,7 +8,8 @@ use Rattle.f2b_model.specs.Lists.{AllOf}
 use Rattle.f2b_model.specs.StorableViews.{jail_taken_up, jails_taken_up}
 use Rattle.f2b_model.specs.Views.{jail_view}
 use Rattle.f2b_model.proofs.OrderlyLemmas.{all_of-filter}
-use Rattle.jail_moves.specs.Rooms.{Contents, jail_in, IsBounded, IsKeptJail, IsStored}
+use Rattle.jail_moves.specs.Rooms.{Contents, jail_in, IsKeptJail, IsStored}
+use Rattle.f2b_model.specs.Bounds.{IsBounded}
 use Rattle.jail_rooms.specs.Kept.{jails_in, AreKept}
 use Rattle.jail_rooms.specs.Stored.{AreStored}
 

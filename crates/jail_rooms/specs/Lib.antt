@@ -1,9 +1,8 @@
-pub mod Configured
-pub mod Each
+pub mod Moved
 pub mod Happened
-pub mod Jails
 pub mod Kept
 pub mod Left
-pub mod LogRead
+pub mod Places
 pub mod Stored
 pub mod Shown
+pub mod Stale

@@ -2,7 +2,8 @@
 use Rattle.std.specs.Prelude.{ℕ, List, [], ◌∷◌}
 use Rattle.f2b_base.specs.declared.jail.JailDef.{JailDef}
 use Rattle.f2b_base.specs.declared.view.JailView.{JailView}
-use Rattle.jail_moves.specs.Rooms.{IsBounded, IsStored}
+use Rattle.jail_moves.specs.Rooms.{IsStored}
+use Rattle.f2b_model.specs.Bounds.{IsBounded}
 
 -- what is stored of each jail is within its bounds, and so is its definition: as many are stored as there are definitions
 abbrev pub AreStored : ℕ → ℕ → List JailDef → List JailView → Type 0

@@ -6,7 +6,8 @@ ghost use Rattle.f2b_model.specs.Steps.{alone, in_jail, moves_now};
 ghost use Rattle.f2b_model.specs.declared.jail_now.JailNow.{JailNow};
 ghost use Rattle.std.specs.Option.{unwrap_or};
 ghost use Rattle.jail_rooms.specs.Kept.{jails_in, AreKept};
-ghost use Rattle.jail_moves.specs.Rooms.{jail_in, Contents, IsBounded, IsKeptJail};
+ghost use Rattle.jail_moves.specs.Rooms.{jail_in, Contents, IsKeptJail};
+ghost use Rattle.f2b_model.specs.Bounds.{IsBounded};
 
 use crate::definitions::{ignore, place_of};
 use f2b_base::{Cidr, JailDef, NoMemory, Plain, Seq, Text};
@@ -27,7 +28,7 @@ fn replace(
 }
 
 /// Changes the addresses that are never banned in the jail of a name, if there is one.
-pub fn ignore_in(
+pub fn ignore_addrs(
     definitions: &mut Seq<JailDef>,
     name: &Text,
     cidr: Cidr,
@@ -47,7 +48,7 @@ pub fn ignore_in(
 }
 
 /// Sets how long the first ban of an address lasts in the jail of a name, if there is one.
-pub fn span_in(definitions: &mut Seq<JailDef>, name: &Text, secs: i64) -> Result<(), NoMemory>
+pub fn set_bantime(definitions: &mut Seq<JailDef>, name: &Text, secs: i64) -> Result<(), NoMemory>
     requires { secs ≤ℤ pos 3153600000 }
     ensures jails { (n : ℕ) (cs : List Contents) → length cs ≡ length definitions.old → OnOk result (in_jail moves_now name.now (alone moves_now (moves_now.spanned secs)) n (jails_in definitions.old cs)
         ≡ record { jails = jails_in definitions.new cs; next = n }) }
@@ -82,7 +83,7 @@ fn limit(
 }
 
 /// Sets other limits in the jail of a name, if there is one; a limit that is not given stays.
-pub fn limit_in(
+pub fn limit_named(
     alloc: Global,
     definitions: &mut Seq<JailDef>,
     rooms: &mut [Room],
@@ -113,7 +114,7 @@ pub fn limit_in(
 }
 
 /// Sets other limits in the jail of a name among all jails.
-pub fn limit_among(
+pub fn set_limits(
     alloc: Global,
     definitions: &mut Seq<JailDef>,
     rooms: &mut Vec<Room>,
@@ -128,7 +129,7 @@ pub fn limit_among(
         ≡ record { jails = jails_in definitions.new rooms.new.items; next = n }) }
     ensures kept { (at next : ℕ) → AreKept at next definitions.old rooms.old.items → OnOk result (AreKept at next definitions.new rooms.new.items) }
 {
-    limit_in(
+    limit_named(
         alloc,
         definitions,
         rooms.as_mut_slice(),
@@ -140,7 +141,7 @@ pub fn limit_among(
 }
 
 /// Sets whether the logs of the jail of a name are not looked at, if there is one.
-pub fn idle_in(definitions: &[JailDef], rooms: &mut [Room], name: &Text, idle: bool)
+pub fn set_idle(definitions: &[JailDef], rooms: &mut [Room], name: &Text, idle: bool)
     requires { length rooms.old ≡ length definitions.now }
     ensures jails { (n : ℕ) → in_jail moves_now name.now (alone moves_now (moves_now.idle idle)) n (jails_in definitions.now rooms.old)
         ≡ record { jails = jails_in definitions.now rooms.new; next = n } }

@@ -4,10 +4,11 @@ ghost use Rattle.f2b_base.specs.declared.jail.JailDef.{JailDef};
 ghost use Rattle.f2b_model.specs.Lists.{AllOf, AreDistinct};
 ghost use Rattle.f2b_model.specs.NowMoves.{fresh_now};
 ghost use Rattle.f2b_model.specs.Steps.{configured, kept_or_fresh, moves_now};
-ghost use Rattle.jail_moves.specs.Rooms.{jail_in, IsBounded, IsKeptJail};
+ghost use Rattle.jail_moves.specs.Rooms.{jail_in, IsKeptJail};
+ghost use Rattle.f2b_model.specs.Bounds.{IsBounded};
 ghost use Rattle.jail_rooms.specs.Kept.{jails_in, AreKept};
 ghost use Rattle.jail_rooms.specs.Left.{find_left, AreLeftKept};
-ghost use Rattle.jail_rooms.specs.LogRead.{jail_place};
+ghost use Rattle.jail_rooms.specs.Places.{jail_place};
 
 use crate::definitions::place_of;
 use f2b_base::{JailDef, NoMemory};
@@ -15,7 +16,7 @@ use jail_moves::Room;
 use std::alloc::Global;
 
 /// The rooms, each of them left.
-fn all_left(alloc: Global, rooms: Vec<Room>) -> Result<Vec<Option<Room>>, NoMemory>
+fn as_left(alloc: Global, rooms: Vec<Room>) -> Result<Vec<Option<Room>>, NoMemory>
     ensures { IfOk result (λ left. left.items ≡ map Some rooms.items) }
 {
     let mut left = Vec::new(alloc);
@@ -64,7 +65,7 @@ pub fn configure(
     ensures jails { IfOk result (λ new. jails_in definitions.now new.items ≡ configured moves_now definitions.now (jails_in before.now rooms.items)) }
     ensures kept { (at next : ℕ) → AreKept at next before.now rooms.items → IfOk result (λ new. AreKept at next definitions.now new.items) }
 {
-    let mut left = all_left(alloc, rooms)?;
+    let mut left = as_left(alloc, rooms)?;
     let mut new = Vec::new(alloc);
     for definition in definitions {
         new.push(room_of(alloc, before, &mut left, definition)?)?;

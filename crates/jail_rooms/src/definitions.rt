@@ -3,7 +3,7 @@ ghost use Rattle.std.specs.Prelude.{◌≡◌, ◌≤◌, not, length, filter, O
 ghost use Rattle.std.specs.List.{list_any};
 ghost use Rattle.f2b_base.specs.declared.addr.Cidr.{Cidr};
 ghost use Rattle.f2b_model.specs.Moves.{ignored, same_cidr};
-ghost use Rattle.jail_rooms.specs.LogRead.{jail_place};
+ghost use Rattle.jail_rooms.specs.Places.{jail_place};
 
 use f2b_base::{Cidr, JailDef, NoMemory, Seq, Text};
 

@@ -5,7 +5,7 @@ ghost use Rattle.std.specs.Option.{option_map_or};
 ghost use Rattle.f2b_base.specs.declared.ban.Failure.{Failure};
 ghost use Rattle.f2b_base.specs.declared.input.What.TheVariants.{Config};
 ghost use Rattle.f2b_base.specs.declared.view.JailView.{JailView};
-ghost use Rattle.f2b_model.specs.Active.{held, held_by};
+ghost use Rattle.f2b_model.specs.Active.{held, held_by, held_of};
 ghost use Rattle.f2b_model.specs.NowMoves.{dropped_now};
 ghost use Rattle.f2b_model.specs.Sound.{AreFitDefs};
 ghost use Rattle.f2b_model.specs.Steps.{at_reading, done, each_jail, find_jail, is_ban_due, moves_now};
@@ -15,22 +15,22 @@ ghost use Rattle.f2b_model.specs.StorableViews.{IsStorableView, taken_up};
 ghost use Rattle.f2b_model.specs.Views.{jail_view};
 ghost use Rattle.f2b_model.specs.Lists.{AllOf};
 ghost use Rattle.f2b_model.specs.declared.jail_now.JailNow.{JailNow};
-ghost use Rattle.jail_rooms.specs.Jails.{is_of_jails};
-ghost use Rattle.jail_rooms.specs.Kept.{jails_in, IsBoundedWhat};
+ghost use Rattle.f2b_model.specs.OfJails.{is_of_jails};
+ghost use Rattle.jail_rooms.specs.Kept.{jails_in};
+ghost use Rattle.f2b_model.specs.Bounds.{IsBoundedWhat, IsBounded};
 ghost use Rattle.jail_rooms.specs.Shown.{ban_from, lately_in, totals_of};
-ghost use Rattle.jail_moves.specs.Rooms.{jail_in, Contents, IsBounded, IsKeptJail};
-ghost use Rattle.lane_moves.specs.Held.{held_of};
+ghost use Rattle.jail_moves.specs.Rooms.{jail_in, Contents, IsKeptJail};
 
+use crate::acts::InputStamp;
 use crate::configure::configure;
-use crate::each::{drop_all, end_all, is_ban_due};
-use crate::happen::happen;
-use crate::reads::InputStamp;
+use crate::ends::{drop_old_bans, end_due_bans, is_ban_due};
+use crate::inputs::happen;
 use crate::shown::jail_of;
 use crate::stored::{rooms_of, views};
+use crate::sweep::sweep_all;
 use f2b_base::{Ban, DEFAULT_PURGE, Defs, JailDef, JailView, NoMemory, Plain, Seq, View, What};
-use f2b_model::Happening;
+use f2b_model::{Happening, JailBans};
 use jail_moves::{Room, Totals};
-use lane_moves::JailBans;
 use std::alloc::Global;
 use std::marker::Model;
 
@@ -61,7 +61,7 @@ impl Model for Jails {
 }
 
 /// The active bans of each jail.
-fn held_each(
+fn active_bans(
     definitions: &[JailDef],
     rooms: &[Room],
     alloc: Global,
@@ -220,11 +220,19 @@ impl Jails {
     pub fn held(&self) -> Result<Vec<JailBans>, NoMemory>
         ensures { IfOk result (λ all. held_of all.items ≡ held moves_now self.now) }
     {
-        held_each(
+        active_bans(
             self.defs.jails.as_slice(),
             self.rooms.as_slice(),
             self.alloc,
         )
+    }
+
+    /// Forgets, in all jails together, the failures of up to `most` addresses that have none which still matters: a caller that calls it
+    /// now and then gets the memory of a burst back. The state stays as it is. Takes no memory.
+    pub fn sweep(&mut self, most: u64)
+        ensures { self.new ≡ self.old }
+    {
+        let _ = sweep_all(&mut self.rooms, most);
     }
 
     /// The jails at a reading, once the bans that are due have ended; tells of them.
@@ -241,7 +249,7 @@ impl Jails {
             next_ban,
         } = self;
         let at = at.max(secs);
-        end_all(defs.jails.as_slice(), &mut rooms, told, at)?;
+        end_due_bans(defs.jails.as_slice(), &mut rooms, told, at)?;
         Ok(Jails {
             alloc,
             at,
@@ -316,7 +324,7 @@ impl Jails {
             mut rooms,
             next_ban,
         } = self;
-        drop_all(defs.jails.as_slice(), &mut rooms, at, defs.purge);
+        drop_old_bans(defs.jails.as_slice(), &mut rooms, at, defs.purge);
         Jails {
             alloc,
             at,

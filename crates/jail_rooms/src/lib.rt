@@ -8,17 +8,17 @@
 //! it is.
 #![tactic(auto)]
 
+mod acts;
 mod changes;
 mod configure;
 mod definitions;
-mod each;
-mod happen;
+mod ends;
+mod equality;
+mod inputs;
 mod jails;
-mod reads;
-mod same;
 mod shown;
 mod stored;
-mod within;
+mod sweep;
 
+pub use equality::same_defs;
 pub use jails::Jails;
-pub use same::same_defs;

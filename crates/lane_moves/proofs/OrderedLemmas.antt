@@ -14,8 +14,8 @@ use Rattle.f2b_model.specs.declared.happening.Happening.{Happening}
 use Rattle.f2b_model.specs.declared.happening.Happening.TheVariants.{Counts, Begins, Ends}
 use Rattle.f2b_model.specs.Orders.{Held, takes, fill_of, order, order_showing, ban_orders, lane_orders, told_orders}
 use Rattle.f2b_model.specs.Turns.{Order, numbered}
-use Rattle.lane_moves.specs.declared.held.JailBans.{JailBans}
-use Rattle.lane_moves.specs.Held.{held_in_jail, held_of}
+use Rattle.f2b_model.specs.declared.jail_bans.JailBans.{JailBans}
+use Rattle.f2b_model.specs.Active.{held_in_jail, held_of}
 use Rattle.lane_moves.specs.Pending.{Pending, ordered, filled_order, order_where}
 
 -- ---- jobs of orders

@@ -1,3 +1,2 @@
 pub mod CheckText
-pub mod Held
 pub mod Pending

@@ -3,15 +3,14 @@ ghost use Rattle.std.specs.Prelude.{◌≡◌, ◌≤◌, ◌++◌, false, [], S
 ghost use Rattle.f2b_base.specs.declared.input.What.TheVariants.{CheckFailed, Ended};
 ghost use Rattle.f2b_model.specs.Checks.{check_of, checked_lane, lane_of};
 ghost use Rattle.f2b_model.specs.Jobs.{AreById};
-ghost use Rattle.f2b_model.specs.Lanes.{all_down, all_up, books_now, check_failed, lane_down, lane_failed, lane_up, lanes_issued, lanes_of, missing_up, others_down, restarted, stopped, try_ended};
+ghost use Rattle.f2b_model.specs.Lanes.{all_down, all_up, books_now, check_failed, lane_down, lane_failed, lane_up, lanes_issued, lanes_of, missing_up, others_down, restarted, stopped, try_ended, are_just};
 ghost use Rattle.f2b_model.specs.LanesTold.{lanes_told, told_check};
 ghost use Rattle.f2b_model.specs.Storable.{most_numbers};
 ghost use Rattle.f2b_base.specs.Limits.{last_moment};
 ghost use Rattle.lane_moves.specs.CheckText.{check_text_of};
-ghost use Rattle.lane_moves.specs.Held.{are_just, held_of};
+ghost use Rattle.f2b_model.specs.Active.{held_of};
 
 use crate::book::JobBook;
-use crate::held::JailBans;
 use crate::orders::{order_down, order_restart, order_told, order_up};
 use crate::tells::{tell_check, tell_try};
 use crate::texts::check_text;
@@ -20,7 +19,7 @@ use crate::up::{
 };
 use action_queue::Lanes;
 use f2b_base::{Defs, Job, LaneId, NoMemory, Outcome, Plain, Seq, Text, UpLane};
-use f2b_model::{Happening, LaneHappening};
+use f2b_model::{Happening, JailBans, LaneHappening};
 use std::alloc::Global;
 use std::marker::Model;
 

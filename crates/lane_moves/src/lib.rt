@@ -9,7 +9,6 @@
 mod book;
 mod families;
 mod fills;
-mod held;
 mod lane_book;
 mod orders;
 mod tells;
@@ -21,5 +20,4 @@ mod texts;
 mod up;
 
 pub use book::MOST_NUMBERS;
-pub use held::JailBans;
 pub use lane_book::LaneBook;

@@ -1,15 +1,14 @@
 //! The jobs that bans and lanes order.
 ghost use Rattle.std.specs.Prelude.{◌≡◌, None, [], ◌∷◌, OnOk};
 ghost use Rattle.f2b_model.specs.Orders.{ban_orders, down_orders, lane_orders, order, restart_orders, takes, told_orders, up_orders};
-ghost use Rattle.lane_moves.specs.Held.{held_in_jail, held_of};
+ghost use Rattle.f2b_model.specs.Active.{held_in_jail, held_of};
 ghost use Rattle.lane_moves.specs.Pending.{order_where, ordered};
 
 use crate::book::JobBook;
 use crate::families::in_family;
 use crate::fills::{ban_fill, lane_fill};
-use crate::held::JailBans;
 use f2b_base::{Ban, JobKind, NoMemory, Text, UpLane};
-use f2b_model::Happening;
+use f2b_model::{Happening, JailBans};
 
 /// Whether a ban is of the lane's jail and family.
 fn takes(lane: &UpLane, jail: &Text, ban: Ban) -> bool

@@ -2,7 +2,7 @@
 ghost use Rattle.std.specs.Prelude.{◌≡◌, IfErr, IfOk, OnOk};
 ghost use Rattle.filter_regex.specs.Rules.{rules_of};
 ghost use Rattle.flat_form.specs.FlatText.{IsFlatJail};
-ghost use Rattle.jail_rooms.specs.Kept.{IsTakenInput};
+ghost use Rattle.f2b_model.specs.Bounds.{IsTakenInput};
 ghost use Rattle.server_top.specs.Law.{Halts, first_input, opening};
 ghost use Rattle.server_top.specs.Starts.{BuildsAll, BuildFails, Configures, IsDecided, IsFirst, Starts, StartFails};
 ghost use Rattle.server_top.specs.Stages.{HasCause, IsSteady};

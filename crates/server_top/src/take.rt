@@ -1,7 +1,7 @@
 //! Taking an input: its step, and the lines of what the step tells.
 ghost use Rattle.std.specs.Prelude.{◌≡◌, IfErr, IfOk};
 ghost use Rattle.f2b_model.specs.Sound.{IsFitWhat};
-ghost use Rattle.jail_rooms.specs.Kept.{IsBoundedWhat};
+ghost use Rattle.f2b_model.specs.Bounds.{IsBoundedWhat};
 ghost use Rattle.server_top.specs.Stages.{HasCause, IsSteady, StepsTo, Takes, TakeFails};
 
 use crate::follow::Follow;

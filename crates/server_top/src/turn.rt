@@ -3,7 +3,7 @@ ghost use Rattle.std.specs.Prelude.{◌≡◌, ◌≢◌, IfErr, IfOk, IfSome, O
 ghost use Rattle.server_top.specs.Law.{AtClock, AtLook, AtPause, path_of};
 ghost use Rattle.server_top.specs.Stages.{HasCause, IsSteady, Moves, MoveFails, ReadsAt, ReadsLines, Looked, brought, read_by, turn_end};
 ghost use Rattle.f2b_model.specs.Sound.{IsFitWhat};
-ghost use Rattle.jail_rooms.specs.Kept.{IsBoundedWhat};
+ghost use Rattle.f2b_model.specs.Bounds.{IsBoundedWhat};
 ghost use Rattle.log_follow.specs.Followed.{ask_of};
 ghost use Rattle.log_follow.specs.Watches.{Answers};
 ghost use Rattle.f2b_world.specs.declared.answer.Look.TheVariants.{NoMemory as LookNoMemory};
@@ -18,13 +18,18 @@ use f2b_world::{Look, World};
 use log_follow::{Ask, Line, Step};
 use std::alloc::Global;
 
-// Takes over a reading of the clock. Now never goes back, and a reading above the latest counts as it.
+/// How many addresses of which nothing matters any more are forgotten in a turn, at most: some milliseconds of it.
+const FORGOTTEN_A_TURN: u64 = 10_000;
+
+// Takes over a reading of the clock. Now never goes back, and a reading above the latest counts as it. What no longer matters of
+// failures gives its memory back.
 fn at_reading(follow: Follow, reading: Reading) -> Follow
     ensures { ReadsAt follow reading result }
 {
     let mut follow = follow;
     follow.now = follow.now.max(reading.secs.min(LATEST_READING));
     follow.word = reading.word;
+    follow.core.sweep(FORGOTTEN_A_TURN);
     follow
 }
 

@@ -5,7 +5,7 @@ ghost use Rattle.f2b_base.specs.Limits.{last_moment};
 ghost use Rattle.f2b_model.specs.Lists.{AllOf, AreDistinct};
 ghost use Rattle.f2b_model.specs.Sound.{same_kind};
 ghost use Rattle.f2b_model.specs.Storable.{patterns_of, IsJailName, IsStorableAction, IsStorableDef, IsStorableFailure, IsStorableInput, IsStorableOutcome, IsStorableWhat};
-ghost use Rattle.jail_rooms.specs.Kept.{IsTakenInput};
+ghost use Rattle.f2b_model.specs.Bounds.{IsTakenInput};
 
 use crate::Core;
 use crate::tests::{ADD, PATH, action, configuration_of, definition, place, text};

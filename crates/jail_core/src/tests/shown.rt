@@ -4,7 +4,7 @@ ghost use Rattle.f2b_model.specs.Storable.{IsStorable};
 
 use crate::Core;
 use crate::tests::{ADD, ADDR, JAIL, NEXT, banning, configuration, reading, step};
-use f2b_base::NoMemory;
+use f2b_base::{Addr, NoMemory};
 use jail_moves::Totals;
 use std::alloc::Global;
 use std::test::Fail;
@@ -49,5 +49,27 @@ fn a_reply_shows_nothing_of_a_jail_that_is_not_there(rt: HostRuntime) -> Result<
     assert!(rt; core.totals(name).is_none());
     assert!(rt; core.ban_from(name, 0).is_none());
     assert_eq!(rt; core.failed_lately(name, core.now()), 0);
+    Ok(())
+}
+
+/// Two addresses failed once each, and another one two `findtime` later: what is kept of the two matters no more.
+fn with_stale_failures(alloc: Global) -> Result<Core, NoMemory>
+    ensures { IfOk result IsStorable }
+{
+    let (core, _) = step(Core::empty(alloc), 1000, configuration(alloc, ADD, "", 0)?)?;
+    let (core, _) = step(core, 1001, reading(alloc, ADDR, 1001, "fails")?)?;
+    let (core, _) = step(core, 1002, reading(alloc, NEXT, 1002, "fails")?)?;
+    let (core, _) = step(core, 2202, reading(alloc, Addr::V4(1), 2202, "fails")?)?;
+    Ok(core)
+}
+
+#[test]
+fn a_sweep_changes_nothing_of_a_view(rt: HostRuntime) -> Result<(), Fail> {
+    let mut core = with_stale_failures(rt.alloc())?;
+    let before = core.view()?;
+    for _ in 0..3 {
+        core.sweep(1);
+        assert!(rt; core.view()? == before);
+    }
     Ok(())
 }

@@ -2,7 +2,7 @@
 ghost use Rattle.std.specs.Prelude.{IfOk};
 ghost use Rattle.f2b_model.specs.Storable.{IsStorable, IsStorableWhat};
 ghost use Rattle.f2b_model.specs.StorableViews.{IsStorableView};
-ghost use Rattle.jail_rooms.specs.Kept.{IsTakenInput};
+ghost use Rattle.f2b_model.specs.Bounds.{IsTakenInput};
 
 use crate::tests::{
     ADDR, JAIL, NEXT, Pair, banning, check_failed, configuration, ended, input, jail, place,

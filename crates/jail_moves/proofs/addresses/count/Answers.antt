@@ -12,3 +12,6 @@ pub returns-clause-ok : goal.returns-clause-ok
 returns-clause-ok c =
     counted_on c.args.findtime c.args.maxretry c.args.now c.args.failure c.args.windows.now.entries c.enter.new.windows.entries c.in_ok-full.full c.requires.held c.if-full.false
     c.in_ok-full.ensures.ok
+
+pub returns-then-full-clause-latest : goal.returns-then-full-clause-latest
+returns-then-full-clause-latest c = λ time le a. c.take_out.ensures.latest time (c.enter.ensures.latest time le a)

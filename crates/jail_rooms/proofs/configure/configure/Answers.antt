@@ -8,7 +8,7 @@ use Rattle.f2b_model.specs.Steps.{configured, find_jail, kept_or_fresh, moves_no
 use Rattle.jail_moves.specs.Rooms.{Contents, jail_in}
 use Rattle.jail_rooms.specs.Kept.{jails_in, AreKept}
 use Rattle.jail_rooms.specs.Left.{find_left, AreLeftKept}
-use Rattle.jail_rooms.specs.LogRead.{jail_place}
+use Rattle.jail_rooms.specs.Places.{jail_place}
 use Rattle.jail_rooms.proofs.ConfigureRooms.{AreToCome, all_left_kept, first_to_come, next_to_come, one_more_jail, one_more_kept, still_kept}
 use Rattle.jail_rooms.proofs.configure.configure.Goals as goal
 

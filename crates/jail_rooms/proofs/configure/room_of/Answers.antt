@@ -3,7 +3,7 @@ use Rattle.std.proofs.lemmas.Result.{IfOk-weaker}
 use Rattle.f2b_base.specs.declared.jail.JailDef.{JailDef}
 use Rattle.jail_moves.specs.Rooms.{Contents, jail_in, IsKeptJail}
 use Rattle.jail_rooms.specs.Left.{find_left, jail_left, IsLeftKept}
-use Rattle.jail_rooms.specs.LogRead.{jail_place}
+use Rattle.jail_rooms.specs.Places.{jail_place}
 use Rattle.jail_rooms.proofs.ConfigureRooms.{left_there, left_kept_at, none_left}
 use Rattle.jail_rooms.proofs.configure.room_of.Goals as goal
 

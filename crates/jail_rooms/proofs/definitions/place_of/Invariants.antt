@@ -1,5 +1,5 @@
 use Rattle.std.proofs.Common.{◌≡◌, ◌+◌, drop}
-use Rattle.jail_rooms.specs.LogRead.{jail_place}
+use Rattle.jail_rooms.specs.Places.{jail_place}
 use Rattle.jail_rooms.proofs.definitions.place_of.Given as goal
 
 abbrev pub invariant-loop-index : goal.invariant-loop-index

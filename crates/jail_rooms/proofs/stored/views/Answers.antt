@@ -3,7 +3,7 @@ use Rattle.f2b_base.specs.declared.view.JailView.{JailView}
 use Rattle.f2b_model.specs.Views.{jail_view}
 use Rattle.jail_moves.specs.Rooms.{jail_in}
 use Rattle.jail_rooms.specs.Kept.{jails_in}
-use Rattle.jail_rooms.proofs.EachLemmas.{kept_length}
+use Rattle.jail_rooms.proofs.MovedLemmas.{kept_length}
 use Rattle.jail_rooms.proofs.StoredLemmas.{kept_at, view_all, view_one_more}
 use Rattle.jail_rooms.proofs.stored.views.Goals as goal
 

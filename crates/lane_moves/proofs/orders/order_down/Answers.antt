@@ -2,7 +2,7 @@
 use Rattle.std.proofs.Common.{None, [], ◌∷◌}
 use Rattle.f2b_base.specs.declared.job.JobKind.TheVariants.{Stop, Unban}
 use Rattle.f2b_model.specs.Orders.{lane_orders, order}
-use Rattle.lane_moves.specs.Held.{held_of}
+use Rattle.f2b_model.specs.Active.{held_of}
 use Rattle.lane_moves.proofs.OrderedLemmas.{ordered_more}
 use Rattle.lane_moves.proofs.orders.order_down.Goals as goal
 

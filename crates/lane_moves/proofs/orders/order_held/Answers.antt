@@ -1,6 +1,6 @@
 -- A jail more.
 use Rattle.f2b_model.specs.Orders.{lane_orders}
-use Rattle.lane_moves.specs.Held.{held_in_jail, held_of}
+use Rattle.f2b_model.specs.Active.{held_in_jail, held_of}
 use Rattle.lane_moves.proofs.OrderedLemmas.{ordered_step, held_orders_more}
 use Rattle.lane_moves.proofs.orders.order_held.Goals as goal
 

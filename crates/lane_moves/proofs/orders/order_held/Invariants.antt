@@ -1,6 +1,6 @@
 use Rattle.std.proofs.Common.{◌≡◌, take}
 use Rattle.f2b_model.specs.Orders.{lane_orders}
-use Rattle.lane_moves.specs.Held.{held_of}
+use Rattle.f2b_model.specs.Active.{held_of}
 use Rattle.lane_moves.specs.Pending.{ordered}
 use Rattle.lane_moves.proofs.orders.order_held.Given as goal
 

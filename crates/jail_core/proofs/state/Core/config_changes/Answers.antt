@@ -1,9 +1,8 @@
 use Rattle.std.proofs.Common.{◌≡◌, ◌≢◌, ◌↔◌, Bool, not, ◌&&◌, IsTrue, sym, ◌∙◌, ap, ap₂, subst}
 use Rattle.f2b_base.specs.declared.jail.Defs.{Defs}
-use Rattle.f2b_model.specs.Lanes.{lanes_of}
+use Rattle.f2b_model.specs.Lanes.{lanes_of, are_just}
 use Rattle.f2b_model.specs.Whole.{Now}
-use Rattle.lane_moves.specs.Held.{are_just}
-use Rattle.jail_rooms.specs.Configured.{configured_now}
+use Rattle.f2b_model.specs.Configured.{configured_now}
 use Rattle.jail_rooms.proofs.ConfigureLemmas.{defs_now}
 use Rattle.jail_core.proofs.ConfigLemmas.{any_idle, changes_is}
 use Rattle.jail_core.proofs.state.Core.config_changes.Goals as goal

@@ -50,10 +50,12 @@ loop-failure-preserved c =
     ]
 
 pub invariant_of-result : goal.invariant_of-result
-invariant_of-result c =
-    read_held c.args.findtime c.args.maxretry c.args.moment c.loop-failure.failure-index c.args.failures.now c.loop-failure.full c.as_slice.result.now c.loop-failure.by_addr.entries
-    c.remove_each.new.windows.entries c.requires.in_order c.loop-failure.invariant c.loop-failure-test.false c.as_slice.ensures
-    (c.remove_each.ensures c.args.findtime c.args.maxretry)
+invariant_of-result c = (
+  read_held c.args.findtime c.args.maxretry c.args.moment c.loop-failure.failure-index c.args.failures.now c.loop-failure.full c.as_slice.result.now c.loop-failure.by_addr.entries
+      c.remove_each.new.windows.entries c.requires.in_order c.loop-failure.invariant c.loop-failure-test.false c.as_slice.ensures
+      (c.remove_each.ensures c.args.findtime c.args.maxretry),
+  c.earliest-earliest.ensures,
+)
 
 pub returns-clause-failures : goal.returns-clause-failures
 returns-clause-failures c =

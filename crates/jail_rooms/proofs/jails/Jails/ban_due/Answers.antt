@@ -3,7 +3,7 @@ use Rattle.std.specs.List.{list_any}
 use Rattle.f2b_model.specs.Nows.{JailsNow}
 use Rattle.f2b_model.specs.Steps.{is_ban_due, is_due, moves_now}
 use Rattle.jail_moves.specs.Rooms.{Contents}
-use Rattle.jail_rooms.proofs.EachLemmas.{due_in, kept_length}
+use Rattle.jail_rooms.proofs.MovedLemmas.{due_in, kept_length}
 use Rattle.jail_rooms.proofs.jails.Jails.ban_due.Goals as goal
 
 pub returns : goal.returns

@@ -1,5 +1,5 @@
 use Rattle.std.proofs.Common.{length, sym, ◌∙◌, ap}
-use Rattle.jail_rooms.proofs.EachLemmas.{kept_length}
+use Rattle.jail_rooms.proofs.MovedLemmas.{kept_length}
 use Rattle.jail_rooms.proofs.jails.Jails.configured.Goals as goal
 
 pub configure-requires-clause-same : goal.configure-requires-clause-same

@@ -4,7 +4,7 @@ use Rattle.f2b_base.specs.declared.jail.JailDef.{JailDef}
 use Rattle.f2b_model.specs.declared.jail_now.JailNow.{JailNow}
 use Rattle.f2b_model.specs.Nows.{JailsNow}
 use Rattle.jail_rooms.proofs.ConfigureLemmas.{definitions_in}
-use Rattle.jail_rooms.proofs.EachLemmas.{kept_length}
+use Rattle.jail_rooms.proofs.MovedLemmas.{kept_length}
 use Rattle.jail_rooms.proofs.jails.Jails.defs.Goals as goal
 
 pub returns : goal.returns

@@ -1,7 +1,7 @@
 use Rattle.std.proofs.Common.{length, sym, ◌∙◌, ap}
-use Rattle.jail_rooms.proofs.EachLemmas.{kept_length}
+use Rattle.jail_rooms.proofs.MovedLemmas.{kept_length}
 use Rattle.jail_rooms.proofs.jails.Jails.dropped.Goals as goal
 
-pub drop_all-requires : goal.drop_all-requires
-drop_all-requires c =
+pub drop_old_bans-requires : goal.drop_old_bans-requires
+drop_old_bans-requires c =
     kept_length c.self.inside.at c.self.inside.next_ban c.self.inside.defs.jails c.self.inside.rooms.items c.self.invariant.1 ∙ ap length (sym c.as_slice.ensures)

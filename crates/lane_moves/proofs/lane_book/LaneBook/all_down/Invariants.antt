@@ -1,6 +1,6 @@
 use Rattle.std.proofs.Common.{◌≡◌, take}
 use Rattle.f2b_model.specs.Lanes.{all_down, books_now}
-use Rattle.lane_moves.specs.Held.{held_of}
+use Rattle.f2b_model.specs.Active.{held_of}
 use Rattle.lane_moves.proofs.lane_book.LaneBook.all_down.Given as goal
 
 abbrev pub invariant-loop-lane : goal.invariant-loop-lane

@@ -1,5 +1,5 @@
 -- A lane more.
-use Rattle.lane_moves.specs.Held.{held_of}
+use Rattle.f2b_model.specs.Active.{held_of}
 use Rattle.lane_moves.proofs.LaneLemmas.{all_up_step}
 use Rattle.lane_moves.proofs.lane_book.LaneBook.all_up.Goals as goal
 

@@ -3,7 +3,7 @@ use Rattle.std.proofs.Common.{◌≡◌, ◌∙◌, sym, ap, true, false, Some, 
 use Rattle.f2b_base.specs.declared.job.Job.{Job}
 use Rattle.f2b_model.specs.Checks.{checked_lane, is_closing}
 use Rattle.f2b_model.specs.Lanes.{Lanes, books_now, lane_failed}
-use Rattle.lane_moves.specs.Held.{held_of}
+use Rattle.f2b_model.specs.Active.{held_of}
 use Rattle.lane_moves.proofs.CheckLemmas.{closing_left, open_left}
 use Rattle.lane_moves.proofs.lane_book.LaneBook.lane_failed.Goals as goal
 
