@@ -244,7 +244,7 @@ configured_stays defs n fit watched stands =
     let paths : AllOf (λ (d : JailDef). AreDistinct bytes_eq (map (λ (w : WatchDef). w.path) d.watches)) ds =
     subst (AllOf (λ (d : JailDef). AreDistinct bytes_eq (map (λ (w : WatchDef). w.path) d.watches))) defs_jails fit.paths in
     let jails : configured moves_now defs.jails js ≡ js = ap (λ (es : List JailDef). configured moves_now es js) defs_jails ∙ jails_stay js names paths watched stands.none_idle in
-    let jails : done moves_now 0 (Config defs) n.jails ≡ n.jails = ap₂ (λ (p : ℕ) (ks : List JailNow). let w : JailsNow = record (n.jails) { purge = p; jails = ks } in w) purge jails in
+    let as_they_were : done moves_now 0 (Config defs) n.jails ≡ n.jails = ap₂ (λ (p : ℕ) (ks : List JailNow). let w : JailsNow = record (n.jails) { purge = p; jails = ks } in w) purge jails in
     let lanes : lanes_configured books_now n.jails.at (held moves_now n.jails) (held moves_now (done moves_now 0 (Config defs) n.jails)) (lanes_of defs) n.lanes ≡ n.lanes =
     lanes_stay n.jails.at (held moves_now n.jails) (held moves_now (done moves_now 0 (Config defs) n.jails)) (lanes_of defs) n.lanes stands.not_stopping stands.just in
     ap₂ (λ (w : JailsNow) (l : Lanes (List Job)). let m : Now = record { jails = w; lanes = l } in m) as_they_were lanes

@@ -4,7 +4,7 @@ use Rattle.f2b_base.specs.declared.jail.JailDef.{JailDef}
 use Rattle.jail_moves.specs.Rooms.{Contents}
 use Rattle.jail_rooms.specs.Kept.{jails_in, AreKept}
 use Rattle.jail_rooms.specs.Stale.{stale_count}
-use Rattle.jail_rooms.proofs.EachLemmas.{as_a_whole}
+use Rattle.jail_rooms.proofs.MovedLemmas.{as_a_whole}
 use Rattle.jail_rooms.proofs.sweep.sweep_all.Goals as goal
 
 slice : (c : goal.After-rooms-1) → c.as_mut_slice.result.now ≡ c.args.rooms.now.items
