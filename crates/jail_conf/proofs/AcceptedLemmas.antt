@@ -57,18 +57,19 @@ counts_are jail counts is =
     let findtime = bind_ok (own jail table.findtime) _ counts is in
     let maxretry = bind_ok (own jail table.maxretry) _ counts findtime.2 in
     let maxmatches = bind_ok (own jail (table.maxmatches maxretry.0)) _ counts maxretry.2 in
-    let some : 1 ≤ maxretry.0 = own_good (λ n. 1 ≤ n) (number_between 1 100_000) number_is jail (codes "maxretry") 5 maxretry.0 (omega arith) maxretry.1 in
+    let some : 1 ≤ maxretry.0 =
+    own_good (λ n. 1 ≤ n) (number_between 1 100_000) number_is jail (codes "maxretry") 5 maxretry.0 (omega arith) maxretry.1 in
     subst (OfOk (λ (counts : Counts). 1 ≤ counts.maxretry)) maxmatches.2 some
 
 -- a jail of this name that is accepted
-record IsGoodJail (name : List ℕ) (jail : JailDef) : Type 0 where
+record IsAcceptedJail (name : List ℕ) (jail : JailDef) : Type 0 where
   named : jail.name ≡ name
   maxretry : 1 ≤ jail.maxretry
   watches : AreGoodWatches jail.watches
   actions : AreLanesBehind [] jail.actions
 
 jail_is : (bases : Bases) (jail filter : Source) (patterns : ℕ) (definition : JailDef) → jail_with bases jail filter patterns ≡ Ok definition →
-    IsGoodJail jail.section definition
+    IsAcceptedJail jail.section definition
 unfolding jail_with
 jail_is bases jail filter patterns definition is =
     let watches = bind_ok (own jail table.logpath) _ definition is in
@@ -80,14 +81,15 @@ jail_is bases jail filter patterns definition is =
     let counts = bind_ok (counts_of jail) _ definition offered in
     let rule = bind_ok (rule_of jail) _ definition counts.2 in
     let actions = bind_ok (actions_of bases jail) _ definition rule.2 in
-    subst (OfOk (IsGoodJail jail.section)) actions.2 (record {
+    subst (OfOk (IsAcceptedJail jail.section)) actions.2 (record {
       named = refl;
       maxretry = counts_are jail counts.0 counts.1;
       watches = watches_are jail watches.0 watches.1;
       actions = actions_are bases jail actions.0 actions.1;
     })
 
-is_below : (on below : Bool) (before : ℕ) (refusal : ConfError) → nat_lt before most_jails ≡ below → (refuse_if (on && not below) refusal >> Ok on) ≡ Ok true → before < 256
+is_below : (on below : Bool) (before : ℕ) (refusal : ConfError) → nat_lt before most_jails ≡ below →
+    (refuse_if (on && not below) refusal >> Ok on) ≡ Ok true → before < 256
 is_below true true before refusal less is = grind (arith, nat_tests, less)
 is_below true false before refusal less is = absurd (cc)
 is_below false below before refusal less is = absurd (cc)
@@ -102,7 +104,7 @@ enabled_is_few jail before is =
 -- the next one of this name, behind these
 record IsNext (name : List ℕ) (before : List JailDef) (jail : JailDef) : Type 0 where
   few : length before < 256
-  good : IsGoodJail name jail
+  good : IsAcceptedJail name jail
 
 next_is : (bases : Bases) (jail : Source) (before : List JailDef) (definition : JailDef) → next_jail bases jail before ≡ Ok (Some definition) →
     IsNext jail.section before definition
@@ -111,7 +113,8 @@ next_is bases jail before definition is =
     let enabled = bind_ok (is_enabled jail (length before)) _ (Some definition) is in
     by enabled.0 enabled.1 enabled.2
   where
-    by : (enabled : Bool) → is_enabled jail (length before) ≡ Ok enabled → if_enabled bases jail (sum_by patterns_in before) enabled ≡ Ok (Some definition) →
+    by : (enabled : Bool) → is_enabled jail (length before) ≡ Ok enabled →
+        if_enabled bases jail (sum_by patterns_in before) enabled ≡ Ok (Some definition) →
         IsNext jail.section before definition
     by false on is = absurd (cc)
     by true on is =
@@ -126,8 +129,8 @@ next_is bases jail before definition is =
 -- ---- all jails
 
 -- a definition of a jail that is accepted
-abbrev IsGood : JailDef → Type 0
-IsGood jail = IsGoodJail jail.name jail
+abbrev IsAccepted : JailDef → Type 0
+IsAccepted jail = IsAcceptedJail jail.name jail
 
 abbrev names_of : List JailDef → List (List ℕ)
 names_of jails = map (λ (jail : JailDef). jail.name) jails
@@ -136,10 +139,10 @@ names_of jails = map (λ (jail : JailDef). jail.name) jails
 record AreAccepted (coming : List (List ℕ)) (jails : List JailDef) : Type 0 where
   few : length jails ≤ 256
   patterns : sum_by patterns_in jails ≤ 512
-  good : AllOf IsGood jails
+  good : AllOf IsAccepted jails
   names : AreDistinct bytes_eq (names_of jails ++ coming)
 
-good_by_name : (name : List ℕ) (jail : JailDef) → IsGoodJail name jail → IsGood jail
+good_by_name : (name : List ℕ) (jail : JailDef) → IsAcceptedJail name jail → IsAccepted jail
 good_by_name name jail good = record { named = refl; maxretry = good.maxretry; watches = good.watches; actions = good.actions }
 
 accepted_with : (bases : Bases) (sections : Sections) (before : List JailDef) (name : List ℕ) (names : List (List ℕ)) (jail : JailDef) →
@@ -150,7 +153,7 @@ accepted_with bases sections before name names jail are is = record {
       (let all = sum_by-append patterns_in before (jail ∷ []) in
       let below : sum_by patterns_in before + patterns_in jail ≤ 512 = next_is_few bases (of_jail sections name) before jail is are.patterns in
       omega (arith, all, below));
-  good = all_append IsGood before (jail ∷ []) are.good (good_by_name name jail next.good, tt);
+  good = all_append IsAccepted before (jail ∷ []) are.good (good_by_name name jail next.good, tt);
   names =
       subst (AreDistinct bytes_eq)
       (ap (λ (x : List ℕ). names_of before ++ (x ∷ names)) (sym next.good.named)
@@ -168,7 +171,8 @@ accepted_next bases sections before name names None are is =
     record { few = are.few; patterns = are.patterns; good = are.good; names = distinct_without bytes_eq (names_of before) name names are.names }
 accepted_next bases sections before name names (Some jail) are is = accepted_with bases sections before name names jail are is
 
-all_accepted : (bases : Bases) (sections : Sections) (before : List JailDef) (names : List (List ℕ)) (jails : List JailDef) → AreAccepted names before →
+all_accepted : (bases : Bases) (sections : Sections) (before : List JailDef) (names : List (List ℕ)) (jails : List JailDef) →
+    AreAccepted names before →
     jails_behind bases sections before names ≡ Ok jails → AreAccepted [] jails
 all_accepted bases sections before [] jails are is = subst (OfOk (AreAccepted [])) is are
 all_accepted bases sections before (name ∷ names) jails are is =
@@ -193,8 +197,10 @@ settings_are tree settings is =
     let purge = bind_ok (own (of_server server.0) table.dbpurgeage) _ settings socket.2 in
     let sections = bind_ok (sections_of (bases_of (files_of tree)) (codes "jail")) _ settings purge.2 in
     let jails = bind_ok (jails_behind (bases_of (files_of tree)) sections.0 [] (jail_names sections.0)) _ settings sections.2 in
-    let merged : merged_in (files_of tree) (codes "jail") ≡ Ok sections.0 = merged_from (merged_in (files_of tree) (codes "jail")) sections.0 sections.1 in
-    let names : AreDistinct bytes_eq (jail_names sections.0) = sections_apart sections.0 (merged_are (files_of tree) (codes "jail") sections.0 merged).apart in
+    let merged : merged_in (files_of tree) (codes "jail") ≡ Ok sections.0 =
+    merged_from (merged_in (files_of tree) (codes "jail")) sections.0 sections.1 in
+    let names : AreDistinct bytes_eq (jail_names sections.0) =
+    sections_apart sections.0 (merged_are (files_of tree) (codes "jail") sections.0 merged).apart in
     subst (OfOk (λ (settings : Settings). AreAccepted [] settings.defs.jails)) jails.2
     (all_accepted (bases_of (files_of tree)) sections.0 [] (jail_names sections.0) jails.0 (none_yet (jail_names sections.0) names) jails.1)
   where
@@ -207,17 +213,17 @@ conf_is_within tree settings is =
     record {
       jails = are.few;
       patterns = are.patterns;
-      watches = all_weaker IsGood (λ (d : JailDef). length d.watches ≤ 64) (λ d good. good.watches.few) settings.defs.jails are.good;
-      lanes = all_weaker IsGood (λ (d : JailDef). length d.actions ≤ 32) (λ d good. (let few = good.actions.few in omega (arith, few))) settings.defs.jails are.good;
+      watches = all_weaker IsAccepted (λ (d : JailDef). length d.watches ≤ 64) (λ d good. good.watches.few) settings.defs.jails are.good;
+      lanes = all_weaker IsAccepted (λ (d : JailDef). length d.actions ≤ 32) (λ d good. (let few = good.actions.few in omega (arith, few))) settings.defs.jails are.good;
     }
 
 pub conf_is_fit : (tree : Tree) (settings : Settings) → conf tree ≡ Ok settings → AreFitDefs settings.defs
 conf_is_fit tree settings is =
     let are : AreAccepted [] settings.defs.jails = settings_are tree settings is in
     record {
-      maxretry = all_weaker IsGood (λ (d : JailDef). 1 ≤ d.maxretry) (λ d good. good.maxretry) settings.defs.jails are.good;
+      maxretry = all_weaker IsAccepted (λ (d : JailDef). 1 ≤ d.maxretry) (λ d good. good.maxretry) settings.defs.jails are.good;
       names = subst (AreDistinct bytes_eq) (append-nil (names_of settings.defs.jails)) are.names;
       paths =
-          all_weaker IsGood (λ (d : JailDef). AreDistinct bytes_eq (map (λ (w : WatchDef). w.path) d.watches)) (λ d good. good.watches.apart) settings.defs.jails are.good;
-      actions = all_weaker IsGood (λ (d : JailDef). AreDistinct same_kind d.actions) (λ d good. good.actions.apart) settings.defs.jails are.good;
+          all_weaker IsAccepted (λ (d : JailDef). AreDistinct bytes_eq (map (λ (w : WatchDef). w.path) d.watches)) (λ d good. good.watches.apart) settings.defs.jails are.good;
+      actions = all_weaker IsAccepted (λ (d : JailDef). AreDistinct same_kind d.actions) (λ d good. good.actions.apart) settings.defs.jails are.good;
     }

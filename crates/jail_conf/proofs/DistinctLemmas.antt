@@ -37,7 +37,8 @@ module _ {A : Type 0} where
   none_passes_all test (x ∷ xs) all = none_of_both (test x) (list_any test xs) all.0 (none_passes_all test xs all.1)
 
   -- two lists, where none of the one is one of the other
-  pub distinct_append : (same : A → A → Bool) (xs ys : List A) → AreDistinct same xs → AreDistinct same ys → AllOf (λ x. list_any (same x) ys ≡ false) xs →
+  pub distinct_append : (same : A → A → Bool) (xs ys : List A) → AreDistinct same xs → AreDistinct same ys →
+      AllOf (λ x. list_any (same x) ys ≡ false) xs →
       AreDistinct same (xs ++ ys)
   distinct_append same [] ys first second apart = second
   distinct_append same (x ∷ xs) ys first second apart =

@@ -30,10 +30,11 @@ abbrev pub OfOk : {A E : Type 0} → (A → Type 0) → Result A E → Type 0
 OfOk P (Ok x) = P x
 OfOk P (Err refusal) = Unit {0}
 
--- what was refused where this holds did not hold
-pub not_refused : {A E : Type 0} (holds : Bool) (refusal : E) (next : Result A E) (value : A) → (refuse_if holds refusal >> next) ≡ Ok value → holds ≡ false
-not_refused true refusal next value is = absurd (cc)
-not_refused false refusal next value is = refl
+-- a value comes behind a refusal only where what is refused does not hold
+pub was_not_refused : {A E : Type 0} (holds : Bool) (refusal : E) (next : Result A E) (value : A) →
+    (refuse_if holds refusal >> next) ≡ Ok value → holds ≡ false
+was_not_refused true refusal next value is = absurd (cc)
+was_not_refused false refusal next value is = refl
 
 -- ---- one action
 
@@ -86,7 +87,8 @@ lane_of_each_is source name lanes is =
       apart = (none_of_another (bytes_eq inet4.0.name inet6.0.name) (same_family inet4.0.family inet6.0.family) families, (refl, tt));
     })
 
-lanes_are : (sections : Sections) (source : Source) (name : List ℕ) (lanes : List ActionDef) → lanes_of sections source name ≡ Ok lanes → AreLanesOf name lanes
+lanes_are : (sections : Sections) (source : Source) (name : List ℕ) (lanes : List ActionDef) → lanes_of sections source name ≡ Ok lanes →
+    AreLanesOf name lanes
 lanes_are sections source name lanes is = by (is_among (section_names sections) inet6_section) refl
   where
     by : (each : Bool) → is_among (section_names sections) inet6_section ≡ each → AreLanesOf name lanes
@@ -99,24 +101,28 @@ pub record IsActionBehind (names : List (List ℕ)) (one : Action) : Type 0 wher
   pub new : is_among names one.name ≡ false
   pub lanes : AreLanesOf one.name one.lanes
 
-named_is_new : (bases : Bases) (jail : Source) (names : List (List ℕ)) (line : List ℕ) (given : Named) → named_action bases jail names line ≡ Ok given →
+named_is_new : (bases : Bases) (jail : Source) (names : List (List ℕ)) (line : List ℕ) (given : Named) →
+    named_action bases jail names line ≡ Ok given →
     is_among names (name_of given) ≡ false
 unfolding named_action
 named_is_new bases jail names line given is =
     let first = bind_ok (or_refuse (told jail action.name BadOptions) (named line)) _ given is in
     let there = then_ok (refuse_if (not (bases.has_file (file_of first.0.name))) (without_file jail action.name (file_of first.0.name))) _ given first.2 in
     let apart = then_ok (refuse_if (is_among names (name_of first.0)) (told jail action.name DoubleAction)) _ given there in
-    let new : is_among names (name_of first.0) ≡ false = not_refused (is_among names (name_of first.0)) (told jail action.name DoubleAction) _ given there in
+    let new : is_among names (name_of first.0) ≡ false =
+    was_not_refused (is_among names (name_of first.0)) (told jail action.name DoubleAction) _ given there in
     let same : first.0 ≡ given = cc apart in
     subst (λ (given : Named). is_among names (name_of given) ≡ false) same new
 
-action_is : (bases : Bases) (jail : Source) (names : List (List ℕ)) (line : List ℕ) (one : Action) → action_of bases jail names line ≡ Ok one → IsActionBehind names one
+action_is : (bases : Bases) (jail : Source) (names : List (List ℕ)) (line : List ℕ) (one : Action) →
+    action_of bases jail names line ≡ Ok one → IsActionBehind names one
 unfolding action_of
 action_is bases jail names line one is =
     let given = bind_ok (named_action bases jail names line) _ one is in
     let sections = bind_ok (sections_of bases (base_of given.0.name)) _ one given.2 in
     let lanes = bind_ok (lanes_of sections.0 (of_definition (file_of given.0.name) jail.section given.0.options sections.0) (name_of given.0)) _ one sections.2 in
-    let full : not (nat_lt (length names) most_actions) ≡ false = not_refused (not (nat_lt (length names) most_actions)) (told jail action.name TooMany) _ one lanes.2 in
+    let full : not (nat_lt (length names) most_actions) ≡ false =
+    was_not_refused (not (nat_lt (length names) most_actions)) (told jail action.name TooMany) _ one lanes.2 in
     let last = then_ok (refuse_if (not (nat_lt (length names) most_actions)) (told jail action.name TooMany)) _ one lanes.2 in
     subst (OfOk (IsActionBehind names)) last (record {
       few = grind (arith, nat_tests, full);
@@ -140,7 +146,8 @@ other_kind : (x y : Bool) → x ≡ false → (x && y) ≡ false
 other_kind true y is = absurd (cc)
 other_kind false y is = refl
 
-lanes_join : (names : List (List ℕ)) (one : Action) (others : List ActionDef) → IsActionBehind names one → AreLanesBehind (names ++ one.name ∷ []) others →
+lanes_join : (names : List (List ℕ)) (one : Action) (others : List ActionDef) → IsActionBehind names one →
+    AreLanesBehind (names ++ one.name ∷ []) others →
     AreLanesBehind names (one.lanes ++ others)
 lanes_join names one others first rest = record {
   few =
@@ -177,8 +184,10 @@ actions_behind_are bases jail names (line ∷ lines) lanes few is =
     let first = bind_ok (action_of bases jail names line) _ lanes is in
     let rest = bind_ok (actions_behind bases jail (names ++ first.0.name ∷ []) lines) (λ others. Ok (first.0.lanes ++ others)) lanes first.2 in
     let one : IsActionBehind names first.0 = action_is bases jail names line first.0 first.1 in
-    let below : length (names ++ first.0.name ∷ []) ≤ 16 = (let more = length-append names (first.0.name ∷ []) in let less = one.few in omega (arith, more, less)) in
-    let others : AreLanesBehind (names ++ first.0.name ∷ []) rest.0 = actions_behind_are bases jail (names ++ first.0.name ∷ []) lines rest.0 below rest.1 in
+    let below : length (names ++ first.0.name ∷ []) ≤ 16 =
+    (let more = length-append names (first.0.name ∷ []) in let less = one.few in omega (arith, more, less)) in
+    let others : AreLanesBehind (names ++ first.0.name ∷ []) rest.0 =
+    actions_behind_are bases jail (names ++ first.0.name ∷ []) lines rest.0 below rest.1 in
     subst (OfOk (AreLanesBehind names)) rest.2 (lanes_join names first.0 rest.0 one others)
 
 -- those that a jail lists

@@ -15,7 +15,7 @@ use Rattle.jail_conf.specs.Then.{refuse_if, each}
 use Rattle.jail_conf.specs.Words.{full_lines}
 use Rattle.jail_conf.proofs.DistinctLemmas.{distinct_append, neither, none_of_both}
 use Rattle.jail_conf.proofs.GoodLemmas.{bind_ok, then_ok, own_good}
-use Rattle.jail_conf.proofs.LaneLemmas.{OfOk, not_refused}
+use Rattle.jail_conf.proofs.LaneLemmas.{OfOk, was_not_refused}
 
 abbrev pub paths_of : List WatchDef → List (List ℕ)
 paths_of all = map (λ (watch : WatchDef). watch.path) all
@@ -23,7 +23,8 @@ paths_of all = map (λ (watch : WatchDef). watch.path) all
 abbrev pub AreApartPaths : List WatchDef → Type 0
 AreApartPaths all = AreDistinct bytes_eq (paths_of all)
 
-none_has : (all : List WatchDef) (path : List ℕ) → has_path all path ≡ false → AllOf (λ other. list_any (bytes_eq other) (path ∷ []) ≡ false) (paths_of all)
+none_has : (all : List WatchDef) (path : List ℕ) → has_path all path ≡ false →
+    AllOf (λ other. list_any (bytes_eq other) (path ∷ []) ≡ false) (paths_of all)
 none_has [] path none = tt
 none_has (watch ∷ all) path none =
     let parts = neither (bytes_eq watch.path path) (has_path all path) none in
@@ -49,7 +50,8 @@ pub record AreGoodWatches (all : List WatchDef) : Type 0 where
 read_watches : (text : List ℕ) (all : List WatchDef) → watches text ≡ Ok all → AreGoodWatches all
 read_watches text all is =
     let listed = bind_ok (each watch_of (full_lines text)) _ all is in
-    let few : nat_lt most_watches (length (distinct listed.0)) ≡ false = not_refused (nat_lt most_watches (length (distinct listed.0))) TooMany _ all listed.2 in
+    let few : nat_lt most_watches (length (distinct listed.0)) ≡ false =
+    was_not_refused (nat_lt most_watches (length (distinct listed.0))) TooMany _ all listed.2 in
     let found = then_ok (refuse_if (nat_lt most_watches (length (distinct listed.0))) TooMany) _ all listed.2 in
     subst (OfOk AreGoodWatches) found (record { few = grind (arith, nat_tests, few); apart = fold_apart listed.0 [] tt })
 
