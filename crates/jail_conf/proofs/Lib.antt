@@ -1,4 +1,6 @@
+pub mod AcceptedLemmas
 pub mod ActionLemmas
+pub mod DistinctLemmas
 pub mod EachLemmas
 pub mod EnabledLemmas
 pub mod FaultLemmas
@@ -6,6 +8,7 @@ pub mod FewLemmas
 pub mod FilterLemmas
 pub mod GoodLemmas
 mod ItemRows
+pub mod LaneLemmas
 pub mod ListedLemmas
 pub mod NextLemmas
 pub mod NumberLemmas
@@ -18,6 +21,7 @@ pub mod SettingsLemmas
 pub mod SourceLemmas
 pub mod TermLemmas
 pub mod TrimLemmas
+pub mod WatchLemmas
 mod TreeRows
 pub mod WrittenLemmas
 pub mod ReadLemmas

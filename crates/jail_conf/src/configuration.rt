@@ -2,8 +2,10 @@
 ghost use Rattle.std.specs.Prelude.{◌≡◌, ◌≤◌, ◌+◌, [], length, sum_by, Ok, codes, IfOk, IfSome, OnOk};
 ghost use Rattle.std.specs.Char.{is_ascii_alphanumeric};
 ghost use Rattle.std.specs.List.{list_all};
+ghost use Rattle.f2b_model.specs.Sound.{AreFitDefs};
 ghost use Rattle.jail_conf.specs.Conf.{but_default, jail_names, is_enabled, patterns_in, next_jail, with_next, jails_behind, conf};
 ghost use Rattle.jail_conf.specs.Jails.{is_name_byte, is_jail_name};
+ghost use Rattle.jail_conf.specs.Laws.{AreWithinLimits};
 ghost use Rattle.jail_conf.specs.Sources.{bases_of, sections_of};
 ghost use Rattle.jail_conf.specs.Then.{Gives};
 
@@ -144,9 +146,13 @@ fn jails_in(
 
 /// What the files of a configuration come to, or the first refusal.
 ///
+/// What is accepted is fit for the model, and no more than a server may be given.
+///
 /// Reads no file and builds no pattern: paths may still have wildcards, and patterns their tags.
 pub fn conf(alloc: Global, tree: &Tree) -> Result<Settings, ConfFail>
-    ensures { Gives (conf tree.now) result }
+    ensures defined { Gives (conf tree.now) result }
+    ensures fit { IfOk result (λ settings. AreFitDefs settings.defs) }
+    ensures limits { IfOk result (λ settings. AreWithinLimits settings.defs) }
 {
     let files = FileTable::new(alloc, tree)?;
     let merged = sections_of(alloc, &files, "fail2ban")?;

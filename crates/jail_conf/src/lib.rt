@@ -18,6 +18,7 @@ mod fail;
 mod filter;
 mod ignored;
 mod jails;
+mod laws;
 #[cfg(test)]
 mod limit_tests;
 mod lines;
@@ -45,5 +46,6 @@ mod zones;
 pub use conf_error::{ConfError, ConfFail, ConfKind};
 pub use configuration::conf;
 pub use fail::Fail;
+pub use laws::conf_law;
 pub use seconds::str2sec;
 pub use settings::Settings;

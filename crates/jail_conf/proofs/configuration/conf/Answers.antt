@@ -6,17 +6,18 @@ use Rattle.jail_conf.specs.Readers.{as_written}
 use Rattle.jail_conf.specs.Sources.{bases_of, sections_of, of_server, own}
 use Rattle.jail_conf.specs.Table as table
 use Rattle.jail_conf.specs.Then.{Gives}
+use Rattle.jail_conf.proofs.AcceptedLemmas.{conf_is_fit, conf_is_within}
 use Rattle.jail_conf.proofs.SettingsLemmas.{ServerIs, server_fails, socket_fails, purge_fails, sections_fail, jails_fail, settings_are}
 use Rattle.jail_conf.proofs.configuration.conf.Goals as goal
 
-pub returns-in_err-merged : goal.returns-in_err-merged
-returns-in_err-merged c =
+pub returns-in_err-merged-clause-defined : goal.returns-in_err-merged-clause-defined
+returns-in_err-merged-clause-defined c =
     let p = err_from_is_err_and c.from_residual-in_err-merged.result c.from_residual-in_err-merged.ensures.1 in
     let failed : Gives (settings_in (bases_of c.in_ok-files.files)) (Err c.in_err-merged.field-0.0) = server_fails (bases_of c.in_ok-files.files) c.in_err-merged.field-0.0 c.in_err-merged.ensures in
     rw (p.1, p.2) (subst (λ files. Gives (settings_in (bases_of files)) (Err c.in_err-merged.field-0.0)) c.in_ok-files.ensures failed)
 
-pub returns-in_err-socket : goal.returns-in_err-socket
-returns-in_err-socket c =
+pub returns-in_err-socket-clause-defined : goal.returns-in_err-socket-clause-defined
+returns-in_err-socket-clause-defined c =
     let p = err_from_is_err_and c.from_residual-in_err-socket.result c.from_residual-in_err-socket.ensures.1 in
     let server : sections_of (bases_of c.in_ok-files.files) (codes "fail2ban") ≡ Ok c.in_ok-merged.merged = c.in_ok-merged.ensures in
     let refused : Gives (own (of_server c.in_ok-merged.merged) table.socket) (Err c.in_err-socket.field-0.0) =
@@ -27,8 +28,8 @@ returns-in_err-socket c =
     socket_fails (bases_of c.in_ok-files.files) c.in_ok-merged.merged c.in_err-socket.field-0.0 server refused in
     rw (p.1, p.2) (subst (λ files. Gives (settings_in (bases_of files)) (Err c.in_err-socket.field-0.0)) c.in_ok-files.ensures failed)
 
-pub returns-in_err-purge : goal.returns-in_err-purge
-returns-in_err-purge c =
+pub returns-in_err-purge-clause-defined : goal.returns-in_err-purge-clause-defined
+returns-in_err-purge-clause-defined c =
     let p = err_from_is_err_and c.from_residual-in_err-purge.result c.from_residual-in_err-purge.ensures.1 in
     let server : sections_of (bases_of c.in_ok-files.files) (codes "fail2ban") ≡ Ok c.in_ok-merged.merged = c.in_ok-merged.ensures in
     let socket : own (of_server c.in_ok-merged.merged) table.socket ≡ Ok c.in_ok-socket.socket =
@@ -40,8 +41,8 @@ returns-in_err-purge c =
     purge_fails (bases_of c.in_ok-files.files) c.in_ok-merged.merged c.in_ok-socket.socket c.in_err-purge.field-0.0 server socket refused in
     rw (p.1, p.2) (subst (λ files. Gives (settings_in (bases_of files)) (Err c.in_err-purge.field-0.0)) c.in_ok-files.ensures failed)
 
-pub returns-in_err-sections : goal.returns-in_err-sections
-returns-in_err-sections c =
+pub returns-in_err-sections-clause-defined : goal.returns-in_err-sections-clause-defined
+returns-in_err-sections-clause-defined c =
     let p = err_from_is_err_and c.from_residual-in_err-sections.result c.from_residual-in_err-sections.ensures.1 in
     let server : sections_of (bases_of c.in_ok-files.files) (codes "fail2ban") ≡ Ok c.in_ok-merged.merged = c.in_ok-merged.ensures in
     let socket : own (of_server c.in_ok-merged.merged) table.socket ≡ Ok c.in_ok-socket.socket =
@@ -55,8 +56,8 @@ returns-in_err-sections c =
     sections_fail (bases_of c.in_ok-files.files) c.in_ok-merged.merged c.in_ok-socket.socket c.in_ok-purge.purge c.in_err-sections.field-0.0 known c.in_err-sections.ensures in
     rw (p.1, p.2) (subst (λ files. Gives (settings_in (bases_of files)) (Err c.in_err-sections.field-0.0)) c.in_ok-files.ensures failed)
 
-pub returns-in_err-jails : goal.returns-in_err-jails
-returns-in_err-jails c =
+pub returns-in_err-jails-clause-defined : goal.returns-in_err-jails-clause-defined
+returns-in_err-jails-clause-defined c =
     let p = err_from_is_err_and c.from_residual-in_err-jails.result c.from_residual-in_err-jails.ensures.1 in
     let server : sections_of (bases_of c.in_ok-files.files) (codes "fail2ban") ≡ Ok c.in_ok-merged.merged = c.in_ok-merged.ensures in
     let socket : own (of_server c.in_ok-merged.merged) table.socket ≡ Ok c.in_ok-socket.socket =
@@ -75,8 +76,8 @@ returns-in_err-jails c =
     refused in
     rw (p.1, p.2) (subst (λ files. Gives (settings_in (bases_of files)) (Err c.in_err-jails.field-0.0)) c.in_ok-files.ensures failed)
 
-pub returns : goal.returns
-returns c =
+pub returns-clause-defined : goal.returns-clause-defined
+returns-clause-defined c =
     let server : sections_of (bases_of c.in_ok-files.files) (codes "fail2ban") ≡ Ok c.in_ok-merged.merged = c.in_ok-merged.ensures in
     let socket : own (of_server c.in_ok-merged.merged) table.socket ≡ Ok c.in_ok-socket.socket =
     subst (λ source. own source table.socket ≡ Ok c.in_ok-socket.socket) c.in_ok-server.ensures
@@ -92,3 +93,11 @@ returns c =
     sections jails in
     subst (λ files. settings_in (bases_of files) ≡ Ok (record { defs = record { purge = c.in_ok-purge.purge; jails = c.in_ok-jails.jails }; socket = c.in_ok-socket.socket }))
     c.in_ok-files.ensures settings
+
+pub returns-clause-fit : goal.returns-clause-fit
+returns-clause-fit c =
+    conf_is_fit c.args.tree.now (record { defs = record { purge = c.in_ok-purge.purge; jails = c.in_ok-jails.jails }; socket = c.in_ok-socket.socket }) (returns-clause-defined c)
+
+pub returns-clause-limits : goal.returns-clause-limits
+returns-clause-limits c =
+    conf_is_within c.args.tree.now (record { defs = record { purge = c.in_ok-purge.purge; jails = c.in_ok-jails.jails }; socket = c.in_ok-socket.socket }) (returns-clause-defined c)

@@ -1,0 +1,5 @@
+use Rattle.jail_conf.proofs.AcceptedLemmas.{conf_is_fit, conf_is_within}
+use Rattle.jail_conf.proofs.laws.conf_law.Goals as goal
+
+pub returns : goal.returns
+returns c = record { fit = conf_is_fit; limits = conf_is_within }
