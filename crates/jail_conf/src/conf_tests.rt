@@ -106,7 +106,7 @@ pub(crate) fn told(alloc: Global, files: &[(&str, &str)]) -> Result<String, Fail
             let file = error.file.as_str();
             let section = error.section.as_str();
             let name = error.name.as_str();
-            let kind = error.kind;
+            let kind = &error.kind;
             Ok(format!(in alloc; "{file}|{section}|{name}|{kind:?}")?)
         }
         Err(Refusal::NoMemory) => Ok(String::from_str(alloc, "no memory")?),
