@@ -12,8 +12,7 @@ ghost use Rattle.f2b_base.specs.declared.jail.WatchDef.{WatchDef};
 ghost use Rattle.f2b_model.specs.Lists.{AreDistinct};
 ghost use Rattle.f2b_model.specs.Sound.{same_kind};
 ghost use Rattle.f2b_base.specs.Limits.{last_moment};
-ghost use Rattle.jail_moves.specs.Rooms.{IsBounded};
-ghost use Rattle.f2b_model.specs.Bounds.{IsTakenInput};
+ghost use Rattle.f2b_model.specs.Bounds.{IsBounded, IsTakenInput};
 
 use f2b_base::{
     ActionDef, Addr, BanRule, Bytes, DateSpec, Defs, Failure, Family, Input, JailDef, LAST_MOMENT,
