@@ -1,7 +1,7 @@
 //! Definitions of jails from the files of a configuration.
 //!
-//! The reading of single items stands here. What a tree of files comes to, and which refusal is told first, is defined in `specs/`.
-//! Nothing here reads a file, or builds a pattern.
+//! A caller hands in a tree of files and gets what it comes to, or the refusal that is told first, as `specs/` defines them: there the
+//! order of lines is the order of refusals. Nothing here reads a file, or builds a pattern.
 #![tactic(auto)]
 
 mod actions;

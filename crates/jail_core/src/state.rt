@@ -201,9 +201,10 @@ impl Core {
         self.jails.failed_lately(name, now)
     }
 
-    /// Forgets, in all jails together, the failures of up to `most` addresses that have none which still matters: called once a turn, it
-    /// gives the memory of a burst back. The state stays as it is. It takes no time by the addresses of a jail where none is so, and no
-    /// memory.
+    /// Forgets, in all jails together, the failures of up to `most` addresses that have none which still matters by the last failure that
+    /// was counted in their jail: called once a turn, it gives the memory of a burst back once a later failure counts. The state stays as
+    /// it is; that something is forgotten is said of each jail's room alone. Where nothing is old it mostly takes no time by the
+    /// addresses. Takes no memory.
     pub fn sweep(&mut self, most: u64)
         ensures { self.new ≡ self.old }
     {
