@@ -221,7 +221,7 @@ impl Core {
             return;
         }
         if self.jails.sweep(most) < most {
-            self.next_sweep = now + SWEEP_REST;
+            self.next_sweep = now.saturating_add(SWEEP_REST);
         }
     }
 

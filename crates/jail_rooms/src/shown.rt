@@ -1,7 +1,8 @@
 //! The jail of a name.
-ghost use Rattle.std.specs.Prelude.{◌≡◌, ◌≤◌, Some, None, bytes_eq, length, map, MatchOption};
+ghost use Rattle.std.specs.Prelude.{◌≡◌, ◌≤◌, ℕ, Some, None, bytes_eq, length, map, IfSome, MatchOption};
+ghost use Rattle.f2b_model.specs.Lists.{AllOf};
 ghost use Rattle.f2b_model.specs.Steps.{find_jail, moves_now};
-ghost use Rattle.jail_rooms.specs.Kept.{now_of};
+ghost use Rattle.jail_rooms.specs.Kept.{now_of, IsKept};
 ghost use Rattle.jail_rooms.specs.Places.{jail_place};
 
 use crate::jail::Jail;
@@ -29,7 +30,8 @@ fn is_named(jail: &Jail, name: &str) -> bool
 
 /// The first jail of a name.
 pub fn jail_of<'a>(jails: &'a [Jail], name: &str) -> Option<&'a Jail>
-    ensures { MatchOption result (find_jail moves_now name.now (map now_of jails.now) ≡ None) (λ j. find_jail moves_now name.now (map now_of jails.now) ≡ Some (now_of j.now)) }
+    ensures jail { MatchOption result (find_jail moves_now name.now (map now_of jails.now) ≡ None) (λ j. find_jail moves_now name.now (map now_of jails.now) ≡ Some (now_of j.now)) }
+    ensures kept { (at next : ℕ) → AllOf (IsKept at next) jails.now → IfSome result (λ j. IsKept at next j.now) }
 {
     jails.iter().find(|jail| is_named(jail, name))
 }

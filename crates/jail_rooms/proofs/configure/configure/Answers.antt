@@ -47,3 +47,6 @@ loop-definition-preserved c =
             rw pushed (all_of_more (IsKept at next) new jail so_far.1 (c.in_ok-jail_for.ensures.kept at next so_far.0)),
           );
     }
+
+pub returns-clause-kept : goal.returns-clause-kept
+returns-clause-kept c = λ at next kept. (c.loop-definition.invariant.kept at next kept).1

@@ -1,4 +1,4 @@
-use Rattle.std.proofs.Common.{◌≡◌, ◌<◌, ℕ, zero, suc, not, true, false, List, [], ◌∷◌, length, get_or, map, refl, sym, ◌∙◌, ap, arith, rules}
+use Rattle.std.proofs.Common.{◌≡◌, ◌<◌, ℕ, zero, suc, true, false, List, [], ◌∷◌, length, get_or, map, refl, sym, ◌∙◌, ap, arith}
 use Rattle.f2b_base.specs.declared.jail.JailDef.{JailDef}
 use Rattle.f2b_model.specs.declared.jail_now.JailNow.{JailNow}
 use Rattle.jail_rooms.specs.Kept.{now_of}
@@ -17,6 +17,4 @@ pub returns-then-not-same : goal.returns-then-not-same
 returns-then-not-same c =
     (λ t. absurd (let k : false ≡ true = t in cc), λ e.
     let same = own_definition c.loop-index.index c.args.jails.now c.args.definitions.now c.index-jails-index.result c.index-definitions-index.result c.loop-index-test.true c.index-jails-index.is c.index-definitions-index.is e in
-    let told = c.if-not-same.ensures.1 same in
-    let failed : false ≡ true = rw told at c.if-not-same.true in
-    failed)
+    c.if-not-same.ensures.1 same)

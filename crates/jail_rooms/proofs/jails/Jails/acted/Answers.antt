@@ -13,11 +13,11 @@ use Rattle.jail_rooms.proofs.TakeLemmas.{as_a_whole}
 use Rattle.jail_rooms.proofs.jails.Jails.acted.Goals as goal
 
 -- the jails were lent as a slice
-slice : (c : goal.After-act_at) → c.as_mut_slice.result.now ≡ c.self.inside.jails.items
+slice : (c : goal.In_ok-next_ban) → c.as_mut_slice.result.now ≡ c.self.inside.jails.items
 slice c = search rules
 
 -- none comes or goes
-same : (c : goal.After-act_at) → length c.act_at.new.jails ≡ length c.self.inside.jails.items
+same : (c : goal.In_ok-next_ban) → length c.act_at.new.jails ≡ length c.self.inside.jails.items
 same c = c.act_at.auto.jails ∙ ap (λ (r : List Jail). length r) (slice c)
 
 -- each is kept

@@ -9,15 +9,15 @@ use Rattle.jail_rooms.proofs.TakeLemmas.{as_a_whole}
 use Rattle.jail_rooms.proofs.jails.Jails.sweep.Goals as goal
 
 -- the jails were lent as a slice
-slice : (c : goal.After-sweep_all) → c.as_mut_slice.result.now ≡ c.self.inside.jails.items
+slice : (c : goal.After-self-1) → c.as_mut_slice.result.now ≡ c.self.inside.jails.items
 slice c = search rules
 
 -- each is kept
-kept : (c : goal.After-sweep_all) → AllOf (IsKept c.self.inside.at c.self.inside.next_ban) c.as_mut_slice.result.now
+kept : (c : goal.After-self-1) → AllOf (IsKept c.self.inside.at c.self.inside.next_ban) c.as_mut_slice.result.now
 kept c = subst (AllOf (IsKept c.self.inside.at c.self.inside.next_ban)) (sym (slice c)) c.self.invariant.1
 
 -- none comes or goes
-same : (c : goal.After-sweep_all) → length c.sweep_all.new.jails ≡ length c.self.inside.jails.items
+same : (c : goal.After-self-1) → length c.sweep_all.new.jails ≡ length c.self.inside.jails.items
 same c = c.sweep_all.auto.jails ∙ ap (λ (r : List Jail). length r) (slice c)
 
 pub invariant_of-self : goal.invariant_of-self
