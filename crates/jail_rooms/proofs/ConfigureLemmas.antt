@@ -1,6 +1,6 @@
 -- When a configuration changes nothing: it gives the definitions that stand, no stop was asked for, no jail is idle, and just its lanes
 -- are up.
-use Rattle.std.proofs.Common.{◌≡◌, ℕ, ◌<◌, ◌≤◌, Bool, true, false, cond, not, ◌&&◌, ◌||◌, List, [], ◌∷◌, Option, Some, None, length, map, refl, sym, ◌∙◌, ap, ap₂, subst, arith, length-append}
+use Rattle.std.proofs.Common.{◌≡◌, ℕ, ◌<◌, ◌≤◌, Bool, true, false, cond, not, ◌&&◌, ◌||◌, List, [], ◌∷◌, Option, Some, None, map, refl, sym, ◌∙◌, ap, ap₂, subst, arith, length-append}
 use Rattle.std.specs.Prelude.{bytes_eq}
 use Rattle.std.specs.List.{filter, list_any}
 use Rattle.std.specs.Cmp.Lexicographic.{bytes_decides}

@@ -1,9 +1,8 @@
 -- The test of two configurations tells whether they are one.
-use Rattle.std.proofs.Common.{◌≡◌, ◌↔◌, ◌&&◌, ◌==◌, ℕ, Bool, true, false, List, Option, Some, None, IsTrue, refl, ap, subst}
-use Rattle.std.specs.Prelude.{bytes_eq}
+use Rattle.std.proofs.Common.{◌≡◌, ◌↔◌, ◌==◌, ℕ, true, false, List, Option, Some, None, IsTrue, refl, ap, subst}
 use Rattle.std.specs.Bool.{Decides}
 use Rattle.std.specs.Cmp.{booleans_Decides}
-use Rattle.std.specs.Cmp.Lexicographic.{bytes_decides, pointwise, pointwise_decides}
+use Rattle.std.specs.Cmp.Lexicographic.{bytes_decides, pointwise_decides}
 use Rattle.std.proofs.lemmas.Bool.Decides.{Decides-and, Decides-eqb, Decides-int_eq, Decides-like}
 use Rattle.f2b_base.specs.Addresses.{same_addr}
 use Rattle.f2b_base.specs.Families.{same_family}
@@ -82,8 +81,19 @@ action_decides : (a b : ActionDef) → Decides (same_action a b) (a ≡ b)
 action_decides a b =
     Decides-like (same_action a b)
     (λ p. λ i. record { name = p.0 i; family = p.1.0 i; start = p.1.1.0 i; stop = p.1.1.1.0 i; ban = p.1.1.1.1.0 i; unban = p.1.1.1.1.1.0 i; check = p.1.1.1.1.1.1.0 i; timeout = p.1.1.1.1.1.1.1 i })
-    (λ e. (ap (λ (x : ActionDef). x.name) e, (ap (λ (x : ActionDef). x.family) e, (ap (λ (x : ActionDef). x.start) e, (ap (λ (x : ActionDef). x.stop) e,
-    (ap (λ (x : ActionDef). x.ban) e, (ap (λ (x : ActionDef). x.unban) e, (ap (λ (x : ActionDef). x.check) e, ap (λ (x : ActionDef). x.timeout) e))))))))
+    (λ e. (
+      ap (λ (x : ActionDef). x.name) e,
+      (
+        ap (λ (x : ActionDef). x.family) e,
+        (
+          ap (λ (x : ActionDef). x.start) e,
+          (
+            ap (λ (x : ActionDef). x.stop) e,
+            (ap (λ (x : ActionDef). x.ban) e, (ap (λ (x : ActionDef). x.unban) e, (ap (λ (x : ActionDef). x.check) e, ap (λ (x : ActionDef). x.timeout) e))),
+          ),
+        ),
+      ),
+    ))
     (Decides-and _ _ (bytes_decides a.name b.name) (Decides-and _ _ (family_decides a.family b.family) (Decides-and _ _ (bytes_decides a.start b.start)
     (Decides-and _ _ (bytes_decides a.stop b.stop) (Decides-and _ _ (bytes_decides a.ban b.ban) (Decides-and _ _ (bytes_decides a.unban b.unban)
     (Decides-and _ _ (bytes_decides a.check b.check) (Decides-eqb a.timeout b.timeout))))))))
@@ -93,8 +103,19 @@ rule_decides : (a b : BanRule) → Decides (same_rule a b) (a ≡ b)
 rule_decides a b =
     Decides-like (same_rule a b)
     (λ p. λ i. record { base = p.0 i; increment = p.1.0 i; factor = p.1.1.0 i; multipliers = p.1.1.1.0 i; maxtime = p.1.1.1.1.0 i; rndtime = p.1.1.1.1.1 i })
-    (λ e. (ap (λ (x : BanRule). x.base) e, (ap (λ (x : BanRule). x.increment) e, (ap (λ (x : BanRule). x.factor) e, (ap (λ (x : BanRule). x.multipliers) e,
-    (ap (λ (x : BanRule). x.maxtime) e, ap (λ (x : BanRule). x.rndtime) e))))))
+    (λ e. (
+      ap (λ (x : BanRule). x.base) e,
+      (
+        ap (λ (x : BanRule). x.increment) e,
+        (
+          ap (λ (x : BanRule). x.factor) e,
+          (
+            ap (λ (x : BanRule). x.multipliers) e,
+            (ap (λ (x : BanRule). x.maxtime) e, ap (λ (x : BanRule). x.rndtime) e),
+          ),
+        ),
+      ),
+    ))
     (Decides-and _ _ (Decides-int_eq a.base b.base) (Decides-and _ _ (booleans_Decides a.increment b.increment) (Decides-and _ _ (Decides-eqb a.factor b.factor)
     (Decides-and _ _ (pointwise_decides Decides-eqb a.multipliers b.multipliers) (Decides-and _ _ (Decides-eqb a.maxtime b.maxtime) (Decides-eqb a.rndtime b.rndtime))))))
 
@@ -117,10 +138,43 @@ jail_decides a b =
       rule = p.1.1.1.1.1.1.1.1.1.1.1.0 i;
       actions = p.1.1.1.1.1.1.1.1.1.1.1.1 i;
     })
-    (λ e. (ap (λ (x : JailDef). x.name) e, (ap (λ (x : JailDef). x.watches) e, (ap (λ (x : JailDef). x.zone) e, (ap (λ (x : JailDef). x.date) e,
-    (ap (λ (x : JailDef). x.pref) e, (ap (λ (x : JailDef). x.fail) e, (ap (λ (x : JailDef). x.ignore_lines) e, (ap (λ (x : JailDef). x.ignore) e,
-    (ap (λ (x : JailDef). x.findtime) e, (ap (λ (x : JailDef). x.maxretry) e, (ap (λ (x : JailDef). x.maxmatches) e, (ap (λ (x : JailDef). x.rule) e,
-    ap (λ (x : JailDef). x.actions) e)))))))))))))
+    (λ e. (
+      ap (λ (x : JailDef). x.name) e,
+      (
+        ap (λ (x : JailDef). x.watches) e,
+        (
+          ap (λ (x : JailDef). x.zone) e,
+          (
+            ap (λ (x : JailDef). x.date) e,
+            (
+              ap (λ (x : JailDef). x.pref) e,
+              (
+                ap (λ (x : JailDef). x.fail) e,
+                (
+                  ap (λ (x : JailDef). x.ignore_lines) e,
+                  (
+                    ap (λ (x : JailDef). x.ignore) e,
+                    (
+                      ap (λ (x : JailDef). x.findtime) e,
+                      (
+                        ap (λ (x : JailDef). x.maxretry) e,
+                        (
+                          ap (λ (x : JailDef). x.maxmatches) e,
+                          (
+                            ap (λ (x : JailDef). x.rule) e,
+                            ap (λ (x : JailDef). x.actions) e,
+                          ),
+                        ),
+                      ),
+                    ),
+                  ),
+                ),
+              ),
+            ),
+          ),
+        ),
+      ),
+    ))
     (Decides-and _ _ (bytes_decides a.name b.name) (Decides-and _ _ (pointwise_decides watch_decides a.watches b.watches) (Decides-and _ _ (Decides-int_eq a.zone b.zone)
     (Decides-and _ _ (date_decides a.date b.date) (Decides-and _ _ (text_decides a.pref b.pref) (Decides-and _ _ (pointwise_decides bytes_decides a.fail b.fail)
     (Decides-and _ _ (pointwise_decides bytes_decides a.ignore_lines b.ignore_lines) (Decides-and _ _ (pointwise_decides mask_decides a.ignore b.ignore)

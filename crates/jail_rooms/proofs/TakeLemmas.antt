@@ -4,7 +4,6 @@ use Rattle.std.proofs.Math.Seq.{take-append_seam, take-length}
 use Rattle.std.proofs.lemmas.List.{append-nil, map-append, take_more}
 use Rattle.std.specs.List.{list_any}
 use Rattle.f2b_model.specs.Active.{held_by, held_in, held_in_jail, held_of}
-use Rattle.f2b_model.specs.Orders.{Held}
 use Rattle.f2b_model.specs.Steps.{moves_now}
 use Rattle.f2b_model.specs.Told.{told_each}
 use Rattle.f2b_model.specs.declared.happening.Happening.{Happening}

@@ -55,7 +55,8 @@ fn limit(alloc: Global, jail: &mut Jail, findtime: u64, maxretry: u64)
     ensures jail { now_of jail.new ≡ limited_now findtime maxretry (now_of jail.old) }
     ensures kept { (at next : ℕ) → IsKept at next jail.old → IsKept at next jail.new }
 {
-    jail.room.limit(alloc, &mut jail.definition, findtime, maxretry);
+    jail.room
+        .limit(alloc, &mut jail.definition, findtime, maxretry);
 }
 
 /// Does what a command changes in its jail. Nothing changes by an input that is no such command.

@@ -13,11 +13,7 @@ use f2b_base::{JailDef, NoMemory};
 use std::alloc::Global;
 
 /// The jail of a definition: the first of its name, which is taken out of those that are left, or a new one.
-fn jail_for(
-    alloc: Global,
-    left: &mut Vec<Jail>,
-    definition: &JailDef,
-) -> Result<Jail, NoMemory>
+fn jail_for(alloc: Global, left: &mut Vec<Jail>, definition: &JailDef) -> Result<Jail, NoMemory>
     requires { IsBounded definition.now }
     ensures jail { IfOk result (λ jail. now_of jail ≡ kept_or_fresh moves_now definition.now (find_jail moves_now definition.now.name (map now_of left.old.items))) }
     ensures left { OnOk result (left.new.items ≡ remove left.old.items (jail_place definition.now.name left.old.items)) }

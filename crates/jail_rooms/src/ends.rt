@@ -29,11 +29,7 @@ pub fn is_any_idle(jails: &[Jail]) -> bool
 }
 
 /// Ends the bans of all jails that are due, and tells of them.
-pub fn end_due_bans(
-    jails: &mut [Jail],
-    told: &mut Seq<Happening>,
-    at: u64,
-) -> Result<(), NoMemory>
+pub fn end_due_bans(jails: &mut [Jail], told: &mut Seq<Happening>, at: u64) -> Result<(), NoMemory>
     requires { at ≤ last_moment }
     ensures jails { OnOk result (AreMoved (ended_by_time moves_now at) at (length jails.old) jails.old jails.new) }
     ensures told { OnOk result (told.new ≡ told.old ++ told_each (told_ends moves_now at) (map now_of jails.old)) }

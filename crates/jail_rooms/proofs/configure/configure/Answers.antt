@@ -1,7 +1,6 @@
-use Rattle.std.proofs.Common.{◌≡◌, ◌<◌, ◌+◌, suc, List, [], ◌∷◌, ◌++◌, take, drop, map, length, remove, arith, refl, sym, ◌∙◌, ap, subst, drop-cons}
+use Rattle.std.proofs.Common.{◌≡◌, ◌<◌, ◌+◌, suc, List, [], ◌∷◌, ◌++◌, take, drop, map, length, remove, arith, sym, ◌∙◌, ap, subst, drop-cons}
 use Rattle.std.proofs.lemmas.List.{map-append}
 use Rattle.f2b_base.specs.declared.jail.JailDef.{JailDef}
-use Rattle.f2b_model.specs.Lists.{AllOf}
 use Rattle.f2b_model.specs.Steps.{configured, find_jail, kept_or_fresh, moves_now}
 use Rattle.f2b_model.specs.declared.jail_now.JailNow.{JailNow}
 use Rattle.jail_rooms.specs.Kept.{now_of, IsKept}

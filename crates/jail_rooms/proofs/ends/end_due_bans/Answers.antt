@@ -6,7 +6,7 @@ use Rattle.f2b_model.specs.Told.{told_each, told_ends}
 use Rattle.jail_rooms.specs.Kept.{now_of}
 use Rattle.jail_rooms.specs.Moved.{AreMoved, IsMoved}
 use Rattle.jail_rooms.specs.declared.jail.Jail.{Jail}
-use Rattle.jail_rooms.proofs.MovedLemmas.{one_more, same_length, still_there}
+use Rattle.jail_rooms.proofs.MovedLemmas.{one_more, still_there}
 use Rattle.jail_rooms.proofs.TakeLemmas.{take_all, told_item}
 use Rattle.jail_rooms.proofs.ends.end_due_bans.Goals as goal
 
@@ -25,10 +25,10 @@ loop-index-preserved c =
     let there = own ∙ still_there move c.args.at i old new j moved in (
       one_more move c.args.at i old new j c.end_due.new.self lt moved own is,
       c.in_ok-end_due.ensures.told
-      ∙ ap (λ (r : Jail). c.loop-index.told ++ tell (now_of r)) (sym own)
-      ∙ ap (λ (r : List Happening). r ++ tell (now_of j)) c.loop-index.invariant.1
-      ∙ append_assoc c.args.told.now (told_each tell (map now_of (take i old))) (tell (now_of j))
-      ∙ ap (λ (r : List Happening). c.args.told.now ++ r) (sym (told_item tell old i j lt there)),
+          ∙ ap (λ (r : Jail). c.loop-index.told ++ tell (now_of r)) (sym own)
+          ∙ ap (λ (r : List Happening). r ++ tell (now_of j)) c.loop-index.invariant.1
+          ∙ append_assoc c.args.told.now (told_each tell (map now_of (take i old))) (tell (now_of j))
+          ∙ ap (λ (r : List Happening). c.args.told.now ++ r) (sym (told_item tell old i j lt there)),
     )
 
 pub returns-clause-jails : goal.returns-clause-jails

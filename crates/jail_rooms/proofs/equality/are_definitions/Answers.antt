@@ -14,7 +14,9 @@ own_definition (suc i) (k ∷ js) ds j d lt j_is d_is e =
     own_definition i js (map (λ (m : JailNow). m.definition) (map now_of js)) j d (omega arith) j_is (d_is ∙ ap (λ (r : List JailDef). get_or r (suc i) d) e) refl
 
 pub returns-then-not-same : goal.returns-then-not-same
-returns-then-not-same c =
-    (λ t. absurd (let k : false ≡ true = t in cc), λ e.
-    let same = own_definition c.loop-index.index c.args.jails.now c.args.definitions.now c.index-jails-index.result c.index-definitions-index.result c.loop-index-test.true c.index-jails-index.is c.index-definitions-index.is e in
-    c.if-not-same.ensures.1 same)
+returns-then-not-same c = (
+  λ t. absurd (let k : false ≡ true = t in cc),
+  λ e.
+      let same = own_definition c.loop-index.index c.args.jails.now c.args.definitions.now c.index-jails-index.result c.index-definitions-index.result c.loop-index-test.true c.index-jails-index.is c.index-definitions-index.is e in
+      c.if-not-same.ensures.1 same,
+)

@@ -2,7 +2,7 @@ use denote.Bor.{Bor}
 use Rattle.std.proofs.Common.{◌≡◌, ℕ, Bool, List, [], ◌∷◌, Option, Some, None, map, refl, sym, ◌∙◌, ap, subst, rules}
 use Rattle.std.specs.List.{find}
 use Rattle.std.specs.Option.{option_map, IfSome, MatchOption}
-use Rattle.std.specs.Prelude.{bytes_eq, option_copied}
+use Rattle.std.specs.Prelude.{bytes_eq}
 use Rattle.std.proofs.lemmas.Iterator.{YieldsList-from_slice}
 use Rattle.std.proofs.lemmas.Iterator.Search.{find_from_yields_List}
 use borrow.Author.Tests.{tests}

@@ -1,7 +1,6 @@
-use Rattle.std.proofs.Common.{◌≡◌, List, ◌++◌, [], ◌∷◌, map, take, sym, ◌∙◌, ap, ap₂}
-use Rattle.f2b_model.specs.Active.{held_by, held_in_jail, held_of}
+use Rattle.std.proofs.Common.{◌≡◌, List, ◌++◌, [], ◌∷◌, sym, ◌∙◌, ap, ap₂}
+use Rattle.f2b_model.specs.Active.{held_in_jail, held_of}
 use Rattle.f2b_model.specs.Orders.{Held}
-use Rattle.f2b_model.specs.Steps.{moves_now}
 use Rattle.f2b_model.specs.declared.jail_bans.JailBans.{JailBans}
 use Rattle.jail_rooms.specs.declared.jail.Jail.{Jail}
 use Rattle.jail_rooms.proofs.TakeLemmas.{held_item, held_push}

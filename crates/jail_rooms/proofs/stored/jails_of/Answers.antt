@@ -1,4 +1,4 @@
-use Rattle.std.proofs.Common.{◌≡◌, ◌<◌, ◌+◌, ◌++◌, [], ◌∷◌, List, length, ◌∙◌, ap, subst, sym, arith, length-append}
+use Rattle.std.proofs.Common.{◌≡◌, ◌+◌, ◌++◌, [], ◌∷◌, List, length, ◌∙◌, ap, subst, sym, arith, length-append}
 use Rattle.jail_rooms.specs.declared.jail.Jail.{Jail}
 use Rattle.jail_rooms.proofs.StoredLemmas.{AreBack, IsBack, back_jails, back_kept, back_one_more, stored_at, stored_length}
 use Rattle.jail_rooms.proofs.stored.jails_of.Goals as goal

@@ -1,11 +1,8 @@
-use Rattle.std.proofs.Common.{◌≡◌, length, map, List, ◌++◌, [], ◌∷◌, sym, ◌∙◌, ap, arith}
 use Rattle.f2b_base.specs.declared.view.JailView.{JailView}
 use Rattle.f2b_model.specs.Views.{jail_view}
-use Rattle.f2b_model.specs.declared.jail_now.JailNow.{JailNow}
 use Rattle.jail_rooms.specs.Kept.{now_of, IsKept}
 use Rattle.jail_rooms.specs.declared.jail.Jail.{Jail}
 use Rattle.jail_rooms.proofs.PlaceLemmas.{one_of_all}
-use Rattle.jail_rooms.proofs.TakeLemmas.{map_item, take_all}
 use Rattle.jail_rooms.proofs.stored.views.Goals as goal
 
 -- what is stored of one jail

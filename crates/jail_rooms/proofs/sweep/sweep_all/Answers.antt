@@ -1,9 +1,8 @@
 -- One jail after the other.
-use Rattle.std.proofs.Common.{◌≡◌, suc, ◌+◌, ◌<◌, List, length, get_or, take, map, refl, ◌∙◌, ap, subst, arith}
+use Rattle.std.proofs.Common.{◌≡◌, suc, ◌+◌, ◌<◌, List, length, get_or, take, refl, ◌∙◌, ap, subst, arith}
 use Rattle.std.proofs.Math.ListN.{set}
-use Rattle.f2b_model.specs.Lists.{AllOf}
 use Rattle.jail_moves.specs.Rooms.{stale_in}
-use Rattle.jail_rooms.specs.Kept.{now_of, IsKept}
+use Rattle.jail_rooms.specs.Kept.{IsKept}
 use Rattle.jail_rooms.specs.Stale.{stale_count}
 use Rattle.jail_rooms.specs.declared.jail.Jail.{Jail}
 use Rattle.jail_rooms.proofs.PlaceLemmas.{kept_set, one_of_all}
@@ -31,9 +30,10 @@ loop-index-preserved c =
     record {
       same = λ at next kept.
           let so_far = c.loop-index.invariant.same at next kept in
-          let own : IsKept at next jail = one_of_all (IsKept at next) i jails jail so_far.1 lt jail_is in
-          (all_stay i jails jail new jail_is (c.sweep-forgotten.ensures.jail jail.definition own.findtime) ∙ so_far.0,
-          kept_set at next next i jails new so_far.1 (omega arith) (c.sweep-forgotten.ensures.kept at next jail.definition own));
+          let own : IsKept at next jail = one_of_all (IsKept at next) i jails jail so_far.1 lt jail_is in (
+            all_stay i jails jail new jail_is (c.sweep-forgotten.ensures.jail jail.definition own.findtime) ∙ so_far.0,
+            kept_set at next next i jails new so_far.1 (omega arith) (c.sweep-forgotten.ensures.kept at next jail.definition own),
+          );
       within = omega arith;
       count = omega arith;
       none = λ some.

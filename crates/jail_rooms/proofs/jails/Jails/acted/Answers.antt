@@ -45,6 +45,7 @@ returns-clause-told c =
     ∙ ap (λ (w : JailsNow). c.args.told.now ++ tell w) c.self.view_is
 
 pub invariant_of-result : goal.invariant_of-result
-invariant_of-result c =
-    (c.self.invariant.0,
-    subst (AllOf (IsKept c.self.inside.at c.in_ok-next_ban.next_ban)) (sym (as_a_whole c.act_at.new.jails c.self.inside.jails.items _ (same c) (search rules))) c.in_ok-next_ban.ensures.kept)
+invariant_of-result c = (
+  c.self.invariant.0,
+  subst (AllOf (IsKept c.self.inside.at c.in_ok-next_ban.next_ban)) (sym (as_a_whole c.act_at.new.jails c.self.inside.jails.items _ (same c) (search rules))) c.in_ok-next_ban.ensures.kept,
+)

@@ -1,4 +1,4 @@
-use Rattle.std.proofs.Common.{◌≡◌, ℕ, ◌≤◌, List, map, ◌∙◌, ap, arith, rules}
+use Rattle.std.proofs.Common.{List, ◌∙◌, ap, arith, rules}
 use Rattle.f2b_model.specs.NowMoves.{dropped_now}
 use Rattle.f2b_model.specs.Nows.{JailsNow}
 use Rattle.f2b_model.specs.Steps.{each_jail, moves_now}
@@ -15,7 +15,8 @@ returns c =
 
 pub invariant_of-result : goal.invariant_of-result
 invariant_of-result c =
-    let i = c.self.inside in
-    (c.self.invariant.0,
-    kept_whole (dropped_now i.at i.purge) i.at i.at i.next_ban i.jails.items c.as_mut_slice.result.now c.drop_old_bans.new.jails _
-    (omega arith) (search rules) (search rules) c.drop_old_bans.ensures c.self.invariant.1)
+    let i = c.self.inside in (
+      c.self.invariant.0,
+      kept_whole (dropped_now i.at i.purge) i.at i.at i.next_ban i.jails.items c.as_mut_slice.result.now c.drop_old_bans.new.jails _
+          (omega arith) (search rules) (search rules) c.drop_old_bans.ensures c.self.invariant.1,
+    )

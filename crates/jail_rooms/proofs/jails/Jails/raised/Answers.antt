@@ -1,4 +1,4 @@
-use Rattle.std.proofs.Common.{◌≡◌, ℕ, ◌≤◌, max, List, map, ◌∙◌, ap, arith, rules}
+use Rattle.std.proofs.Common.{◌≡◌, max, List, map, ◌∙◌, ap, arith, rules}
 use Rattle.f2b_model.specs.Nows.{JailsNow}
 use Rattle.f2b_model.specs.Steps.{at_reading, ended_by_time, moves_now}
 use Rattle.f2b_model.specs.declared.jail_now.JailNow.{JailNow}
@@ -22,7 +22,8 @@ invariant_of-result c =
     let at = c.max-at.result in
     let at_is : at ≡ max i.at c.args.secs = search rules in
     let before = c.self.invariant.0 in
-    let most = c.requires in
-    (omega arith,
-    kept_whole (ended_by_time moves_now at) i.at at i.next_ban i.jails.items c.as_mut_slice.result.now c.end_due_bans.new.jails _ (omega arith) (search rules) (search rules)
-    c.in_ok-end_due_bans.ensures.jails c.self.invariant.1)
+    let most = c.requires in (
+      omega arith,
+      kept_whole (ended_by_time moves_now at) i.at at i.next_ban i.jails.items c.as_mut_slice.result.now c.end_due_bans.new.jails _ (omega arith) (search rules) (search rules)
+          c.in_ok-end_due_bans.ensures.jails c.self.invariant.1,
+    )

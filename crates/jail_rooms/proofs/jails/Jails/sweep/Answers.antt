@@ -21,10 +21,11 @@ same : (c : goal.After-self-1) → length c.sweep_all.new.jails ≡ length c.sel
 same c = c.sweep_all.auto.jails ∙ ap (λ (r : List Jail). length r) (slice c)
 
 pub invariant_of-self : goal.invariant_of-self
-invariant_of-self c =
-    (c.self.invariant.0,
-    subst (AllOf (IsKept c.self.inside.at c.self.inside.next_ban)) (sym (as_a_whole c.sweep_all.new.jails c.self.inside.jails.items _ (same c) (search rules)))
-    (c.sweep_all.ensures.kept c.self.inside.at c.self.inside.next_ban (kept c)))
+invariant_of-self c = (
+  c.self.invariant.0,
+  subst (AllOf (IsKept c.self.inside.at c.self.inside.next_ban)) (sym (as_a_whole c.sweep_all.new.jails c.self.inside.jails.items _ (same c) (search rules)))
+      (c.sweep_all.ensures.kept c.self.inside.at c.self.inside.next_ban (kept c)),
+)
 
 pub returns-clause-jails : goal.returns-clause-jails
 returns-clause-jails c =

@@ -1,4 +1,4 @@
-use Rattle.std.proofs.Common.{◌≡◌, ℕ, ◌≤◌, cond, List, map, ◌∙◌, ap, arith, rules}
+use Rattle.std.proofs.Common.{ℕ, cond, List, ◌∙◌, ap, arith, rules}
 use Rattle.f2b_model.specs.Nows.{JailsNow}
 use Rattle.f2b_model.specs.Steps.{each_jail, is_meant_jail, moves_now, unbanned}
 use Rattle.f2b_model.specs.declared.jail_now.JailNow.{JailNow}
@@ -15,7 +15,8 @@ returns-clause-jails c =
 
 pub invariant_of-result : goal.invariant_of-result
 invariant_of-result c =
-    let i = c.self.inside in
-    (c.self.invariant.0,
-    kept_whole (λ (j : JailNow). cond (is_meant_jail c.args.name.now j.definition) (unbanned moves_now i.at c.args.addrs.now j) j) i.at i.at i.next_ban i.jails.items c.as_mut_slice.result.now c.unban_jails.new.jails _
-    (omega arith) (search rules) (search rules) c.in_ok-unban_jails.ensures.jails c.self.invariant.1)
+    let i = c.self.inside in (
+      c.self.invariant.0,
+      kept_whole (λ (j : JailNow). cond (is_meant_jail c.args.name.now j.definition) (unbanned moves_now i.at c.args.addrs.now j) j) i.at i.at i.next_ban i.jails.items c.as_mut_slice.result.now c.unban_jails.new.jails _
+          (omega arith) (search rules) (search rules) c.in_ok-unban_jails.ensures.jails c.self.invariant.1,
+    )
