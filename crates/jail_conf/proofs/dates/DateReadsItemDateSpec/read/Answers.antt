@@ -2,7 +2,7 @@ use Rattle.std.proofs.Common.{◌≡◌, false, nat_eq, rules}
 use Rattle.std.specs.List.{starts_with}
 use Rattle.std.proofs.lemmas.Str.Pattern.{starts_text}
 use Rattle.jail_conf.specs.Dates.{anchor}
-use Rattle.jail_conf.proofs.dates.DateReadingDateSpec.read.Goals as goal
+use Rattle.jail_conf.proofs.dates.DateReadsItemDateSpec.read.Goals as goal
 
 pub returns-in_err-refuse_unless_pattern-2 : goal.returns-in_err-refuse_unless_pattern-2
 returns-in_err-refuse_unless_pattern-2 c =
