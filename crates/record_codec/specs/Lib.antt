@@ -1,0 +1,5 @@
+pub mod Versions
+pub mod Definitions
+pub mod Lanes
+pub mod Inputs
+pub mod Fronts
