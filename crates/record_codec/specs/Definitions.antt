@@ -18,7 +18,7 @@ use Rattle.f2b_model.specs.Sound.{same_kind}
 use Rattle.f2b_model.specs.Storable.{longest_span, is_name_byte, IsJailName, IsBase, IsZone, IsStorablePlace, IsStorableDate, IsStorableRule, IsStorableAction, IsStorableDef, AreStorableDefs, patterns_of}
 use Rattle.record_fields.specs.Addresses.{cidr}
 use Rattle.record_fields.specs.Codec.{◌>>=◌, as_made, Codec, both, and_then, made, fit, checked, coded, case, no_case, field, option_of}
-use Rattle.record_fields.specs.Lists.{listed, any, is_new}
+use Rattle.record_fields.specs.Lists.{list_of, listed, any, is_new}
 use Rattle.record_fields.specs.Numbers.{number, at_most, between, signed}
 use Rattle.record_fields.specs.Small.{flag, span}
 use Rattle.record_fields.specs.Texts.{string, text, short}
@@ -149,6 +149,14 @@ jail_def = fit IsStorableDef (made
     (λ d. (d.name, (d.watches, (d.zone, (d.date, (d.pref, (d.fail, (d.ignore_lines, (d.ignore, (d.findtime, (d.maxretry, (d.maxmatches, (d.rule, d.actions)))))))))))))
     (both name (both (listed (Some 4096) (is_new same_path) watch_def) (both zone (both date (both (option_of pattern) (both (listed (Some 512) any pattern) (both (listed (Some 512) any pattern)
     (both (listed None any cidr) (both span (both (between 1 100000) (both (at_most 1000) (both ban_rule (listed (Some 32) (is_new same_kind) action_def))))))))))))))
+
+-- the last fields of a jail, from its findtime on
+abbrev pub limits_spelling : JailDef → List ℕ
+limits_spelling d = span.spell d.findtime ++ ((between 1 100000).spell d.maxretry ++ ((at_most 1000).spell d.maxmatches ++ (ban_rule.spell d.rule ++ list_of action_def.spell d.actions)))
+
+-- those from its patterns on
+abbrev pub patterns_spelling : JailDef → List ℕ
+patterns_spelling d = (option_of pattern).spell d.pref ++ (list_of pattern.spell d.fail ++ (list_of pattern.spell d.ignore_lines ++ (list_of cidr.spell d.ignore ++ limits_spelling d)))
 
 abbrev pub same_name : JailDef → JailDef → Bool
 same_name c d = bytes_eq c.name d.name

@@ -22,8 +22,9 @@ lane_id = fit IsStorableLane (made (λ x. record { jail = x.0; action = x.1.0; f
 unfoldable pub up_lane : Codec UpLane
 up_lane = fit IsStorableUp (made (λ x. record { jail = x.0; action = x.1 }) (λ u. (u.jail, u.action)) (both name action_def))
 
+-- a lane that is up is the same as another one
 abbrev pub same_up : UpLane → UpLane → Bool
-same_up u v = bytes_eq u.jail v.jail && (bytes_eq u.action.name v.action.name && same_family u.action.family v.action.family)
+same_up u v = bytes_eq v.jail u.jail && (bytes_eq v.action.name u.action.name && same_family v.action.family u.action.family)
 
 abbrev pub kind_code : JobKind → ℕ
 kind_code Start = 0

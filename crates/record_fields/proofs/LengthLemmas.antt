@@ -5,19 +5,20 @@ use Rattle.std.proofs.lemmas.List.{length-append, append-nil, take_more}
 use Rattle.std.specs.List.{flat_map}
 use Rattle.record_fields.specs.Codec.{capped}
 
-pub capped-append : (a b : List ℕ) → capped (a ++ b) ≡ min (capped a + capped b) (2 ^ 64 - 1)
+-- the length of two parts
+pub length_joined : (a b : List ℕ) (m n sum : ℕ) → m ≡ capped a → n ≡ capped b → sum ≡ min (m + n) (2 ^ 64 - 1) → sum ≡ capped (a ++ b)
 unfolding capped
-capped-append a b = omega (arith, length-append a b)
+length_joined a b m n sum one two is = omega (arith, length-append a b)
 
--- what is no longer than a few numbers has its length
-pub capped-short : (a : List ℕ) (n : ℕ) → n ≡ length a → n ≤ 100 → n ≡ capped a
+-- the length of a byte and what follows
+pub length_tagged : (byte : ℕ) (bytes : List ℕ) (n sum : ℕ) → n ≡ capped bytes → sum ≡ min (n + 1) (2 ^ 64 - 1) → sum ≡ capped (byte ∷ bytes)
 unfolding capped
-capped-short a n is few = omega arith
+length_tagged byte bytes n sum is total = omega arith
 
 -- the length of a list before its items
-pub length_begun : (a : List ℕ) (n : ℕ) → n ≡ length a → n ≤ 10 → n ≡ capped (a ++ [])
+pub length_begun : (a : List ℕ) (n : ℕ) → n ≡ capped a → n ≡ capped (a ++ [])
 unfolding capped
-length_begun a n is few = omega (arith, length-append a [])
+length_begun a n is = omega (arith, length-append a [])
 
 -- the length of a list with one more item
 pub length_more : {A : Type 0} (spell : A → List ℕ) (front : List ℕ) (xs : List A) (i : ℕ) (x : A) (before item after : ℕ) → i < length xs → x ≡ get_or xs i x

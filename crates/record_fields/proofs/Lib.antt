@@ -6,3 +6,4 @@ pub mod ListLemmas
 pub mod AddressLemmas
 pub mod SmallLemmas
 pub mod LengthLemmas
+mod Rows

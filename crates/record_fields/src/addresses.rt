@@ -1,7 +1,7 @@
 //! Addresses: 4 and four bytes, or 6 and sixteen, which are no IPv4 address in `::ffff:0:0/96`.
-ghost use Rattle.std.specs.Prelude.{◌≡◌, ◌≤◌, ◌++◌, length, OnOk};
+ghost use Rattle.std.specs.Prelude.{◌≡◌, ◌++◌, OnOk};
 ghost use Rattle.std.specs.Int.{w32, w64};
-ghost use Rattle.record_fields.specs.Codec.{Gives};
+ghost use Rattle.record_fields.specs.Codec.{Gives, capped};
 ghost use Rattle.record_fields.specs.Addresses.{eight, sixteen, fixed_at, sixteen_at, addr};
 
 use crate::fault::Fault;
@@ -39,10 +39,9 @@ pub fn put_addr(host: Addr, out: &mut Bytes) -> Result<(), NoMemory>
 }
 
 /// How many bytes an address has.
-#[tactic(auto, unfolding(crate::specs::Addresses::sixteen, crate::specs::Addresses::eight))]
+#[tactic(auto, unfolding(crate::specs::Addresses::sixteen, crate::specs::Addresses::eight, crate::specs::Codec::capped))]
 pub fn addr_len(host: Addr) -> u64
-    ensures value { result ≡ length (addr.spell host) }
-    ensures small { result ≤ 17 }
+    ensures { result ≡ capped (addr.spell host) }
 {
     match host {
         Addr::V4(_) => 5,

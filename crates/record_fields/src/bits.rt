@@ -1,11 +1,12 @@
 //! Masks over addresses: a base, and a byte that says how many of its bits are the prefix.
-ghost use Rattle.std.specs.Prelude.{◌≡◌, ◌≤◌, ◌==◌, ◌++◌, length, OnOk};
+ghost use Rattle.std.specs.Prelude.{◌≡◌, ◌≤◌, ◌==◌, ◌++◌, OnOk};
 ghost use Rattle.f2b_base.specs.Masks.{cleared};
-ghost use Rattle.record_fields.specs.Codec.{Gives};
+ghost use Rattle.record_fields.specs.Codec.{Gives, capped};
 ghost use Rattle.record_fields.specs.Addresses.{is_mask, bits, cidr};
 
 use crate::addresses::{addr_len, put_addr, take_addr};
 use crate::fault::Fault;
+use crate::lengths::{byte_len, joined_len};
 use f2b_base::{Addr, Bytes, Cidr, NoMemory};
 
 /// Whether the bits of a number after the first are 0.
@@ -66,10 +67,9 @@ pub fn put_cidr(mask: Cidr, out: &mut Bytes) -> Result<(), NoMemory>
 /// How many bytes a mask has.
 #[tactic(auto, unfolding(crate::specs::Addresses::cidr))]
 pub fn cidr_len(mask: Cidr) -> u64
-    ensures value { result ≡ length (cidr.spell mask) }
-    ensures small { result ≤ 18 }
+    ensures { result ≡ capped (cidr.spell mask) }
 {
-    addr_len(mask.base) + 1
+    joined_len(addr_len(mask.base), byte_len())
 }
 
 /// The mask at the front of the bytes.

@@ -15,6 +15,7 @@
 mod addresses;
 mod bits;
 mod fault;
+mod lengths;
 mod lists;
 mod numbers;
 mod small;
@@ -23,6 +24,7 @@ mod texts;
 pub use addresses::{addr_len, put_addr, take_addr};
 pub use bits::{cidr_len, put_cidr, take_cidr};
 pub use fault::Fault;
+pub use lengths::{byte_len, joined_len, tagged_len};
 pub use lists::{Items, ItemsBy, Spell, list_len, put_list, take_each, take_list};
 pub use numbers::{
     number_len, put_number, put_signed, signed_len, take_between, take_number, take_signed,

@@ -1,6 +1,6 @@
 //! Numbers: seven bits a byte, low ones first, in the shortest form alone.
 ghost use Rattle.std.specs.Prelude.{◌≡◌, ◌<◌, ◌≤◌, ◌^◌, ◌++◌, length, OnOk, option_map};
-ghost use Rattle.record_fields.specs.Codec.{Gives};
+ghost use Rattle.record_fields.specs.Codec.{Gives, capped};
 ghost use Rattle.record_fields.specs.Numbers.{digits, digits_at, number, number_at, at_most, between, signed};
 
 use crate::fault::Fault;
@@ -42,9 +42,9 @@ fn digits_len(n: u64, left: u8) -> u64
 }
 
 /// How many bytes a number has.
+#[tactic(auto, unfolding(crate::specs::Codec::capped))]
 pub fn number_len(n: u64) -> u64
-    ensures value { result ≡ length (number.spell n) }
-    ensures small { result ≤ 10 }
+    ensures { result ≡ capped (number.spell n) }
 {
     digits_len(n, 10)
 }
@@ -120,8 +120,7 @@ pub fn put_signed(z: i64, out: &mut Bytes) -> Result<(), NoMemory>
 
 /// How many bytes a signed number has.
 pub fn signed_len(z: i64) -> u64
-    ensures value { result ≡ length (signed.spell z) }
-    ensures small { result ≤ 10 }
+    ensures { result ≡ capped (signed.spell z) }
 {
     if z < 0 {
         number_len(2 * ((-(z + 1)) as u64) + 1)

@@ -4,7 +4,7 @@ use Rattle.record_fields.proofs.LengthLemmas.{length_begun, length_more}
 use Rattle.record_fields.proofs.lists.list_len.Goals as goal
 
 pub loop-item-init : goal.loop-item-init
-loop-item-init g c = length_begun (digits 10 (length c.args.items.now)) c.number_len-total.result c.number_len-total.ensures.value c.number_len-total.ensures.small
+loop-item-init g c = length_begun (digits 10 (length c.args.items.now)) c.number_len-total.result c.number_len-total.ensures
 
 pub loop-item-preserved : goal.loop-item-preserved
 loop-item-preserved g c =
