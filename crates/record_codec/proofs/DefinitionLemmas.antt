@@ -145,11 +145,23 @@ ban_rule_codec = fit_codec IsStorableRule _
       maxtime = h.1.1.1.1.0;
       rndtime = h.1.1.1.1.1;
     })
-    (λ r h. (h.base, (tt, (h.factor, (record {
-      few = le-leb (length r.multipliers) 64 h.most;
-      each = each_all (IsWithin 1 1000000) factor.Fits (λ n le. le) r.multipliers h.multipliers;
-      all_allowed = any_allowed [] r.multipliers;
-    }, (h.maxtime, h.rndtime))))))
+    (λ r h. (
+      h.base,
+      (
+        tt,
+        (
+          h.factor,
+          (
+            record {
+              few = le-leb (length r.multipliers) 64 h.most;
+              each = each_all (IsWithin 1 1000000) factor.Fits (λ n le. le) r.multipliers h.multipliers;
+              all_allowed = any_allowed [] r.multipliers;
+            },
+            (h.maxtime, h.rndtime),
+          ),
+        ),
+      ),
+    ))
 
 ban_rule_word : FitsAre ban_rule IsStorableRule
 unfolding ban_rule
@@ -240,19 +252,55 @@ jail_def_codec = fit_codec IsStorableDef _
       kinds = distinct_of_new same_kind d.actions actions.all_allowed;
       most = leb-true (length d.actions) 32 actions.few;
     })
-    (λ d h. (name_word.fit d.name h.name, (record {
-      few = le-leb (length d.watches) 4096 h.logs;
-      each = each_all (λ (w : WatchDef). IsUtf8 w.path) watch_def.Fits watch_def_word.fit d.watches h.watches;
-      all_allowed = new_of_distinct same_path d.watches (distinct_by bytes_eq (λ (w : WatchDef). w.path) d.watches h.paths);
-    }, (h.zone, (date_word.fit d.date h.date, (pref_of d.pref h.pref, (patterns_listed d.fail h.fail h.fails, (patterns_listed d.ignore_lines h.ignore_lines h.ignores, (record {
-      few = refl;
-      each = each_all IsCidr cidr.Fits cidr_word.fit d.ignore h.ignore;
-      all_allowed = any_allowed [] d.ignore;
-    }, (h.findtime, (h.maxretry, (h.maxmatches, (ban_rule_word.fit d.rule h.rule, record {
-      few = le-leb (length d.actions) 32 h.most;
-      each = each_all IsStorableAction action_def.Fits action_def_word.fit d.actions h.actions;
-      all_allowed = new_of_distinct same_kind d.actions h.kinds;
-    })))))))))))))
+    (λ d h. (
+      name_word.fit d.name h.name,
+      (
+        record {
+          few = le-leb (length d.watches) 4096 h.logs;
+          each = each_all (λ (w : WatchDef). IsUtf8 w.path) watch_def.Fits watch_def_word.fit d.watches h.watches;
+          all_allowed = new_of_distinct same_path d.watches (distinct_by bytes_eq (λ (w : WatchDef). w.path) d.watches h.paths);
+        },
+        (
+          h.zone,
+          (
+            date_word.fit d.date h.date,
+            (
+              pref_of d.pref h.pref,
+              (
+                patterns_listed d.fail h.fail h.fails,
+                (
+                  patterns_listed d.ignore_lines h.ignore_lines h.ignores,
+                  (
+                    record {
+                      few = refl;
+                      each = each_all IsCidr cidr.Fits cidr_word.fit d.ignore h.ignore;
+                      all_allowed = any_allowed [] d.ignore;
+                    },
+                    (
+                      h.findtime,
+                      (
+                        h.maxretry,
+                        (
+                          h.maxmatches,
+                          (
+                            ban_rule_word.fit d.rule h.rule,
+                            record {
+                              few = le-leb (length d.actions) 32 h.most;
+                              each = each_all IsStorableAction action_def.Fits action_def_word.fit d.actions h.actions;
+                              all_allowed = new_of_distinct same_kind d.actions h.kinds;
+                            },
+                          ),
+                        ),
+                      ),
+                    ),
+                  ),
+                ),
+              ),
+            ),
+          ),
+        ),
+      ),
+    ))
 
 jail_def_word : FitsAre jail_def IsStorableDef
 unfolding jail_def
@@ -272,12 +320,15 @@ defs_codec = fit_codec AreStorableDefs _
       most = leb-true (length d.jails) 256 jails.few;
       patterns = few_of_room patterns_of 512 d.jails parts.1;
     })
-    (λ d h. (h.purge, record {
-      few = le-leb (length d.jails) 256 h.most;
-      each = each_all IsStorableDef jail_def.Fits jail_def_word.fit d.jails h.jails;
-      all_allowed = allow_both (is_new same_name) has_room [] d.jails
-          (new_of_distinct same_name d.jails (distinct_by bytes_eq (λ (c : JailDef). c.name) d.jails h.names)) (room_of_few patterns_of 512 d.jails h.patterns);
-    }))
+    (λ d h. (
+      h.purge,
+      record {
+        few = le-leb (length d.jails) 256 h.most;
+        each = each_all IsStorableDef jail_def.Fits jail_def_word.fit d.jails h.jails;
+        all_allowed = allow_both (is_new same_name) has_room [] d.jails
+            (new_of_distinct same_name d.jails (distinct_by bytes_eq (λ (c : JailDef). c.name) d.jails h.names)) (room_of_few patterns_of 512 d.jails h.patterns);
+      },
+    ))
 
 pub defs_word : FitsAre defs AreStorableDefs
 unfolding defs

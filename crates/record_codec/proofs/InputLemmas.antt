@@ -119,22 +119,34 @@ module _ (version : Version) where
       ((name_word.are jail h.0, h.1.0, place_word.are at h.1.1.0, parts.0, leb-true (length fs) most_at_once listed.few), parts.1)
 
   read_of : (jail path : List ℕ) (at : Place) (fs : List Failure) → IsWhatIn version (Read jail path at fs) → (read_fields version).Fits (jail, (path, (at, fs)))
-  read_of jail path at fs h = (name_word.fit jail h.0.0, (h.0.1, (place_word.fit at h.0.2, record {
-    few = le-leb (length fs) most_at_once h.0.4;
-    each = each_all (λ f. IsStorableFailure f × IsWholeIn version f) (failure version).Fits (failure_word version).fit fs (all_joined IsStorableFailure (IsWholeIn version) fs h.0.3 h.1);
-    all_allowed = any_allowed [] fs;
-  })))
+  read_of jail path at fs h = (
+    name_word.fit jail h.0.0,
+    (
+      h.0.1,
+      (
+        place_word.fit at h.0.2,
+        record {
+          few = le-leb (length fs) most_at_once h.0.4;
+          each = each_all (λ f. IsStorableFailure f × IsWholeIn version f) (failure version).Fits (failure_word version).fit fs (all_joined IsStorableFailure (IsWholeIn version) fs h.0.3 h.1);
+          all_allowed = any_allowed [] fs;
+        },
+      ),
+    ),
+  )
 
   ban_is : (jail : List ℕ) (addrs : List Addr) → ban_fields.Fits (jail, addrs) → IsWhatIn version (Ban jail addrs)
   ban_is jail addrs h =
       ((name_word.are jail h.0, all_each IsAddr IsAddr (λ a fits. fits) addrs h.1.each, distinct_of_new same_addr addrs h.1.all_allowed, leb-true (length addrs) most_at_once h.1.few), tt)
 
   ban_of : (jail : List ℕ) (addrs : List Addr) → IsWhatIn version (Ban jail addrs) → ban_fields.Fits (jail, addrs)
-  ban_of jail addrs h = (name_word.fit jail h.0.0, record {
-    few = le-leb (length addrs) most_at_once h.0.3;
-    each = each_all IsAddr IsAddr (λ a fits. fits) addrs h.0.1;
-    all_allowed = new_of_distinct same_addr addrs h.0.2;
-  })
+  ban_of jail addrs h = (
+    name_word.fit jail h.0.0,
+    record {
+      few = le-leb (length addrs) most_at_once h.0.3;
+      each = each_all IsAddr IsAddr (λ a fits. fits) addrs h.0.1;
+      all_allowed = new_of_distinct same_addr addrs h.0.2;
+    },
+  )
 
   name_or_none : (o : Option (List ℕ)) → (option_of name).Fits o → IsNameOrNone o
   name_or_none None h = tt

@@ -172,17 +172,40 @@ module _ (version : Version) (at : ℕ) where
   unfolding jail_view
   jail_fits d v h =
       let s = h.storable in
-      let named : IsJailName v.name = subst IsJailName (sym h.named) s.definition.name in
-      ((name_word.fit v.name named, rw h.named (bytes_eq-same d.name)), (tt, (s.total_failed, (s.total_banned, (s.moment, (record {
-        few = refl;
-        each = each_all (λ f. IsStorableFailure f × IsWholeIn version f) (failure version).Fits (failure_word version).fit v.failures (all_joined IsStorableFailure (IsWholeIn version) v.failures s.failures h.whole);
-        all_allowed = allow_both (λ b (f : Failure). nat_le f.time at) (is_behind may_follow) [] v.failures (in_time [] v.failures h.times) (failures_ordered v.failures s.ordered);
-      }, (record {
-        few = refl;
-        each = each_all IsStorableBan ban.Fits ban_word.fit v.bans s.bans;
-        all_allowed = allow_both (is_behind rises) (is_new same_banned) [] v.bans (serials_rising v.bans h.rising) (new_of_distinct same_banned v.bans s.once);
-      }, (record {
-        few = refl;
-        each = each_all IsStorablePast past.Fits past_word.fit v.past s.past;
-        all_allowed = ends_rising v.past h.ends;
-      }, are_watches d.watches v.watches s.watches h.watched.same))))))))
+      let named : IsJailName v.name = subst IsJailName (sym h.named) s.definition.name in (
+        (name_word.fit v.name named, rw h.named (bytes_eq-same d.name)),
+        (
+          tt,
+          (
+            s.total_failed,
+            (
+              s.total_banned,
+              (
+                s.moment,
+                (
+                  record {
+                    few = refl;
+                    each = each_all (λ f. IsStorableFailure f × IsWholeIn version f) (failure version).Fits (failure_word version).fit v.failures (all_joined IsStorableFailure (IsWholeIn version) v.failures s.failures h.whole);
+                    all_allowed = allow_both (λ b (f : Failure). nat_le f.time at) (is_behind may_follow) [] v.failures (in_time [] v.failures h.times) (failures_ordered v.failures s.ordered);
+                  },
+                  (
+                    record {
+                      few = refl;
+                      each = each_all IsStorableBan ban.Fits ban_word.fit v.bans s.bans;
+                      all_allowed = allow_both (is_behind rises) (is_new same_banned) [] v.bans (serials_rising v.bans h.rising) (new_of_distinct same_banned v.bans s.once);
+                    },
+                    (
+                      record {
+                        few = refl;
+                        each = each_all IsStorablePast past.Fits past_word.fit v.past s.past;
+                        all_allowed = ends_rising v.past h.ends;
+                      },
+                      are_watches d.watches v.watches s.watches h.watched.same,
+                    ),
+                  ),
+                ),
+              ),
+            ),
+          ),
+        ),
+      )

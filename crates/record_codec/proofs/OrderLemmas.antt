@@ -150,9 +150,11 @@ id_onward a b c one two = let x = ltb-true a.id b.id one in let y = ltb-true b.i
 
 by_id_pairs : (from : ℕ) (jobs : List Job) (next : ℕ) → from ≤ next → AllOf (λ (j : Job). from ≤ j.id) jobs → AllOf (λ (j : Job). j.id < next) jobs → Pairs (λ j k. has_later_id j k ≡ true) jobs → AreById from jobs next
 by_id_pairs from [] next le above below pairs = le
-by_id_pairs from (j ∷ js) next le above below pairs =
-    (above.0, by_id_pairs (j.id + 1) js next (omega (arith, below.0))
-    (all_given (λ (k : Job). has_later_id j k ≡ true) (λ (k : Job). j.id + 1 ≤ k.id) (λ k e. let lt = ltb-true j.id k.id e in omega arith) js pairs.0) below.1 pairs.1)
+by_id_pairs from (j ∷ js) next le above below pairs = (
+  above.0,
+  by_id_pairs (j.id + 1) js next (omega (arith, below.0))
+      (all_given (λ (k : Job). has_later_id j k ≡ true) (λ (k : Job). j.id + 1 ≤ k.id) (λ k e. let lt = ltb-true j.id k.id e in omega arith) js pairs.0) below.1 pairs.1,
+)
 
 above_by_id : (from more : ℕ) (jobs : List Job) (next : ℕ) → from ≤ more → AreById more jobs next → AllOf (λ (j : Job). from ≤ j.id) jobs
 above_by_id from more [] next le h = tt
@@ -160,9 +162,10 @@ above_by_id from more (j ∷ js) next le h = (omega (arith, h.0), above_by_id fr
 
 pairs_by_id : (from : ℕ) (jobs : List Job) (next : ℕ) → AreById from jobs next → Pairs (λ j k. has_later_id j k ≡ true) jobs
 pairs_by_id from [] next h = tt
-pairs_by_id from (j ∷ js) next h =
-    (all_given (λ (k : Job). j.id + 1 ≤ k.id) (λ (k : Job). has_later_id j k ≡ true) (λ k le. lt-ltb j.id k.id (omega arith)) js (above_by_id (j.id + 1) (j.id + 1) js next (omega arith) h.1),
-      pairs_by_id (j.id + 1) js next h.1)
+pairs_by_id from (j ∷ js) next h = (
+  all_given (λ (k : Job). j.id + 1 ≤ k.id) (λ (k : Job). has_later_id j k ≡ true) (λ k le. lt-ltb j.id k.id (omega arith)) js (above_by_id (j.id + 1) (j.id + 1) js next (omega arith) h.1),
+  pairs_by_id (j.id + 1) js next h.1,
+)
 
 below_by_id : (from : ℕ) (jobs : List Job) (next : ℕ) → AreById from jobs next → AllOf (λ (j : Job). j.id < next) jobs
 below_by_id from [] next h = tt

@@ -132,9 +132,10 @@ module _ (version : Version) (at : ℕ) where
   joined next (d ∷ ds) [] same stored watched times numbered ends whole = absurd cc
   joined next (d ∷ ds) (v ∷ vs) same stored watched times numbered ends whole =
       let first : v.name ≡ d.name = cc in
-      let others : map (λ (j : JailView). j.name) vs ≡ map (λ (d : JailDef). d.name) ds = cc in
-      (record { named = first; storable = stored.0; watched = watched.0; times = times.0; rising = numbered.0.rising; ends = ends.0; whole = whole.0 },
-        joined next ds vs others stored.1 watched.1 times.1 numbered.1 ends.1 whole.1)
+      let others : map (λ (j : JailView). j.name) vs ≡ map (λ (d : JailDef). d.name) ds = cc in (
+        record { named = first; storable = stored.0; watched = watched.0; times = times.0; rising = numbered.0.rising; ends = ends.0; whole = whole.0 },
+        joined next ds vs others stored.1 watched.1 times.1 numbered.1 ends.1 whole.1,
+      )
 
 -- ---- numbers to come
 
@@ -184,32 +185,34 @@ module _ (version : Version) where
       let each = jails_are version v.at v.defs.jails v.jails definitions.jails h.1.1.1.1.0 in
       let next_job = next_job_is v.jobs v.next_job h.1.1.1.1.1.1.0.1 in
       let next_ban = next_ban_is v.jails v.next_ban h.1.1.1.1.1.1.1.1 in
-      let In = IsJailIn version v.at in
-      (record {
-        storable = record {
-          now = record {
-            at = h.0;
-            purge = definitions.purge;
-            jails = of_each In IsStorableJail (λ d j i. i.storable) v.defs.jails v.jails each;
-            names = subst (AreDistinct bytes_eq) (sym (names_are In v.defs.jails v.jails each)) definitions.names;
-            most = subst (λ n. n ≤ 256) (sym (length-jails_of In v.defs.jails v.jails each)) definitions.most;
-            patterns = subst AreFewPatterns (sym (definitions_are In v.defs.jails v.jails each)) definitions.patterns;
-            numbered = numbered_are version v.at v.next_ban v.defs.jails v.jails each next_ban.1;
-            next_ban = next_ban.0;
-            lanes = record {
-              up = all_each up_lane.Fits IsStorableUp up_lane_word.are v.up up.each;
-              apart = record { one = apart_of_distinct v.up (distinct_of_new same_up v.up up.all_allowed) };
-              jobs = all_each job.Fits IsStorableJob job_word.are v.jobs jobs.each;
+      let In = IsJailIn version v.at in (
+        record {
+          storable = record {
+            now = record {
+              at = h.0;
+              purge = definitions.purge;
+              jails = of_each In IsStorableJail (λ d j i. i.storable) v.defs.jails v.jails each;
+              names = subst (AreDistinct bytes_eq) (sym (names_are In v.defs.jails v.jails each)) definitions.names;
+              most = subst (λ n. n ≤ 256) (sym (length-jails_of In v.defs.jails v.jails each)) definitions.most;
+              patterns = subst AreFewPatterns (sym (definitions_are In v.defs.jails v.jails each)) definitions.patterns;
+              numbered = numbered_are version v.at v.next_ban v.defs.jails v.jails each next_ban.1;
+              next_ban = next_ban.0;
+              lanes = record {
+                up = all_each up_lane.Fits IsStorableUp up_lane_word.are v.up up.each;
+                apart = record { one = apart_of_distinct v.up (distinct_of_new same_up v.up up.all_allowed) };
+                jobs = all_each job.Fits IsStorableJob job_word.are v.jobs jobs.each;
+              };
+              by_id = jobs_by_id v.jobs v.next_job jobs.all_allowed next_job.1;
+              next_job = next_job.0;
             };
-            by_id = jobs_by_id v.jobs v.next_job jobs.all_allowed next_job.1;
-            next_job = next_job.0;
+            named = named_are version v.at v.defs.jails v.jails each;
+            watched = of_each In (λ (j : JailNow). IsWatched j.definition.watches j.watches) (λ d j i. i.watched) v.defs.jails v.jails each;
+            times = by_each In (λ (j : JailView). AllOf (λ (f : Failure). f.time ≤ v.at) j.failures) (λ d j i. i.times) v.defs.jails v.jails each;
           };
-          named = named_are version v.at v.defs.jails v.jails each;
-          watched = of_each In (λ (j : JailNow). IsWatched j.definition.watches j.watches) (λ d j i. i.watched) v.defs.jails v.jails each;
-          times = by_each In (λ (j : JailView). AllOf (λ (f : Failure). f.time ≤ v.at) j.failures) (λ d j i. i.times) v.defs.jails v.jails each;
-        };
-        ends = by_each In (λ (j : JailView). IsRisingEnds j.past) (λ d j i. i.ends) v.defs.jails v.jails each;
-      }, by_each In (λ (j : JailView). AllOf (IsWholeIn version) j.failures) (λ d j i. i.whole) v.defs.jails v.jails each))
+          ends = by_each In (λ (j : JailView). IsRisingEnds j.past) (λ d j i. i.ends) v.defs.jails v.jails each;
+        },
+        by_each In (λ (j : JailView). AllOf (IsWholeIn version) j.failures) (λ d j i. i.whole) v.defs.jails v.jails each,
+      ))
       (λ v h.
       let s = h.0.storable in
       let n = s.now in
@@ -222,17 +225,36 @@ module _ (version : Version) where
         most = subst (λ n. n ≤ 256) (length-jails_of In v.defs.jails v.jails each) n.most;
         patterns = subst AreFewPatterns (definitions_are In v.defs.jails v.jails each) n.patterns;
       } in
-      let jobs = by_id_jobs v.jobs v.next_job n.by_id in
-      (n.at, (defs_word.fit v.defs definitions, (tt, (record {
-        few = refl;
-        each = each_all IsStorableUp up_lane.Fits up_lane_word.fit v.up n.lanes.up;
-        all_allowed = new_of_distinct same_up v.up (distinct_of_apart v.up n.lanes.apart.one);
-      }, (each_given In (λ d. (jail_view version v.at d).Fits) (jail_fits version v.at) v.defs.jails v.jails each, (record {
-        few = refl;
-        each = each_all IsStorableJob job.Fits job_word.fit v.jobs n.lanes.jobs;
-        all_allowed = jobs.0;
-      }, ((omega (arith, n.next_job), is_next_job_of v.jobs v.next_job n.next_job jobs.1),
-        (omega (arith, n.next_ban), is_next_ban_of v.jails v.next_ban n.next_ban (below_are version v.at v.next_ban v.defs.jails v.jails s.named n.numbered))))))))))
+      let jobs = by_id_jobs v.jobs v.next_job n.by_id in (
+        n.at,
+        (
+          defs_word.fit v.defs definitions,
+          (
+            tt,
+            (
+              record {
+                few = refl;
+                each = each_all IsStorableUp up_lane.Fits up_lane_word.fit v.up n.lanes.up;
+                all_allowed = new_of_distinct same_up v.up (distinct_of_apart v.up n.lanes.apart.one);
+              },
+              (
+                each_given In (λ d. (jail_view version v.at d).Fits) (jail_fits version v.at) v.defs.jails v.jails each,
+                (
+                  record {
+                    few = refl;
+                    each = each_all IsStorableJob job.Fits job_word.fit v.jobs n.lanes.jobs;
+                    all_allowed = jobs.0;
+                  },
+                  (
+                    (omega (arith, n.next_job), is_next_job_of v.jobs v.next_job n.next_job jobs.1),
+                    (omega (arith, n.next_ban), is_next_ban_of v.jails v.next_ban n.next_ban (below_are version v.at v.next_ban v.defs.jails v.jails s.named n.numbered)),
+                  ),
+                ),
+              ),
+            ),
+          ),
+        ),
+      ))
 
   pub view_word : FitsAre (view version) (λ v. IsRecordedView v × IsViewWholeIn version v)
   unfolding view

@@ -78,7 +78,10 @@ fn commands_len(action: &ActionDef) -> u64
     ensures { result ≡ capped (text.spell action.now.ban ++ (text.spell action.now.unban ++ (text.spell action.now.check ++ span.spell action.now.timeout))) }
 {
     let check = joined_len(text_len(&action.check), number_len(action.timeout));
-    joined_len(text_len(&action.ban), joined_len(text_len(&action.unban), check))
+    joined_len(
+        text_len(&action.ban),
+        joined_len(text_len(&action.unban), check),
+    )
 }
 
 /// How long an action is.

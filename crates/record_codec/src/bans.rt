@@ -100,9 +100,18 @@ impl Spell<Ban> for ActiveBans {
 
     #[tactic(auto, unfolding(crate::specs::Views::ban))]
     fn len(item: &Ban) -> u64 {
-        let counts = joined_len(number_len(u64::from(item.count)), number_len(u64::from(item.failures)));
-        let times = joined_len(number_len(item.begin), joined_len(until_len(item.until), counts));
-        joined_len(number_len(item.serial), joined_len(addr_len(item.addr), times))
+        let counts = joined_len(
+            number_len(u64::from(item.count)),
+            number_len(u64::from(item.failures)),
+        );
+        let times = joined_len(
+            number_len(item.begin),
+            joined_len(until_len(item.until), counts),
+        );
+        joined_len(
+            number_len(item.serial),
+            joined_len(addr_len(item.addr), times),
+        )
     }
 }
 

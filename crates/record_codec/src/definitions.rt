@@ -121,16 +121,28 @@ fn put_patterns(jail: &JailDef, out: &mut Bytes) -> Result<(), NoMemory>
 fn limits_len(jail: &JailDef) -> u64
     ensures { result ≡ capped (limits_spelling jail.now) }
 {
-    let rule = joined_len(rule_len(&jail.rule), list_len::<ActionDef, Actions>(jail.actions.as_slice()));
+    let rule = joined_len(
+        rule_len(&jail.rule),
+        list_len::<ActionDef, Actions>(jail.actions.as_slice()),
+    );
     let matches = joined_len(number_len(jail.maxmatches), rule);
-    joined_len(number_len(jail.findtime), joined_len(number_len(jail.maxretry), matches))
+    joined_len(
+        number_len(jail.findtime),
+        joined_len(number_len(jail.maxretry), matches),
+    )
 }
 
 fn patterns_len(jail: &JailDef) -> u64
     ensures { result ≡ capped (patterns_spelling jail.now) }
 {
-    let ignore = joined_len(list_len::<Cidr, Masks>(jail.ignore.as_slice()), limits_len(jail));
-    let lines = joined_len(list_len::<Text, Patterns>(jail.ignore_lines.as_slice()), ignore);
+    let ignore = joined_len(
+        list_len::<Cidr, Masks>(jail.ignore.as_slice()),
+        limits_len(jail),
+    );
+    let lines = joined_len(
+        list_len::<Text, Patterns>(jail.ignore_lines.as_slice()),
+        ignore,
+    );
     let fail = joined_len(list_len::<Text, Patterns>(jail.fail.as_slice()), lines);
     joined_len(pref_len(&jail.pref), fail)
 }
@@ -254,7 +266,10 @@ pub(crate) fn put_defs(it: &Defs, out: &mut Bytes) -> Result<(), NoMemory>
 pub(crate) fn defs_len(it: &Defs) -> u64
     ensures { result ≡ capped (defs.spell it.now) }
 {
-    joined_len(number_len(it.purge), list_len::<JailDef, Jails>(it.jails.as_slice()))
+    joined_len(
+        number_len(it.purge),
+        list_len::<JailDef, Jails>(it.jails.as_slice()),
+    )
 }
 
 /// The definitions of a server at the front of the bytes.

@@ -18,7 +18,14 @@ fn take_failure_v1(alloc: Global, bytes: &[u8]) -> Result<(Failure, &[u8]), Faul
 {
     let (addr, rest) = take_addr(bytes)?;
     let (time, rest) = take_moment(rest)?;
-    Ok((Failure { addr, time, line: Text::new(alloc) }, rest))
+    Ok((
+        Failure {
+            addr,
+            time,
+            line: Text::new(alloc),
+        },
+        rest,
+    ))
 }
 
 #[tactic(auto, unfolding(crate::specs::Versions::failure_v2))]
@@ -32,7 +39,11 @@ fn take_failure_v2(alloc: Global, bytes: &[u8]) -> Result<(Failure, &[u8]), Faul
 }
 
 /// The failure at the front of the bytes.
-pub(crate) fn take_failure(version: Version, alloc: Global, bytes: &[u8]) -> Result<(Failure, &[u8]), Fault>
+pub(crate) fn take_failure(
+    version: Version,
+    alloc: Global,
+    bytes: &[u8],
+) -> Result<(Failure, &[u8]), Fault>
     ensures { Gives (λ x. (x.0, x.1.now)) result ((failure version).read bytes.now) }
 {
     match version {
@@ -59,7 +70,10 @@ impl Spell<Failure> for Found {
 
     #[tactic(auto, unfolding(crate::specs::Versions::failure_v2))]
     fn len(item: &Failure) -> u64 {
-        joined_len(addr_len(item.addr), joined_len(number_len(item.time), text_len(&item.line)))
+        joined_len(
+            addr_len(item.addr),
+            joined_len(number_len(item.time), text_len(&item.line)),
+        )
     }
 }
 

@@ -24,7 +24,13 @@ use std::alloc::Global;
 /// The most values in the list of one input.
 const MOST_AT_ONCE: u64 = 1 << 62;
 
-fn put_read(jail: &Text, path: &Text, place: &Place, found: &Seq<Failure>, out: &mut Bytes) -> Result<(), NoMemory>
+fn put_read(
+    jail: &Text,
+    path: &Text,
+    place: &Place,
+    found: &Seq<Failure>,
+    out: &mut Bytes,
+) -> Result<(), NoMemory>
     ensures { OnOk result (out.new ≡ out.old ++ (1 ∷ (read_fields Two).spell (jail.now, (path.now, (place.now, found.now))))) }
 {
     out.push(1)?;
@@ -56,7 +62,12 @@ pub(crate) fn put_what(it: &What, out: &mut Bytes) -> Result<(), NoMemory>
 {
     match it {
         What::Tick => out.push(0),
-        What::Read { jail, path, place, found } => put_read(jail, path, place, found, out),
+        What::Read {
+            jail,
+            path,
+            place,
+            found,
+        } => put_read(jail, path, place, found, out),
         What::Ended { job, outcome } => put_ended(2, *job, *outcome, out),
         What::Config { defs } => {
             out.push(3)?;
@@ -104,7 +115,10 @@ pub(crate) fn put_what(it: &What, out: &mut Bytes) -> Result<(), NoMemory>
 fn read_len(jail: &Text, path: &Text, place: &Place, found: &Seq<Failure>) -> u64
     ensures { result ≡ capped (1 ∷ (read_fields Two).spell (jail.now, (path.now, (place.now, found.now)))) }
 {
-    let place = joined_len(place_len(place), list_len::<Failure, Found>(found.as_slice()));
+    let place = joined_len(
+        place_len(place),
+        list_len::<Failure, Found>(found.as_slice()),
+    );
     tagged_len(joined_len(name_len(jail), joined_len(text_len(path), place)))
 }
 
@@ -121,17 +135,31 @@ pub(crate) fn what_len(it: &What) -> u64
 {
     match it {
         What::Tick => byte_len(),
-        What::Read { jail, path, place, found } => read_len(jail, path, place, found),
+        What::Read {
+            jail,
+            path,
+            place,
+            found,
+        } => read_len(jail, path, place, found),
         What::Ended { job, outcome } => ended_len(*job, *outcome),
         What::Config { defs } => tagged_len(defs_len(defs)),
         What::Stop => byte_len(),
-        What::Ban { jail, addrs } => tagged_len(joined_len(name_len(jail), list_len::<Addr, Hosts>(addrs.as_slice()))),
+        What::Ban { jail, addrs } => tagged_len(joined_len(
+            name_len(jail),
+            list_len::<Addr, Hosts>(addrs.as_slice()),
+        )),
         What::Unban { jail, addrs } => tagged_len(joined_len(jail_len(jail), hosts_len(addrs))),
         What::Attempt { jail, addr } => tagged_len(joined_len(name_len(jail), addr_len(*addr))),
-        What::Ignore { jail, cidr, .. } => tagged_len(joined_len(name_len(jail), joined_len(cidr_len(*cidr), byte_len()))),
+        What::Ignore { jail, cidr, .. } => tagged_len(joined_len(
+            name_len(jail),
+            joined_len(cidr_len(*cidr), byte_len()),
+        )),
         What::Findtime { jail, secs } => tagged_len(joined_len(name_len(jail), number_len(*secs))),
         What::Bantime { jail, secs } => tagged_len(joined_len(name_len(jail), signed_len(*secs))),
-        What::Maxretry { jail, number } => tagged_len(joined_len(name_len(jail), number_len(*number))),
+        What::Maxretry { jail, number } => tagged_len(joined_len(
+            name_len(jail),
+            number_len(*number),
+        )),
         What::Idle { jail, .. } => tagged_len(joined_len(name_len(jail), byte_len())),
         What::CheckFailed { job, outcome } => ended_len(*job, *outcome),
     }
@@ -257,7 +285,11 @@ fn take_idle(alloc: Global, bytes: &[u8]) -> Result<(What, &[u8]), Fault>
 
 /// What happened, at the front of the bytes.
 #[tactic(auto, unfolding(crate::specs::Inputs::what))]
-pub(crate) fn take_what(version: Version, alloc: Global, bytes: &[u8]) -> Result<(What, &[u8]), Fault>
+pub(crate) fn take_what(
+    version: Version,
+    alloc: Global,
+    bytes: &[u8],
+) -> Result<(What, &[u8]), Fault>
     ensures { Gives (λ x. (x.0, x.1.now)) result ((what version).read bytes.now) }
 {
     match bytes {

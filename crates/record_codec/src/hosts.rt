@@ -112,7 +112,11 @@ impl Items<Addr> for DistinctHosts {
 
 /// The distinct addresses at the front of the bytes. They are read once without a look whether they are, and those before each are walked
 /// over only to find the place of one that is not new.
-pub(crate) fn take_distinct(alloc: Global, most: u64, bytes: &[u8]) -> Result<(Seq<Addr>, &[u8]), Fault>
+pub(crate) fn take_distinct(
+    alloc: Global,
+    most: u64,
+    bytes: &[u8],
+) -> Result<(Seq<Addr>, &[u8]), Fault>
     ensures { Gives (λ x. (x.0, x.1.now)) result (list_at (Just most) (is_new same_addr) addr.read bytes.now) }
 {
     if let Ok((hosts, rest)) = take_list(&Hosts, alloc, Some(most), bytes) {

@@ -25,12 +25,19 @@ pub(crate) fn put_input(it: &Input, out: &mut Bytes) -> Result<(), NoMemory>
 pub(crate) fn whole_len(it: &Input) -> u64
     ensures { result ≡ capped ((input Two).spell it.now) }
 {
-    joined_len(number_len(it.secs), joined_len(number_len(it.word), what_len(&it.what)))
+    joined_len(
+        number_len(it.secs),
+        joined_len(number_len(it.word), what_len(&it.what)),
+    )
 }
 
 /// The input at the front of the bytes.
 #[tactic(auto, unfolding(crate::specs::Inputs::input))]
-pub(crate) fn take_input(version: Version, alloc: Global, bytes: &[u8]) -> Result<(Input, &[u8]), Fault>
+pub(crate) fn take_input(
+    version: Version,
+    alloc: Global,
+    bytes: &[u8],
+) -> Result<(Input, &[u8]), Fault>
     ensures { Gives (λ x. (x.0, x.1.now)) result ((input version).read bytes.now) }
 {
     let (secs, rest) = take_moment(bytes)?;

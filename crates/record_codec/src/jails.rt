@@ -10,10 +10,12 @@ use crate::logs::{place_len, put_place, take_place};
 use crate::names::{name_len, put_name, take_name};
 use crate::open_failures::OpenFailures;
 use crate::version::Version;
-use f2b_base::{Ban, Bytes, Failure, JailDef, JailView, NoMemory, Past, Seq, Text, WatchDef, WatchView};
+use f2b_base::{
+    Ban, Bytes, Failure, JailDef, JailView, NoMemory, Past, Seq, Text, WatchDef, WatchView,
+};
 use record_fields::{
-    Fault, ItemsBy, Spell, joined_len, list_len, number_len, put_flag, put_list,
-    put_number, put_text, tagged_len, take_each, take_flag, take_list, take_moment, take_number, take_text,
+    Fault, ItemsBy, Spell, joined_len, list_len, number_len, put_flag, put_list, put_number,
+    put_text, tagged_len, take_each, take_flag, take_list, take_moment, take_number, take_text,
     text_len,
 };
 use std::alloc::Global;
@@ -53,7 +55,12 @@ impl ItemsBy<WatchDef, WatchView> for WatchViews {
     ghost reading = { λ _ by. (watch_view by).read };
 
     #[tactic(auto, unfolding(crate::specs::Views::watch_view))]
-    fn take_by<'a>(&self, alloc: Global, by: &WatchDef, bytes: &'a [u8]) -> Result<(WatchView, &'a [u8]), Fault> {
+    fn take_by<'a>(
+        &self,
+        alloc: Global,
+        by: &WatchDef,
+        bytes: &'a [u8],
+    ) -> Result<(WatchView, &'a [u8]), Fault> {
         let (path, rest) = take_path(alloc, by, bytes)?;
         let (place, rest) = take_place(alloc, rest)?;
         Ok((WatchView { path, place }, rest))
@@ -61,7 +68,11 @@ impl ItemsBy<WatchDef, WatchView> for WatchViews {
 }
 
 #[tactic(auto, unfolding(crate::specs::Views::watches_at))]
-fn take_watches<'a>(alloc: Global, by: &[WatchDef], bytes: &'a [u8]) -> Result<(Seq<WatchView>, &'a [u8]), Fault>
+fn take_watches<'a>(
+    alloc: Global,
+    by: &[WatchDef],
+    bytes: &'a [u8],
+) -> Result<(Seq<WatchView>, &'a [u8]), Fault>
     ensures { Gives (λ x. (x.0, x.1.now)) result (watches_at by.now bytes.now) }
 {
     take_each(&WatchViews, alloc, by, bytes)
@@ -131,8 +142,16 @@ impl ItemsBy<JailDef, JailView> for JailViews {
     ghost reading = { λ of by. (jail_view of.version of.at by).read };
 
     #[tactic(auto, unfolding(crate::specs::Views::jail_view))]
-    fn take_by<'a>(&self, alloc: Global, by: &JailDef, bytes: &'a [u8]) -> Result<(JailView, &'a [u8]), Fault> {
-        let by_time = OpenFailures { version: self.version, at: self.at };
+    fn take_by<'a>(
+        &self,
+        alloc: Global,
+        by: &JailDef,
+        bytes: &'a [u8],
+    ) -> Result<(JailView, &'a [u8]), Fault> {
+        let by_time = OpenFailures {
+            version: self.version,
+            at: self.at,
+        };
         let (name, rest) = take_name_of(alloc, by, bytes)?;
         let (idle, rest) = take_flag(rest)?;
         let (total_failed, rest) = take_number(rest)?;
@@ -161,7 +180,13 @@ impl ItemsBy<JailDef, JailView> for JailViews {
 
 /// The jails at the front of the bytes, one for each definition.
 #[tactic(auto, unfolding(crate::specs::Views::jails_at))]
-pub(crate) fn take_jails<'a>(version: Version, alloc: Global, at: u64, by: &[JailDef], bytes: &'a [u8]) -> Result<(Seq<JailView>, &'a [u8]), Fault>
+pub(crate) fn take_jails<'a>(
+    version: Version,
+    alloc: Global,
+    at: u64,
+    by: &[JailDef],
+    bytes: &'a [u8],
+) -> Result<(Seq<JailView>, &'a [u8]), Fault>
     ensures { Gives (λ x. (x.0, x.1.now)) result (jails_at version at by.now bytes.now) }
 {
     take_each(&JailViews { version, at }, alloc, by, bytes)

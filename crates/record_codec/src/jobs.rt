@@ -90,7 +90,10 @@ fn rest_len(item: &Job) -> u64
     ensures { result ≡ capped (text.spell item.now.text ++ (span.spell item.now.timeout ++ (tries.spell item.now.tries ++ moment.spell item.now.due))) }
 {
     let tries = joined_len(byte_len(), number_len(item.due));
-    joined_len(text_len(&item.text), joined_len(number_len(item.timeout), tries))
+    joined_len(
+        text_len(&item.text),
+        joined_len(number_len(item.timeout), tries),
+    )
 }
 
 /// Jobs by rising ids.
@@ -113,7 +116,10 @@ impl Spell<Job> for Jobs {
     fn len(item: &Job) -> u64 {
         let from_host = joined_len(host_len(item.addr), rest_len(item));
         let from_kind = joined_len(byte_len(), from_host);
-        joined_len(number_len(item.id), joined_len(lane_len(&item.lane), from_kind))
+        joined_len(
+            number_len(item.id),
+            joined_len(lane_len(&item.lane), from_kind),
+        )
     }
 }
 

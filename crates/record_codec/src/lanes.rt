@@ -27,7 +27,10 @@ pub(crate) fn put_lane(lane: &LaneId, out: &mut Bytes) -> Result<(), NoMemory>
 pub(crate) fn lane_len(lane: &LaneId) -> u64
     ensures { result ≡ capped (lane_id.spell lane.now) }
 {
-    joined_len(name_len(&lane.jail), joined_len(text_len(&lane.action), byte_len()))
+    joined_len(
+        name_len(&lane.jail),
+        joined_len(text_len(&lane.action), byte_len()),
+    )
 }
 
 /// Which lane it is, at the front of the bytes.
@@ -38,7 +41,14 @@ pub(crate) fn take_lane(alloc: Global, bytes: &[u8]) -> Result<(LaneId, &[u8]), 
     let (jail, rest) = take_name(alloc, bytes)?;
     let (action, rest) = take_text(alloc, rest)?;
     let (family, rest) = take_family(rest)?;
-    Ok((LaneId { jail, action, family }, rest))
+    Ok((
+        LaneId {
+            jail,
+            action,
+            family,
+        },
+        rest,
+    ))
 }
 
 /// Lanes that are up, each of which stands once.
@@ -63,7 +73,8 @@ impl Spell<UpLane> for UpLanes {
 fn same_up(one: &UpLane, other: &UpLane) -> bool
     ensures { result ≡ same_up one.now other.now }
 {
-    other.jail == one.jail && (other.action.name == one.action.name && other.action.family.same(one.action.family))
+    other.jail == one.jail
+        && (other.action.name == one.action.name && other.action.family.same(one.action.family))
 }
 
 fn has_lane(before: &[UpLane], item: &UpLane) -> bool

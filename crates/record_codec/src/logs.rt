@@ -95,7 +95,10 @@ pub(crate) fn place_len(at: &Place) -> u64
 {
     match at {
         Place::Tail => byte_len(),
-        Place::Pos { position, head } => tagged_len(joined_len(number_len(*position), bytes_len(head.as_slice()))),
+        Place::Pos { position, head } => tagged_len(joined_len(
+            number_len(*position),
+            bytes_len(head.as_slice()),
+        )),
     }
 }
 

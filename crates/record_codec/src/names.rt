@@ -7,7 +7,9 @@ ghost use Rattle.record_fields.specs.Lists.{any};
 ghost use Rattle.record_codec.specs.Definitions.{is_name, name, pattern};
 
 use f2b_base::{Bytes, NoMemory, Text};
-use record_fields::{Fault, Items, Spell, byte_len, put_text, tagged_len, take_short, take_text, text_len};
+use record_fields::{
+    Fault, Items, Spell, byte_len, put_text, tagged_len, take_short, take_text, text_len,
+};
 use std::alloc::Global;
 
 /// The most bytes of a pattern.
@@ -16,7 +18,8 @@ const PATTERN_BYTES: u64 = 8192;
 fn is_name_byte(b: u8) -> bool
     ensures { result ≡ is_name_byte b }
 {
-    (65 <= b && b <= 90) || ((97 <= b && b <= 122) || ((48 <= b && b <= 57) || (b == 95 || (b == 46 || b == 45))))
+    (65 <= b && b <= 90)
+        || ((97 <= b && b <= 122) || ((48 <= b && b <= 57) || (b == 95 || (b == 46 || b == 45))))
 }
 
 fn are_name_bytes(bytes: &[u8]) -> bool

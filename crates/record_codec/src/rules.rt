@@ -8,8 +8,8 @@ ghost use Rattle.record_codec.specs.Definitions.{is_base, base, factor, ban_rule
 
 use f2b_base::{BanRule, Bytes, NoMemory};
 use record_fields::{
-    Fault, Items, Spell, joined_len, list_len, number_len, put_flag, put_list,
-    put_number, put_signed, signed_len, tagged_len, take_between, take_flag, take_list, take_signed, take_span,
+    Fault, Items, Spell, joined_len, list_len, number_len, put_flag, put_list, put_number,
+    put_signed, signed_len, tagged_len, take_between, take_flag, take_list, take_signed, take_span,
     take_up_to,
 };
 use std::alloc::Global;

@@ -11,7 +11,9 @@ use std::test::Fail;
 const KINDS: [&[u8]; 15] = [
     &[0],
     &[1, 1, b'a', 0, 0, 0],
-    &[2, 0xff, 0xff, 0xff, 0xff, 0xff, 0xff, 0xff, 0xff, 0xff, 1, 0, 1],
+    &[
+        2, 0xff, 0xff, 0xff, 0xff, 0xff, 0xff, 0xff, 0xff, 0xff, 1, 0, 1,
+    ],
     &[3, 0, 0],
     &[4],
     &[5, 1, b'a', 2, 4, 0xc0, 0, 2, 7, 4, 0xc0, 0, 2, 8],
@@ -73,7 +75,11 @@ fn an_input_that_is_cut_is_bad_at_the_field_that_is_cut(rt: HostRuntime) {
     let alloc = rt.alloc();
     for len in 0..LOOK.len() {
         let place = input_fault(&rt, alloc, &LOOK[..len]);
-        assert_eq!(rt; place, Some(cut_place(&LOOK_STARTS, len as u64)), "cut at {len}");
+        assert_eq!(rt;
+            place,
+            Some(cut_place(&LOOK_STARTS, len as u64)),
+            "cut at {len}"
+        );
     }
 }
 
@@ -95,7 +101,11 @@ fn an_input_that_is_broken_is_bad_at_the_first_field_at_fault(rt: HostRuntime) -
     let alloc = rt.alloc();
     for (what, place) in BROKEN {
         let bytes = input_of(alloc, what)?;
-        assert_eq!(rt; input_fault(&rt, alloc, bytes.as_slice()), Some(place), "{what:?}");
+        assert_eq!(rt;
+            input_fault(&rt, alloc, bytes.as_slice()),
+            Some(place),
+            "{what:?}"
+        );
     }
     Ok(())
 }

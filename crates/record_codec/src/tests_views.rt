@@ -41,7 +41,11 @@ fn a_view_that_is_cut_is_bad_at_the_field_that_is_cut(rt: HostRuntime) {
     let alloc = rt.alloc();
     for len in 0..VIEW.len() {
         let place = view_fault(&rt, alloc, &VIEW[..len]);
-        assert_eq!(rt; place, Some(cut_place(&VIEW_STARTS, len as u64)), "cut at {len}");
+        assert_eq!(rt;
+            place,
+            Some(cut_place(&VIEW_STARTS, len as u64)),
+            "cut at {len}"
+        );
     }
 }
 
@@ -83,26 +87,74 @@ fn spliced(alloc: Global, bytes: &[u8], at: usize, gone: usize, new: &[u8]) -> R
 // What is broken, as the place and the number of the bytes that go, those that come, and the place that is bad then.
 const BROKEN: [(&str, usize, usize, &[u8], u64); 26] = [
     ("a number that is too long", 0, 2, &[0xe8, 0x87, 0], 0),
-    ("a moment past the last", 0, 2, &[0x80, 0x80, 0x80, 0x80, 0x80, 0x20], 0),
-    ("2^60 jails", 5, 1, &[0x80, 0x80, 0x80, 0x80, 0x80, 0x80, 0x80, 0x80, 0x10], 5),
+    (
+        "a moment past the last",
+        0,
+        2,
+        &[0x80, 0x80, 0x80, 0x80, 0x80, 0x20],
+        0,
+    ),
+    (
+        "2^60 jails",
+        5,
+        1,
+        &[0x80, 0x80, 0x80, 0x80, 0x80, 0x80, 0x80, 0x80, 0x10],
+        5,
+    ),
     ("a name that is no name", 7, 1, b"/", 6),
-    ("2^60 logs", 11, 1, &[0x80, 0x80, 0x80, 0x80, 0x80, 0x80, 0x80, 0x80, 0x10], 11),
+    (
+        "2^60 logs",
+        11,
+        1,
+        &[0x80, 0x80, 0x80, 0x80, 0x80, 0x80, 0x80, 0x80, 0x10],
+        11,
+    ),
     ("a zone of seconds", 16, 2, &[0x9d, 0x38], 16),
     ("no form of dates", 18, 1, &[7], 18),
-    ("2^60 masks", 39, 1, &[0x80, 0x80, 0x80, 0x80, 0x80, 0x80, 0x80, 0x80, 0x10], 54),
+    (
+        "2^60 masks",
+        39,
+        1,
+        &[0x80, 0x80, 0x80, 0x80, 0x80, 0x80, 0x80, 0x80, 0x10],
+        54,
+    ),
     ("a mask with bits after it", 45, 1, &[7], 45),
     ("no findtime", 46, 2, &[0], 46),
     ("a span of 0", 50, 1, &[0], 50),
     ("fewer jails than definitions", 135, 1, &[0], 135),
     ("the name of another jail", 137, 1, b"t", 136),
     ("no flag", 141, 1, &[2], 141),
-    ("2^60 failures", 156, 1, &[0x80, 0x80, 0x80, 0x80, 0x80, 0x80, 0x80, 0x80, 0x10], 196),
-    ("a mapped address", 166, 17, &[6, 0, 0, 0, 0, 0, 0, 0, 0, 0, 0, 0xff, 0xff, 192, 0, 2, 7], 166),
+    (
+        "2^60 failures",
+        156,
+        1,
+        &[0x80, 0x80, 0x80, 0x80, 0x80, 0x80, 0x80, 0x80, 0x10],
+        196,
+    ),
+    (
+        "a mapped address",
+        166,
+        17,
+        &[6, 0, 0, 0, 0, 0, 0, 0, 0, 0, 0, 0xff, 0xff, 192, 0, 2, 7],
+        166,
+    ),
     ("a failure that is to come", 183, 2, &[0xe9, 7], 166),
     ("a line that is not UTF-8", 186, 2, &[0xc3, 0x28], 185),
     ("a serial that does not rise", 202, 1, &[1], 202),
-    ("a second ban of an address", 203, 17, &[4, 0xc0, 0, 2, 7], 202),
-    ("a past ban that ended before the last", 240, 2, &[0xbb, 5], 235),
+    (
+        "a second ban of an address",
+        203,
+        17,
+        &[4, 0xc0, 0, 2, 7],
+        202,
+    ),
+    (
+        "a past ban that ended before the last",
+        240,
+        2,
+        &[0xbb, 5],
+        235,
+    ),
     ("a head that is too short", 248, 3, &[1, 0x61], 248),
     ("no kind of job", 263, 1, &[5], 263),
     ("a third failed try", 285, 1, &[3], 285),
@@ -115,7 +167,11 @@ fn a_view_that_is_broken_is_bad_at_the_first_field_at_fault(rt: HostRuntime) -> 
     let alloc = rt.alloc();
     for (what, at, gone, new, place) in BROKEN {
         let bytes = spliced(alloc, &VIEW, at, gone, new)?;
-        assert_eq!(rt; view_fault(&rt, alloc, bytes.as_slice()), Some(place), "{what}");
+        assert_eq!(rt;
+            view_fault(&rt, alloc, bytes.as_slice()),
+            Some(place),
+            "{what}"
+        );
     }
     Ok(())
 }

@@ -14,7 +14,7 @@ use crate::jails::{JailViews, take_jails};
 use crate::jobs::Jobs;
 use crate::lanes::UpLanes;
 use crate::version::Version;
-use f2b_base::{Bytes, Job, JailView, NoMemory, UpLane, View};
+use f2b_base::{Bytes, JailView, Job, NoMemory, UpLane, View};
 use record_fields::{
     Fault, joined_len, list_len, number_len, put_flag, put_list, put_number, tagged_len, take_flag,
     take_list, take_moment, take_number,
@@ -110,14 +110,21 @@ fn tables_len(it: &View) -> u64
 pub(crate) fn whole_len(it: &View) -> u64
     ensures { result ≡ capped ((view Two).spell it.now) }
 {
-    let up = joined_len(list_len::<UpLane, UpLanes>(it.up.as_slice()), tables_len(it));
+    let up = joined_len(
+        list_len::<UpLane, UpLanes>(it.up.as_slice()),
+        tables_len(it),
+    );
     let stopping = tagged_len(up);
     joined_len(number_len(it.at), joined_len(defs_len(&it.defs), stopping))
 }
 
 /// The view at the front of the bytes.
 #[tactic(auto, unfolding(crate::specs::Views::view))]
-pub(crate) fn take_view(version: Version, alloc: Global, bytes: &[u8]) -> Result<(View, &[u8]), Fault>
+pub(crate) fn take_view(
+    version: Version,
+    alloc: Global,
+    bytes: &[u8],
+) -> Result<(View, &[u8]), Fault>
     ensures { Gives (λ x. (x.0, x.1.now)) result ((view version).read bytes.now) }
 {
     let (at, rest) = take_moment(bytes)?;
