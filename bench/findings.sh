@@ -12,6 +12,7 @@ ghost use Rattle.filter_regex.specs.Rules.{IsSupported};
 use f2b_base::{BanRule, DateSpec, JailDef, NoMemory, Seq, Text};
 use f2b_world::{Made, Outside, Patterns, build_pattern};
 use filter_regex::{Filter, Finding, Searcher};
+use ignore_set::IgnoreSet;
 use std::alloc::Global;
 use std::time::CpuClock;
 use std::{env, fs, io};
@@ -104,10 +105,10 @@ fn jail(alloc: Global, anchored: bool) -> Result<JailDef, NoMemory>
 }
 
 /// How many lines are failures.
-fn failures(searcher: &mut Searcher<'_>, text: &str) -> u64 {
+fn failures(searcher: &mut Searcher<'_>, ignore: &IgnoreSet, text: &str) -> u64 {
     let mut count: u64 = 0;
     for line in text.lines() {
-        if let Ok(Finding::Failure { .. }) = searcher.found(line, NOW, FINDTIME) {
+        if let Ok(Finding::Failure { .. }) = searcher.found(ignore, line, NOW, FINDTIME) {
             count = count.saturating_add(1);
         }
     }
@@ -126,8 +127,11 @@ fn measure(rt: &(impl Print + AllocGlobal + CpuClock), text: &str, anchored: boo
     let Ok(mut searcher) = filter.searcher(alloc) else {
         return println!(rt; "no memory");
     };
+    let Ok(ignore) = IgnoreSet::new(alloc, &jail.ignore) else {
+        return println!(rt; "no memory");
+    };
     let begin = rt.thread_cpu_time()?;
-    let count = failures(&mut searcher, text);
+    let count = failures(&mut searcher, &ignore, text);
     let end = rt.thread_cpu_time()?;
     println!(rt; "{count} {}", end.saturating_sub(begin).as_micros())
 }

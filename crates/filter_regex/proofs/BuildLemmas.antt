@@ -8,8 +8,7 @@ use Rattle.filter_regex.specs.Rules.{rules_of, patterns, date_places, pref_place
 use Rattle.filter_regex.specs.Builds.{MakesAll}
 use Rattle.filter_regex.specs.declared.error.PatternPlace.TheVariants.{Fail, Ignore}
 use Rattle.filter_regex.specs.declared.error.PatternError.{PatternError}
-use Rattle.filter_regex.specs.declared.error.PatternError.TheVariants.{NoMemory}
-use Rattle.filter_regex.proofs.MakesLemmas.{Placed, gave_out, first_failed, second_failed, both_made}
+use Rattle.filter_regex.proofs.MakesLemmas.{Placed, first_failed, second_failed, both_made}
 
 module _ (jail : JailDef) where
   abbrev pub of_dates : List Placed
@@ -58,7 +57,3 @@ module _ (jail : JailDef) where
               both_made a of_dates (of_pref ++ (of_fail ++ of_ignore)) old d new dates any z
               (both_made b of_pref (of_fail ++ of_ignore) d p new pref any any
               (both_made c of_fail of_ignore p f new fails i any ignores))
-
-          -- memory ran out after all
-          pub all_lost : (Z : Type 0) → MakesAll {A = Z} (patterns (rules_of jail)) (Err NoMemory) old new
-          all_lost Z = let any : ℕ = 0 in gave_out Z any (patterns (rules_of jail)) old new (all_made any)

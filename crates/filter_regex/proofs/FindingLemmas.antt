@@ -24,28 +24,28 @@ is_test answer masks addr both =
     bools answer (is_ignored masks addr) (λ yes. list_any-from_Any (λ mask. holds mask addr) masks (both.0 yes))
     (λ yes. both.1 (Any-from_list_any (λ mask. holds mask addr) masks yes))
 
-module _ (rules : Rules) (now findtime : ℕ) (line rest : List ℕ) (date : Option Found) (is : date ≡ date_in rules.dates now rules.zone line)
+module _ (rules : Rules) (masks : List Cidr) (now findtime : ℕ) (line rest : List ℕ) (date : Option Found) (is : date ≡ date_in rules.dates now rules.zone line)
     (rest_is : rest ≡ without line date) where
-  pub ignored : (hit : Hit) → Some hit ≡ first_match 1 rules.ignore_lines rest → Ignored hit.number ≡ finding rules now findtime line
+  pub ignored : (hit : Hit) → Some hit ≡ first_match 1 rules.ignore_lines rest → Ignored hit.number ≡ finding rules masks now findtime line
   unfolding finding
   ignored hit found = rw (← is, ← rest_is, ← found) refl
 
   module _ (passes : None ≡ first_match 1 rules.ignore_lines rest) where
-    pub no_date : None ≡ moment_of rules.undated now date → NoDate ≡ finding rules now findtime line
+    pub no_date : None ≡ moment_of rules.undated now date → NoDate ≡ finding rules masks now findtime line
     unfolding finding
     no_date none = rw (← is, ← rest_is, ← passes, ← none) refl
 
     module _ (moment : ℤ) (moment_is : Some moment ≡ moment_of rules.undated now date) where
-      pub no_content : None ≡ content rules.pref rest → Missed ≡ finding rules now findtime line
+      pub no_content : None ≡ content rules.pref rest → Missed ≡ finding rules masks now findtime line
       unfolding finding
       no_content none = rw (← is, ← rest_is, ← passes, ← moment_is, ← none) refl
 
       module _ (text : List ℕ) (text_is : Some text ≡ content rules.pref rest) where
-        pub missed : None ≡ first_match 1 rules.fail text → Missed ≡ finding rules now findtime line
+        pub missed : None ≡ first_match 1 rules.fail text → Missed ≡ finding rules masks now findtime line
         unfolding finding
         missed none = rw (← is, ← rest_is, ← passes, ← moment_is, ← text_is, ← none) refl
 
         pub failed : (hit : Hit) → Some hit ≡ first_match 1 rules.fail text →
-            failure rules.ignore now findtime moment hit.number (host_of (part text hit.spans.ip4) (part text hit.spans.ip6)) ≡ finding rules now findtime line
+            failure masks now findtime moment hit.number (host_of (part text hit.spans.ip4) (part text hit.spans.ip6)) ≡ finding rules masks now findtime line
         unfolding finding
         failed hit found = rw (← is, ← rest_is, ← passes, ← moment_is, ← text_is, ← found) refl

@@ -76,23 +76,23 @@ matched masks now findtime moment text (Some h) =
     failure masks now findtime moment h.number (host_of (part text h.spans.ip4) (part text h.spans.ip6))
 
 -- the patterns of failures are tried on what is looked at further
-abbrev pub looked_at : Rules → ℕ → ℕ → ℤ → Option (List ℕ) → Finding
-looked_at rules now findtime moment None = Missed
-looked_at rules now findtime moment (Some text) = matched rules.ignore now findtime moment text (first_match 1 rules.fail text)
+abbrev pub looked_at : Rules → List Cidr → ℕ → ℕ → ℤ → Option (List ℕ) → Finding
+looked_at rules masks now findtime moment None = Missed
+looked_at rules masks now findtime moment (Some text) = matched masks now findtime moment text (first_match 1 rules.fail text)
 
 -- what a line without its date says, by its date's moment
-abbrev pub dated : Rules → ℕ → ℕ → List ℕ → Option ℤ → Finding
-dated rules now findtime rest None = NoDate
-dated rules now findtime rest (Some moment) = looked_at rules now findtime moment (content rules.pref rest)
+abbrev pub dated : Rules → List Cidr → ℕ → ℕ → List ℕ → Option ℤ → Finding
+dated rules masks now findtime rest None = NoDate
+dated rules masks now findtime rest (Some moment) = looked_at rules masks now findtime moment (content rules.pref rest)
 
 -- a pattern of ignored lines that matches comes before all else
 abbrev pub unless_ignored : Option Hit → Finding → Finding
 unless_ignored (Some h) otherwise = Ignored h.number
 unless_ignored None otherwise = otherwise
 
--- what a line says, now
-unfoldable pub finding : Rules → ℕ → ℕ → List ℕ → Finding
-finding rules now findtime line =
+-- what a line says, now, where the addresses in these masks are never banned
+unfoldable pub finding : Rules → List Cidr → ℕ → ℕ → List ℕ → Finding
+finding rules masks now findtime line =
     let date = date_in rules.dates now rules.zone line in
     let rest = without line date in
-    unless_ignored (first_match 1 rules.ignore_lines rest) (dated rules now findtime rest (moment_of rules.undated now date))
+    unless_ignored (first_match 1 rules.ignore_lines rest) (dated rules masks now findtime rest (moment_of rules.undated now date))

@@ -1,6 +1,5 @@
--- What a filter goes by: how the date of a line is found, the texts of its patterns, and the addresses that are left out.
+-- What a filter goes by: how the date of a line is found, and the texts of its patterns.
 use Rattle.std.specs.Prelude.{ℕ, ◌+◌, ◌<◌, ◌^◌, ℤ, pos, neg_ℤ, int_lt, ◌&&◌, IsTrue, Bool, true, false, List, [], ◌∷◌, ◌++◌, Option, Some, None, option_map, length, map}
-use Rattle.f2b_base.specs.declared.addr.Cidr.{Cidr}
 use Rattle.f2b_base.specs.declared.jail.JailDef.{JailDef}
 use Rattle.f2b_base.specs.declared.jail.DateSpec.{DateSpec}
 use Rattle.f2b_base.specs.declared.jail.DateSpec.TheVariants.{NoDate}
@@ -21,8 +20,6 @@ pub record Rules : Type 0 where
   pub fail : List (List ℕ)
   -- the patterns of lines that are ignored
   pub ignore_lines : List (List ℕ)
-  -- the addresses that are never banned
-  pub ignore : List Cidr
 
 abbrev pub is_undated : DateSpec → Bool
 is_undated NoDate = true
@@ -37,7 +34,6 @@ rules_of jail = record {
   pref = option_map expanded jail.pref;
   fail = map expanded jail.fail;
   ignore_lines = map expanded jail.ignore_lines;
-  ignore = jail.ignore;
 }
 
 -- A jail that a filter is built for: a date pattern of its own is one, its zone is less than a day away from UTC, and its patterns

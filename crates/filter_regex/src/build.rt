@@ -1,5 +1,5 @@
 //! Filters, and how they are built.
-ghost use Rattle.std.specs.Prelude.{◌≡◌, IfOk, OnOk, OnErr};
+ghost use Rattle.std.specs.Prelude.{◌≡◌, IfOk};
 ghost use Rattle.date_detect.specs.Forms.{rule_of, texts, HasDatePattern};
 ghost use Rattle.filter_regex.specs.Rules.{rules_of, date_places, is_undated, IsSupported};
 ghost use Rattle.filter_regex.specs.Builds.{Builds, MakesAll, refusal};
@@ -7,13 +7,12 @@ ghost use Rattle.filter_regex.specs.Builds.{Builds, MakesAll, refusal};
 use crate::error::{BuildKind, PatternError, PatternPlace};
 use crate::make::{Role, made_list, made_pref};
 use date_detect::{BuildError, Dates};
-use f2b_base::{Cidr, DateSpec, JailDef, NoMemory, Seq};
+use f2b_base::{DateSpec, JailDef};
 use f2b_world::{Pattern, Patterns};
-use ignore_set::IgnoreSet;
 use std::alloc::Global;
 use std::marker::Model;
 
-/// The patterns of a jail and the addresses that it never bans, which contracts see as rules.
+/// The patterns of a jail, which contracts see as rules.
 #[derive(Debug, Drop)]
 pub struct Filter {
     pub(crate) dates: Dates,
@@ -24,7 +23,6 @@ pub struct Filter {
     pub(crate) pref: Option<Pattern>,
     pub(crate) fail: Vec<Pattern>,
     pub(crate) ignore_lines: Vec<Pattern>,
-    pub(crate) ignore: IgnoreSet,
 }
 
 impl Model for Filter {
@@ -40,7 +38,6 @@ impl Model for Filter {
       pref = f.pref;
       fail = f.fail.items;
       ignore_lines = f.ignore_lines.items;
-      ignore = f.ignore;
     } };
 
     ghost invariant = { λ f. (length f.fail.items < 2 ^ 32) × (length f.ignore_lines.items < 2 ^ 32) };
@@ -100,7 +97,6 @@ impl Filter {
         let pref = made_pref(alloc, patterns, &jail.pref)?;
         let fail = made_list(alloc, patterns, Role::Fail, jail.fail.as_slice())?;
         let ignore_lines = made_list(alloc, patterns, Role::Ignore, jail.ignore_lines.as_slice())?;
-        let ignore = IgnoreSet::new(alloc, &jail.ignore)?;
         Ok(Filter {
             dates,
             undated: is_undated(&jail.date),
@@ -108,16 +104,6 @@ impl Filter {
             pref,
             fail,
             ignore_lines,
-            ignore,
         })
-    }
-
-    /// Leaves out these addresses from now on, in place of those before. An error changes nothing.
-    pub fn set_ignore(&mut self, alloc: Global, list: &Seq<Cidr>) -> Result<(), NoMemory>
-        ensures ok { OnOk result (self.new ≡ record self.old { ignore = list.now }) }
-        ensures err { OnErr result (self.new ≡ self.old) }
-    {
-        self.ignore = IgnoreSet::new(alloc, list)?;
-        Ok(())
     }
 }

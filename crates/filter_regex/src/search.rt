@@ -22,7 +22,6 @@ pub struct Searcher<'f> {
     pref: Option<Matcher<'f>>,
     fail: Vec<Matcher<'f>>,
     ignore_lines: Vec<Matcher<'f>>,
-    ignore: &'f IgnoreSet,
     /// Room for a line without its date.
     room: String,
 }
@@ -40,7 +39,6 @@ impl<'f> Model for Searcher<'f> {
       pref = s.pref;
       fail = s.fail.items;
       ignore_lines = s.ignore_lines.items;
-      ignore = s.ignore.now;
     } };
 
     ghost invariant = { λ s. (length s.fail.items < 2 ^ 32) × (length s.ignore_lines.items < 2 ^ 32) };
@@ -73,7 +71,6 @@ impl Filter {
             pref,
             fail: matchers(alloc, self.fail.as_slice())?,
             ignore_lines: matchers(alloc, self.ignore_lines.as_slice())?,
-            ignore: &self.ignore,
             room: String::new(alloc),
         })
     }
@@ -83,23 +80,31 @@ impl Filter {
     pub fn found(
         &self,
         alloc: Global,
+        ignore: &IgnoreSet,
         line: &str,
         now: u64,
         findtime: u64,
     ) -> Result<Finding, NoMemory>
         requires { now < 2 ^ 40 }
-        ensures { IfOk result (λ found. found ≡ finding self.now now findtime line.now) }
+        ensures { IfOk result (λ found. found ≡ finding self.now ignore.now now findtime line.now) }
     {
         let mut searcher = self.searcher(alloc)?;
-        searcher.found(line, now, findtime)
+        searcher.found(ignore, line, now, findtime)
     }
 }
 
 impl<'f> Searcher<'f> {
-    /// What a line says at `now`, in seconds since 1970, where failures count for `findtime` seconds.
-    pub fn found(&mut self, line: &str, now: u64, findtime: u64) -> Result<Finding, NoMemory>
+    /// What a line says at `now`, in seconds since 1970, where failures count for `findtime` seconds. The addresses in the set
+    /// are never banned.
+    pub fn found(
+        &mut self,
+        ignore: &IgnoreSet,
+        line: &str,
+        now: u64,
+        findtime: u64,
+    ) -> Result<Finding, NoMemory>
         requires { now < 2 ^ 40 }
-        ensures found { IfOk result (λ found. found ≡ finding self.old now findtime line.now) }
+        ensures found { IfOk result (λ found. found ≡ finding self.old ignore.now now findtime line.now) }
         ensures same { self.new ≡ self.old }
     {
         let date = self.dates.found(line, now, self.zone);
@@ -117,6 +122,6 @@ impl<'f> Searcher<'f> {
             return Ok(Finding::Missed);
         };
         let host = host_in(text, hit.spans);
-        Ok(failure(self.ignore, now, findtime, moment, hit.number, host))
+        Ok(failure(ignore, now, findtime, moment, hit.number, host))
     }
 }

@@ -13,6 +13,7 @@ use super::*;
 use date_detect::is_date_pattern;
 use f2b_base::{Addr, BanRule, Cidr, DateSpec, JailDef, NoMemory, Seq, Text};
 use f2b_world::{Made, Outside, Patterns, build_pattern};
+use ignore_set::IgnoreSet;
 use std::alloc::Global;
 use std::test::*;
 
@@ -61,7 +62,6 @@ struct Parts<'p> {
     pref: &'p str,
     fail: &'p str,
     ignore_lines: &'p str,
-    ignore: &'p str,
 }
 
 /// Nothing but dates.
@@ -70,7 +70,6 @@ const NONE: Parts<'static> = Parts {
     pref: "",
     fail: "",
     ignore_lines: "",
-    ignore: "",
 };
 
 fn texts(alloc: Global, list: &str) -> Result<Seq<Text>, NoMemory> {
@@ -81,12 +80,13 @@ fn texts(alloc: Global, list: &str) -> Result<Seq<Text>, NoMemory> {
     Ok(texts)
 }
 
-fn masks(alloc: Global, list: &str) -> Result<Seq<Cidr>, Fail> {
+/// The addresses that are never banned, by masks in lines.
+fn ignoring(alloc: Global, list: &str) -> Result<IgnoreSet, Fail> {
     let mut masks = Seq::new(alloc);
     for text in list.lines() {
         masks.push(Cidr::read(text.as_bytes()).ok_or("no mask")?)?;
     }
-    Ok(masks)
+    Ok(IgnoreSet::new(alloc, &masks)?)
 }
 
 /// The text of a date pattern.
@@ -138,7 +138,7 @@ fn jail(alloc: Global, parts: Parts<'_>) -> Result<JailDef, Fail>
         pref,
         fail,
         ignore_lines,
-        ignore: masks(alloc, parts.ignore)?,
+        ignore: Seq::new(alloc),
         findtime: 600,
         maxretry: 3,
         maxmatches: 10,

@@ -1,6 +1,7 @@
 -- The logs that are followed, and what is found in what a look brings.
 use Rattle.std.specs.Prelude.{ℕ, ◌+◌, ◌==◌, not, ◌&&◌, Bool, true, false, if◌then◌else◌, List, [], ◌∷◌, map, position, find, drop, bytes_eq, Option, Some, None, option_map}
 use Rattle.std.specs.List.{flat_map, list_any}
+use Rattle.f2b_base.specs.declared.addr.Cidr.{Cidr}
 use Rattle.f2b_base.specs.declared.ban.Failure.{Failure}
 use Rattle.f2b_base.specs.declared.input.What.{What}
 use Rattle.f2b_base.specs.declared.input.What.TheVariants.{Read}
@@ -65,12 +66,12 @@ failure_in (Failed addr time index) = record { addr = addr; time = time; line = 
 failure_in _ = []
 
 -- a line that is too long is missed
-abbrev pub failures_of : Rules → ℕ → ℕ → Line → List Failure
-failures_of rules now findtime (Whole text) = failure_in (finding rules now findtime text)
-failures_of rules now findtime _ = []
+abbrev pub failures_of : Rules → List Cidr → ℕ → ℕ → Line → List Failure
+failures_of rules masks now findtime (Whole text) = failure_in (finding rules masks now findtime text)
+failures_of rules masks now findtime _ = []
 
-abbrev pub failures_in : Rules → ℕ → ℕ → List Line → List Failure
-failures_in rules now findtime lines = flat_map (failures_of rules now findtime) lines
+abbrev pub failures_in : Rules → List Cidr → ℕ → ℕ → List Line → List Failure
+failures_in rules masks now findtime lines = flat_map (failures_of rules masks now findtime) lines
 
 abbrev pub lines_in : Step → List Line
 lines_in (Lines lines) = lines
@@ -79,7 +80,7 @@ lines_in _ = []
 -- by the definition that the jail has now
 abbrev pub found_by : Option Jail → ℕ → Step → List Failure
 found_by None now step = []
-found_by (Some j) now step = failures_in (rules_of j.definition) now j.definition.findtime (lines_in step)
+found_by (Some j) now step = failures_in (rules_of j.definition) j.definition.ignore now j.definition.findtime (lines_in step)
 
 -- ---- what is taken of a look
 

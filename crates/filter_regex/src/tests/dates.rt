@@ -18,7 +18,8 @@ fn found(alloc: Global, dated: Dated<'_>, line: &str) -> Result<Finding, Fail> {
         ..NONE
     };
     let filter = filter(alloc, parts)?;
-    Ok(filter.found(alloc, line, NOW, 7200)?)
+    let none = ignoring(alloc, "")?;
+    Ok(filter.found(alloc, &none, line, NOW, 7200)?)
 }
 
 #[test]

@@ -10,7 +10,8 @@ fn found(alloc: Global, pattern: &str, line: &str) -> Result<Finding, Fail> {
             ..NONE
         },
     )?;
-    Ok(filter.found(alloc, line, 1_700_000_000, 600)?)
+    let none = ignoring(alloc, "")?;
+    Ok(filter.found(alloc, &none, line, 1_700_000_000, 600)?)
 }
 
 /// An address, `name` for a name alone, `nothing` for no match.

@@ -10,13 +10,13 @@ const SSHD: Parts<'static> = Parts {
 ^Invalid user <F-USER>.*</F-USER> from <HOST>(?: port [0-9]+)?$
 ^Connection closed by authenticating user <F-USER>.*</F-USER> <HOST> port [0-9]+ \[preauth\]$",
     ignore_lines: "^ backup \nfor probe from",
-    ignore: "10.0.0.0/8\n::1",
 };
 
 #[test]
 fn lines_of_sshd(rt: HostRuntime) -> Result<(), Fail> {
     let filter = filter(rt.alloc(), SSHD)?;
     let mut searcher = filter.searcher(rt.alloc())?;
+    let ignore = ignoring(rt.alloc(), "10.0.0.0/8\n::1")?;
     let at = 1_700_000_100;
     let rows = [
         (
@@ -69,7 +69,7 @@ fn lines_of_sshd(rt: HostRuntime) -> Result<(), Fail> {
         ),
     ];
     for (line, finding) in rows {
-        assert_eq!(rt; searcher.found(line, NOW, 600)?, finding, "{line}");
+        assert_eq!(rt; searcher.found(&ignore, line, NOW, 600)?, finding, "{line}");
     }
     Ok(())
 }
@@ -84,6 +84,7 @@ fn times(rt: HostRuntime) -> Result<(), Fail> {
         },
     )?;
     let mut searcher = filter.searcher(rt.alloc())?;
+    let none = ignoring(rt.alloc(), "")?;
     let line = "1700000100 fail from 192.0.2.7";
     let early = "0000000000 fail from 192.0.2.7";
     let rows = [
@@ -103,7 +104,7 @@ fn times(rt: HostRuntime) -> Result<(), Fail> {
     ];
     for (line, now, findtime, finding) in rows {
         assert_eq!(rt;
-            searcher.found(line, now, findtime)?,
+            searcher.found(&none, line, now, findtime)?,
             finding,
             "{line} at {now}"
         );
@@ -116,10 +117,10 @@ fn ignored_addresses(rt: HostRuntime) -> Result<(), Fail> {
     let parts = Parts {
         dated: Dated::NoDate,
         fail: "from <HOST>$",
-        ignore: "10.0.0.0/8",
         ..NONE
     };
-    let mut filter = filter(rt.alloc(), parts)?;
+    let filter = filter(rt.alloc(), parts)?;
+    let ignore = ignoring(rt.alloc(), "10.0.0.0/8")?;
     let rows = [
         ("from 10.0.0.0", Finding::IgnoredAddr(1)),
         ("from 10.255.255.255", Finding::IgnoredAddr(1)),
@@ -130,15 +131,15 @@ fn ignored_addresses(rt: HostRuntime) -> Result<(), Fail> {
     ];
     for (line, finding) in rows {
         assert_eq!(rt;
-            filter.found(rt.alloc(), line, NOW, 600)?,
+            filter.found(rt.alloc(), &ignore, line, NOW, 600)?,
             finding,
             "{line}"
         );
     }
-    filter.set_ignore(rt.alloc(), &masks(rt.alloc(), "11.0.0.0/8")?)?;
-    let found = filter.found(rt.alloc(), "from 11.0.0.0", NOW, 600)?;
+    let other = ignoring(rt.alloc(), "11.0.0.0/8")?;
+    let found = filter.found(rt.alloc(), &other, "from 11.0.0.0", NOW, 600)?;
     assert_eq!(rt; found, Finding::IgnoredAddr(1));
-    let found = filter.found(rt.alloc(), "from 10.0.0.0", NOW, 600)?;
+    let found = filter.found(rt.alloc(), &other, "from 10.0.0.0", NOW, 600)?;
     assert_eq!(rt; found, failure(Addr::V4(0x0A00_0000), NOW, 1));
     Ok(())
 }
@@ -153,7 +154,8 @@ fn found(alloc: Global, pref: &str, line: &str) -> Result<Finding, Fail> {
             ..NONE
         },
     )?;
-    Ok(filter.found(alloc, line, NOW, 600)?)
+    let none = ignoring(alloc, "")?;
+    Ok(filter.found(alloc, &none, line, NOW, 600)?)
 }
 
 #[test]

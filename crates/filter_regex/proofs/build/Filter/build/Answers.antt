@@ -1,6 +1,5 @@
 use Rattle.std.proofs.Common.{◌≡◌, Err, rules}
-use Rattle.filter_regex.specs.declared.error.PatternError.TheVariants.{NoMemory}
-use Rattle.filter_regex.proofs.BuildLemmas.{dates_failed, pref_failed, fail_failed, ignore_failed, all_made, all_lost}
+use Rattle.filter_regex.proofs.BuildLemmas.{dates_failed, pref_failed, fail_failed, ignore_failed, all_made}
 use Rattle.filter_regex.proofs.build.Filter.build.Goals as goal
 
 pub returns-in_err-dates-clause-calls : goal.returns-in_err-dates-clause-calls
@@ -27,14 +26,6 @@ returns-in_err-ignore_lines-clause-calls g c =
     (ignore_failed c.args.jail.now _ _ _ c.in_ok-dates.ensures.calls _ _ c.in_ok-pref.ensures.calls _ _
     (rw c.as_slice.ensures at c.in_ok-fail.ensures.calls) _ _ _
     (rw c.as_slice-2.ensures at c.in_err-ignore_lines.ensures.calls))
-
-pub returns-in_err-ignore-clause-calls : goal.returns-in_err-ignore-clause-calls
-returns-in_err-ignore-clause-calls g c =
-    let outcome : c.from_residual-in_err-ignore.result ≡ Err NoMemory = search rules in
-    rw outcome
-    (all_lost c.args.jail.now _ _ _ c.in_ok-dates.ensures.calls _ _ c.in_ok-pref.ensures.calls _ _
-    (rw c.as_slice.ensures at c.in_ok-fail.ensures.calls) _ _
-    (rw c.as_slice-2.ensures at c.in_ok-ignore_lines.ensures.calls) _)
 
 pub returns-clause-calls : goal.returns-clause-calls
 returns-clause-calls g c =

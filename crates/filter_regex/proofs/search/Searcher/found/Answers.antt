@@ -14,9 +14,8 @@ returns-in-Some-clause-found c =
       pref = c.self.inside.pref;
       fail = c.self.inside.fail.items;
       ignore_lines = c.self.inside.ignore_lines.items;
-      ignore = c.self.inside.ignore.now;
     } in
-    rw (← c.self.view_is) (ignored all _ _ _ _ _ date c.in_ok-rest.ensures _ c.in-Some.ensures.found)
+    rw (← c.self.view_is) (ignored all _ _ _ _ _ _ date c.in_ok-rest.ensures _ c.in-Some.ensures.found)
 
 pub returns-in_default-moment_of-clause-found : goal.returns-in_default-moment_of-clause-found
 returns-in_default-moment_of-clause-found c =
@@ -29,10 +28,9 @@ returns-in_default-moment_of-clause-found c =
       pref = c.self.inside.pref;
       fail = c.self.inside.fail.items;
       ignore_lines = c.self.inside.ignore_lines.items;
-      ignore = c.self.inside.ignore.now;
     } in
     rw (← c.self.view_is)
-    (no_date all _ _ _ _ _ date c.in_ok-rest.ensures c.in_default.ensures.found c.in_default-moment_of.ensures)
+    (no_date all _ _ _ _ _ _ date c.in_ok-rest.ensures c.in_default.ensures.found c.in_default-moment_of.ensures)
 
 pub returns-in_default-content-clause-found : goal.returns-in_default-content-clause-found
 returns-in_default-content-clause-found c =
@@ -45,10 +43,9 @@ returns-in_default-content-clause-found c =
       pref = c.self.inside.pref;
       fail = c.self.inside.fail.items;
       ignore_lines = c.self.inside.ignore_lines.items;
-      ignore = c.self.inside.ignore.now;
     } in
     rw (← c.self.view_is)
-    (no_content all _ _ _ _ _ date c.in_ok-rest.ensures c.in_default.ensures.found _ c.in-Some-moment_of.ensures
+    (no_content all _ _ _ _ _ _ date c.in_ok-rest.ensures c.in_default.ensures.found _ c.in-Some-moment_of.ensures
     c.in_default-content.ensures.found)
 
 pub returns-in_default-first_match-clause-found : goal.returns-in_default-first_match-clause-found
@@ -62,10 +59,9 @@ returns-in_default-first_match-clause-found c =
       pref = c.self.inside.pref;
       fail = c.self.inside.fail.items;
       ignore_lines = c.self.inside.ignore_lines.items;
-      ignore = c.self.inside.ignore.now;
     } in
     rw (← c.self.view_is)
-    (missed all _ _ _ _ _ date c.in_ok-rest.ensures c.in_default.ensures.found _ c.in-Some-moment_of.ensures _
+    (missed all _ _ _ _ _ _ date c.in_ok-rest.ensures c.in_default.ensures.found _ c.in-Some-moment_of.ensures _
     c.in-Some-content.ensures.found c.in_default-first_match.ensures.found)
 
 pub returns-clause-found : goal.returns-clause-found
@@ -79,9 +75,8 @@ returns-clause-found c =
       pref = c.self.inside.pref;
       fail = c.self.inside.fail.items;
       ignore_lines = c.self.inside.ignore_lines.items;
-      ignore = c.self.inside.ignore.now;
     } in
     let moment : to_z w64 (of_z w64 c.in-Some-moment_of.moment) ≡ c.in-Some-moment_of.moment = search rules in
     rw (c.failure.ensures, moment, c.host_in-host.ensures, ← c.self.view_is)
-    (failed all _ _ _ _ _ date c.in_ok-rest.ensures c.in_default.ensures.found _ c.in-Some-moment_of.ensures _
+    (failed all _ _ _ _ _ _ date c.in_ok-rest.ensures c.in_default.ensures.found _ c.in-Some-moment_of.ensures _
     c.in-Some-content.ensures.found _ c.in-Some-first_match.ensures.found)
