@@ -362,7 +362,7 @@ fn swept(alloc: Global, begin: Core, day: &Day) -> Result<Core, NoMemory> {
     let secs = moment(day.inputs, day.pace).saturating_add(2 * FINDTIME).min(LAST_MOMENT);
     let (mut core, _) = begin.take(&failing(alloc, day, secs, day.inputs, 0)?)?;
     for _ in 0..200 {
-        core.sweep(10_000);
+        let _ = core.sweep(10_000);
     }
     Ok(core)
 }

@@ -212,17 +212,20 @@ impl Core {
     /// Forgets, in all jails together, the failures of up to `most` addresses that have none which still matters by the last failure that
     /// was counted in their jail: called once a turn, it gives the memory of a burst back once a later failure counts. Once nothing is
     /// left to forget it rests for some seconds, so that steady failures do not make each turn look at each address. The state stays as it
-    /// is; what is forgotten is said of the jails (`Jails::sweep`). Takes no memory.
-    pub fn sweep(&mut self, most: u64)
-        ensures { self.new ≡ self.old }
+    /// is. Gives of how many addresses failures were forgotten. Takes no memory.
+    pub fn sweep(&mut self, most: u64) -> u64
+        ensures state { self.new ≡ self.old }
+        ensures most { result ≤ most }
     {
         let now = self.jails.now();
         if now < self.next_sweep {
-            return;
+            return 0;
         }
-        if self.jails.sweep(most) < most {
+        let forgotten = self.jails.sweep(most);
+        if forgotten < most {
             self.next_sweep = now.saturating_add(SWEEP_REST);
         }
+        forgotten
     }
 
     /// Whether the serials of bans or the ids of jobs are used up. Nothing happens any more then. Takes no memory.

@@ -30,7 +30,7 @@ fn at_reading(follow: Follow, reading: Reading) -> Follow
     let mut follow = follow;
     follow.now = follow.now.max(reading.secs.min(LATEST_READING));
     follow.word = reading.word;
-    follow.core.sweep(FORGOTTEN_A_TURN);
+    let _ = follow.core.sweep(FORGOTTEN_A_TURN);
     follow
 }
 
