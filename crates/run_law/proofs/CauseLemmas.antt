@@ -1,10 +1,11 @@
 -- Counts of faults, and causes, over several calls.
-use Rattle.std.proofs.Common.{ℕ, ◌≤◌, inl, inr, arith}
+use Rattle.std.proofs.Common.{ℕ, ◌≡◌, ◌≤◌, inl, inr, refl, sym, ◌∙◌, subst, arith}
+use Rattle.std.proofs.lemmas.Bool.{cases_lt}
 use Rattle.f2b_world.specs.Faults.{OfSink, OfConfiguration, OfPatterns, Rose}
 use Rattle.f2b_world.specs.Told.{Standing, Called}
 use Rattle.f2b_world.specs.declared.event.Event.{Event}
 use Rattle.filter_regex.specs.declared.error.BuildKind.TheVariants.{Syntax, TooBig}
-use Rattle.run_law.specs.Stages.{HasCause, IsSteady}
+use Rattle.run_law.specs.Stages.{HasCause, IsRefusedAs, IsSteady, IsUnsaid}
 use Rattle.run_law.specs.declared.status.Status.{Status}
 use Rattle.run_law.specs.declared.status.Status.TheVariants.{Stopped, TurnsSpent, WorkloadDone, Usage, ConfFault, ConfRefused, DiskFault, NotAJournal, JournalFull, GateFault, SinkFault, ConfTooLarge, PatternRefused, NumbersSpent, NotBuilt, NoMemory}
 
@@ -44,4 +45,76 @@ cause_later old mid new NumbersSpent steady cause = tt
 cause_later old mid new NotBuilt steady cause = tt
 cause_later old mid new NoMemory steady cause = tt
 
-pub ruleset counting = (steady_refl, steady_on, steady_call, cause_later)
+-- what was counted up to a moment was counted up to a later one
+rose_by_then : (a b c : ℕ) → a ≤ b → b ≤ c → Rose a b → Rose a c
+rose_by_then a b c p q (inl lt) = inl (omega arith)
+rose_by_then a b c p q (inr top) = elim (cases_lt a c) [ inl lt ↦ inl lt | inr ge ↦ inr (let e : c ≡ b = omega arith in e ∙ top) ]
+
+pub cause_by_then : (old mid new : Standing) (status : Status) → IsSteady old mid → IsSteady mid new → HasCause old mid status → HasCause old new status
+cause_by_then old mid new Stopped before after cause = cause
+cause_by_then old mid new TurnsSpent before after cause = cause
+cause_by_then old mid new WorkloadDone before after cause = cause
+cause_by_then old mid new Usage before after cause = cause
+cause_by_then old mid new ConfFault before after cause = rose_by_then _ _ _ (before.counts OfConfiguration) (after.counts OfConfiguration) cause
+cause_by_then old mid new (ConfRefused error) before after cause = cause
+cause_by_then old mid new DiskFault before after cause = tt
+cause_by_then old mid new (NotAJournal slot at) before after cause = tt
+cause_by_then old mid new (JournalFull need limit) before after cause = tt
+cause_by_then old mid new GateFault before after cause = tt
+cause_by_then old mid new SinkFault before after cause = rose_by_then _ _ _ (before.counts OfSink) (after.counts OfSink) cause
+cause_by_then old mid new ConfTooLarge before after cause = tt
+cause_by_then old mid new (PatternRefused jail place Syntax) before after cause = cause
+cause_by_then old mid new (PatternRefused jail place TooBig) before after cause = rose_by_then _ _ _ (before.counts OfPatterns) (after.counts OfPatterns) cause
+cause_by_then old mid new NumbersSpent before after cause = tt
+cause_by_then old mid new NotBuilt before after cause = tt
+cause_by_then old mid new NoMemory before after cause = tt
+
+-- ---- lines that could not be said, and refusals
+
+pub unsaid_cause : (old new : Standing) (status : Status) → IsUnsaid old new status → HasCause old new status
+unsaid_cause old new Stopped is = absurd is
+unsaid_cause old new TurnsSpent is = absurd is
+unsaid_cause old new WorkloadDone is = absurd is
+unsaid_cause old new Usage is = absurd is
+unsaid_cause old new ConfFault is = absurd is
+unsaid_cause old new (ConfRefused error) is = absurd is
+unsaid_cause old new DiskFault is = absurd is
+unsaid_cause old new (NotAJournal slot at) is = absurd is
+unsaid_cause old new (JournalFull need limit) is = absurd is
+unsaid_cause old new GateFault is = absurd is
+unsaid_cause old new SinkFault is = is
+unsaid_cause old new ConfTooLarge is = absurd is
+unsaid_cause old new (PatternRefused jail place kind) is = absurd is
+unsaid_cause old new NumbersSpent is = absurd is
+unsaid_cause old new NotBuilt is = absurd is
+unsaid_cause old new NoMemory is = tt
+
+-- a refusal's line was said
+pub refused_said : (old new : Standing) (refusal : Status) → IsRefusedAs old new refusal refusal
+refused_said old new refusal = inl refl
+
+-- it could not be said
+pub refused_unsaid : (old new : Standing) (refusal status : Status) → IsUnsaid old new status → IsRefusedAs old new refusal status
+refused_unsaid old new refusal status is = inr is
+
+-- memory ran out before it was said
+pub refused_early : (s : Standing) (refusal : Status) → IsRefusedAs s s refusal NoMemory
+refused_early s refusal = inr tt
+
+-- where a refusal has a cause, whatever the run ends with has one
+pub refused_cause : (old mid new : Standing) (refusal status : Status) → HasCause old mid refusal → IsSteady old mid → IsSteady mid new → IsRefusedAs mid new refusal status → HasCause old new status
+refused_cause old mid new refusal status cause before after (inl is) =
+    let P : Status → Type 0 = λ s. HasCause old new s in
+    subst P (sym is) (cause_by_then old mid new refusal before after cause)
+refused_cause old mid new refusal status cause before after (inr is) = cause_later old mid new status before (unsaid_cause mid new status is)
+
+-- that numbers are used up is told by the events
+pub spent_cause : (old new : Standing) (status : Status) → IsRefusedAs old new NumbersSpent status → HasCause old new status
+spent_cause old new status (inl is) =
+    let P : Status → Type 0 = λ s. HasCause old new s in
+    subst P (sym is) tt
+spent_cause old new status (inr is) = unsaid_cause old new status is
+
+pub ruleset counting = (steady_refl, steady_on, steady_call, cause_later, unsaid_cause, spent_cause)
+
+pub ruleset refused = (refused_said, refused_unsaid, refused_early)

@@ -5,7 +5,6 @@ mod TurnRows
 pub mod PointLemmas
 pub mod StageLemmas
 pub mod SaidLemmas
-pub mod ChangesLemmas
 pub mod CauseLemmas
 pub mod ServeLemmas
 pub mod TurnLemmas

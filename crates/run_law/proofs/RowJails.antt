@@ -16,8 +16,8 @@ use Rattle.f2b_world.specs.Walks.{after}
 use Rattle.f2b_world.specs.declared.answer.Look.{Look}
 use Rattle.f2b_world.specs.declared.event.Event.{Event}
 use Rattle.f2b_world.specs.declared.event.Event.TheVariants.{Clock, Look as LookAt}
+use Rattle.log_set.specs.Logs.{Watching}
 use Rattle.run_law.specs.Law.{Free, MayCome, feed, standing}
-use Rattle.run_law.specs.Logs.{Watching}
 use Rattle.run_law.specs.Points.{Point, Run, AtTurn, AtClock}
 use Rattle.run_law.specs.Server.{Server}
 use Rattle.run_law.specs.declared.plan.Plan.{Plan}

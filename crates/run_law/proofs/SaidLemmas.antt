@@ -17,12 +17,11 @@ use Rattle.f2b_world.specs.declared.event.Event.TheVariants.{Say, Make, Clock, C
 use Rattle.jail_conf.specs.Conf.{conf}
 use Rattle.jail_conf.specs.declared.conf_error.ConfError.{ConfError}
 use Rattle.jail_conf.specs.declared.settings.Settings.{Settings}
-use Rattle.log_follow.specs.Watches.{looked as watch_looked}
+use Rattle.log_set.specs.Logs.{Watching}
 use Rattle.run_law.specs.Calls.{Call, AskSay, IsNext}
 use Rattle.run_law.specs.Clock.{tick_news}
 use Rattle.run_law.specs.Law.{Free, Ends, IsOver, MayCome, begin, begin_with, call_of, feed, moved, point_call, turn_call, turns}
-use Rattle.run_law.specs.Logs.{Watching}
-use Rattle.run_law.specs.Looks.{after_look, log_call, look_news, looked, looked_at, now_is, unread_news}
+use Rattle.run_law.specs.Looks.{log_call, look_news, look_taken, looked, looked_at, now_is, unread_news}
 use Rattle.run_law.specs.News.{News, brings, brings_by, entered}
 use Rattle.run_law.specs.Paths.{Path, Naming, first_naming, named, with_paths}
 use Rattle.run_law.specs.Patterns.{Pattern, is_any_action}
@@ -82,7 +81,7 @@ names_says before settings naming [] s r = brings_says (start_news before (with_
 names_says before settings naming (p ∷ ps) s r = brings_says (record { before = before; what = None; behind = [] }) (AtNames settings naming) s r
 
 looked_says : (answer : Look) (l : Watching) (i : ℕ) (s : Server) (r : Run) → (looked answer l i s r).said ≡ r.said
-looked_says (File file) l i s r = brings_says (look_news s (after_look file l) (watch_looked l.watch file).1) (to_looks (i + 1)) (now_is i (after_look file l) s) r
+looked_says (File file) l i s r = brings_says (look_news s.now l (look_taken s l file)) (to_looks (i + 1)) (now_is i l file s) r
 looked_says Absent l i s r = refl
 looked_says LookFailed l i s r = brings_says (unread_news s l) (to_looks (i + 1)) s r
 looked_says LookNoMemory l i s r = refl

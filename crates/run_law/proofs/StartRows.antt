@@ -16,7 +16,7 @@ use Rattle.f2b_world.specs.declared.event.Event.TheVariants.{Say, Make, Config, 
 use Rattle.host_ident.specs.Expanded.{expanded as expanded_tags}
 use Rattle.jail_conf.specs.declared.settings.Settings.{Settings}
 use Rattle.run_law.specs.Calls.{AskSay, AskTree, AskMake, AskClock, AskNames, AskLook}
-use Rattle.run_law.specs.Changes.{config_changes, same_defs}
+use Rattle.run_law.specs.Changes.{config_changes}
 use Rattle.run_law.specs.Law.{begin, next_call, opening}
 use Rattle.run_law.specs.News.{brings}
 use Rattle.run_law.specs.Paths.{expanded, first_naming, named, with_paths}
@@ -89,11 +89,11 @@ abbrev empty : Run
 empty = defined (Ok (of_jails [])) (opening plan)
 
 says_that_it_is_ready : next_call (after_all empty (clock 1000 ∷ [])) ≡ Some (AskSay (codes "1000 INFO Server ready\n"))
-unfolding brings config_changes same_defs ready_line stamped digits
+unfolding brings config_changes ready_line stamped digits
 says_that_it_is_ready = refl
 
 takes_no_configuration_of_nothing : last_input (after_all empty (clock 1000 ∷ [])).point ≡ Some 0
-unfolding brings config_changes same_defs
+unfolding brings config_changes
 takes_no_configuration_of_nothing = refl
 
 -- ---- names in place of wildcards
@@ -124,11 +124,11 @@ abbrev named_all : List Event
 named_all = clock 1000 ∷ given ∷ Names (codes "/") NamesFailed ∷ []
 
 says_what_it_cannot_list_and_is_ready : next_call (after_all naming named_all) ≡ Some (AskSay (codes "1000 WARNING [a] cannot read /c?\n1000 INFO Server ready\n"))
-unfolding brings expanded chars config_changes same_defs lines_of unread_line ready_line stamped digits
+unfolding brings expanded chars config_changes lines_of unread_line ready_line stamped digits
 says_what_it_cannot_list_and_is_ready = refl
 
 takes_the_configuration : last_input (after_all naming named_all).point ≡ Some 1000
-unfolding brings expanded chars config_changes same_defs
+unfolding brings expanded chars config_changes
 takes_the_configuration = refl
 
 -- the first log is the first name that fits
@@ -136,12 +136,12 @@ abbrev begun : List Event
 begun = named_all ++ Say (codes "1000 WARNING [a] cannot read /c?\n1000 INFO Server ready\n") Done ∷ clock 1001 ∷ []
 
 looks_at_the_first_name : next_call (after_all naming begun) ≡ Some (AskLook (codes "/var/log/a1.log") 64 0 65536)
-unfolding brings expanded chars config_changes same_defs lines_of unread_line ready_line stamped digits to_logs to_children to_accept to_starts to_end
+unfolding brings expanded chars config_changes lines_of unread_line ready_line stamped digits to_logs to_children to_accept to_starts to_end
 looks_at_the_first_name = refl
 
 -- a directory that is not there has no names, and nothing is said of it
 says_nothing_of_an_absent_directory : next_call (after_all naming (clock 1000 ∷ Names (codes "/var/log") NamesAbsent ∷ Names (codes "/") NamesAbsent ∷ [])) ≡ Some (AskSay (codes "1000 INFO Server ready\n"))
-unfolding brings expanded chars config_changes same_defs lines_of ready_line stamped digits
+unfolding brings expanded chars config_changes lines_of ready_line stamped digits
 says_nothing_of_an_absent_directory = refl
 
 -- of names in any order the first in byte order come first, and a path that a pattern gives again is one log

@@ -19,7 +19,7 @@ use Rattle.ini_interp.specs.Values.{replaced}
 use Rattle.jail_conf.specs.Conf.{settings_in}
 use Rattle.jail_conf.specs.Sources.{text_in, own}
 use Rattle.run_law.specs.Calls.{AskSay, AskClock}
-use Rattle.run_law.specs.Changes.{config_changes, same_defs}
+use Rattle.run_law.specs.Changes.{config_changes}
 use Rattle.run_law.specs.Law.{begin, next_call}
 use Rattle.run_law.specs.News.{brings}
 use Rattle.run_law.specs.Points.{Run, Over}
@@ -56,13 +56,13 @@ unfolding settings_in own text_in files_of file_of meaning_of read_with all_read
 reads_the_clock_behind_no_files = refl
 
 is_over_after_a_turn : (after_all asked one_turn).point ≡ Over TurnsSpent
-unfolding settings_in own text_in files_of file_of meaning_of read_with all_read merged_in joined items_of raw opened with_raw brings config_changes same_defs ready_line stamped digits to_logs to_children to_accept to_starts to_end
+unfolding settings_in own text_in files_of file_of meaning_of read_with all_read merged_in joined items_of raw opened with_raw brings config_changes ready_line stamped digits to_logs to_children to_accept to_starts to_end
 is_over_after_a_turn = refl
 
 has_said_that_it_is_ready : (after_all asked one_turn).said ≡ codes "1000 INFO Server ready\n" ∷ []
-unfolding settings_in own text_in files_of file_of meaning_of read_with all_read merged_in joined items_of raw opened with_raw brings config_changes same_defs ready_line stamped digits to_logs to_children to_accept to_starts to_end
+unfolding settings_in own text_in files_of file_of meaning_of read_with all_read merged_in joined items_of raw opened with_raw brings config_changes ready_line stamped digits to_logs to_children to_accept to_starts to_end
 has_said_that_it_is_ready = refl
 
 owes_and_asks_no_more : next_call (after_all asked one_turn) ≡ None
-unfolding settings_in own text_in files_of file_of meaning_of read_with all_read merged_in joined items_of raw opened with_raw brings config_changes same_defs ready_line stamped digits to_logs to_children to_accept to_starts to_end
+unfolding settings_in own text_in files_of file_of meaning_of read_with all_read merged_in joined items_of raw opened with_raw brings config_changes ready_line stamped digits to_logs to_children to_accept to_starts to_end
 owes_and_asks_no_more = refl

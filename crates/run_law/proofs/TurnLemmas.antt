@@ -17,12 +17,11 @@ use Rattle.filter_regex.specs.declared.error.BuildKind.TheVariants.{Syntax, TooB
 use Rattle.jail_conf.specs.Conf.{conf}
 use Rattle.jail_conf.specs.declared.conf_error.ConfError.{ConfError}
 use Rattle.jail_conf.specs.declared.settings.Settings.{Settings}
-use Rattle.log_follow.specs.Watches.{looked as watch_looked}
+use Rattle.log_set.specs.Logs.{Watching, next_look}
 use Rattle.run_law.specs.Calls.{Call, IsNext}
 use Rattle.run_law.specs.Clock.{tick_news}
 use Rattle.run_law.specs.Law.{Free, Ends, IsOver, MayCome, call_of, feed, moved, opening, point_call, turns}
-use Rattle.run_law.specs.Logs.{Watching, next_look}
-use Rattle.run_law.specs.Looks.{after_look, log_call, look_news, looked, looked_at, now_is, unread_news}
+use Rattle.run_law.specs.Looks.{log_call, look_news, look_taken, looked, looked_at, now_is, unread_news}
 use Rattle.run_law.specs.News.{News, after_news, brings, brings_by, entered, goes_to, lines_in, owing, refused, server_after}
 use Rattle.run_law.specs.Patterns.{Pattern, is_any_action, patterns_of}
 use Rattle.run_law.specs.Paths.{Path, Naming, first_naming, named, with_paths}
@@ -30,7 +29,7 @@ use Rattle.run_law.specs.Pause.{paused, turned}
 use Rattle.run_law.specs.Points.{Place, AtClock, AtLook, AtPause, Point, AtTree, AtMakes, AtFirst, AtNames, AtTurn, Over, Run}
 use Rattle.run_law.specs.Refusals.{status_lines}
 use Rattle.run_law.specs.Served.{CountsTurns, pauses_in}
-use Rattle.run_law.specs.Server.{Server, begun, is_spent, is_stopping, jails, read_at}
+use Rattle.run_law.specs.Server.{Server, begun, is_spent, is_stopping, log_jails, read_at}
 use Rattle.run_law.specs.Start.{accepted, defined, first_turn, made, make_call, makes_on, names_call, names_in, start_news, to_makes, to_names, tree_read, unread_by}
 use Rattle.run_law.specs.Turn.{look_point, to_accept, to_children, to_end, to_logs, to_looks, to_starts}
 use Rattle.run_law.proofs.PointLemmas.{paid_call}
@@ -54,7 +53,7 @@ look_of_turn (Some i) s = record { place = AtLook i; is = refl }
 look_of_turn None s = children_of_turn s
 
 looks_of_turn : (i : ℕ) (s : Server) → IsOfTurn (to_looks i s) s
-looks_of_turn i s = look_of_turn (next_look i (jails s) s.logs) s
+looks_of_turn i s = look_of_turn (next_look i (log_jails s) s.logs) s
 
 either_of_turn : (stopping : Bool) (s : Server) → IsOfTurn (cond stopping (to_children s) (to_looks 0 s)) s
 either_of_turn true s = children_of_turn s
@@ -189,7 +188,7 @@ module _ (all made : ℕ) (r : Run) (plan : r.plan.turns ≡ all) (s : Server) (
       subst P (sym turn.is) (record { plan = plan; point = (sum, some); paid = tt })
 
   looked_fits : (answer : Look) (l : Watching) (i : ℕ) → Fits all made r → Fits all made (looked answer l i s r)
-  looked_fits (File file) l i fits = turn_fits (look_news s (after_look file l) (watch_looked l.watch file).1) (to_looks (i + 1)) (now_is i (after_look file l) s) (looks_of_turn (i + 1)) refl
+  looked_fits (File file) l i fits = turn_fits (look_news s.now l (look_taken s l file)) (to_looks (i + 1)) (now_is i l file s) (looks_of_turn (i + 1)) refl
   looked_fits Absent l i fits = plain_fits (to_looks (i + 1) s) (looks_of_turn (i + 1) s)
   looked_fits LookFailed l i fits = turn_fits (unread_news s l) (to_looks (i + 1)) s (looks_of_turn (i + 1)) refl
   looked_fits LookNoMemory l i fits = fits

@@ -11,14 +11,16 @@ use Rattle.f2b_world.specs.declared.answer.Said.TheVariants.{Done, Failed as Say
 use Rattle.f2b_world.specs.declared.event.Event.{Event}
 use Rattle.f2b_world.specs.declared.event.Event.TheVariants.{Say, Pause}
 use Rattle.log_follow.specs.Lines.{rest_of, pieces_of}
+use Rattle.log_set.specs.Logs.{Watching}
 use Rattle.run_law.specs.Calls.{AskSay, AskClock, AskLook, AskPause}
 use Rattle.run_law.specs.Law.{next_call}
-use Rattle.run_law.specs.Logs.{read_of}
+use Rattle.run_law.specs.Logs.{logs_of}
+use Rattle.run_law.specs.Looks.{look_taken}
 use Rattle.run_law.specs.News.{brings}
 use Rattle.run_law.specs.Points.{Run, Over}
 use Rattle.run_law.specs.Refusals.{error_line, status_lines}
 use Rattle.run_law.specs.Said.{line_of, lines_of, rotated_line, stamped, unread_line}
-use Rattle.run_law.specs.Server.{Server}
+use Rattle.run_law.specs.Server.{Server, jails}
 use Rattle.run_law.specs.Turn.{to_accept, to_children, to_end, to_logs, to_starts}
 use Rattle.run_law.specs.declared.status.Status.TheVariants.{TurnsSpent, SinkFault}
 use Rattle.run_law.proofs.RowJails.{after_all, clock, eighth, last_input, log, look, server, seventh, shown, turning, view_of_two}
@@ -46,16 +48,16 @@ abbrev rotated : List Event
 rotated = clock 1000 ∷ look (codes "/a") 9 (File (record { size = 2; head = codes "ab"; bytes = [] })) ∷ []
 
 says_that_it_rotated : next_call (after_all run rotated) ≡ Some (AskSay (codes "1000 INFO [a] rotated /a\n"))
-unfolding brings to_logs to_children to_accept to_starts to_end read_of rotated_line stamped digits rest_of pieces_of lines_of
+unfolding brings to_logs to_children to_accept to_starts to_end look_taken rotated_line stamped digits rest_of pieces_of lines_of
 says_that_it_rotated = refl
 
 -- and it is an input, since its place changes
 takes_the_rotation : last_input (after_all run rotated).point ≡ Some 1000
-unfolding brings to_logs to_children to_accept to_starts to_end read_of rest_of pieces_of
+unfolding brings to_logs to_children to_accept to_starts to_end look_taken rest_of pieces_of
 takes_the_rotation = refl
 
 then_looks_at_the_second_jail : next_call (after_all run (rotated ++ Say (codes "1000 INFO [a] rotated /a\n") Done ∷ [])) ≡ Some (AskLook (codes "/b") 64 0 65536)
-unfolding brings to_logs to_children to_accept to_starts to_end read_of rotated_line stamped digits rest_of pieces_of lines_of
+unfolding brings to_logs to_children to_accept to_starts to_end look_taken rotated_line stamped digits rest_of pieces_of lines_of
 then_looks_at_the_second_jail = refl
 
 -- the new log is read from its start in the next turn
@@ -63,7 +65,7 @@ abbrev behind_a_rotation : List Event
 behind_a_rotation = rotated ++ Say (codes "1000 INFO [a] rotated /a\n") Done ∷ look (codes "/b") 0 Absent ∷ Pause 250 ∷ clock 1001 ∷ []
 
 reads_the_new_log_from_its_start : next_call (after_all run behind_a_rotation) ≡ Some (AskLook (codes "/a") 64 0 65536)
-unfolding brings to_logs to_children to_accept to_starts to_end read_of rotated_line stamped digits rest_of pieces_of lines_of
+unfolding brings to_logs to_children to_accept to_starts to_end look_taken rotated_line stamped digits rest_of pieces_of lines_of
 reads_the_new_log_from_its_start = refl
 
 -- ---- half a line of a log at its start is lost: the line is said, and nothing is an input
@@ -75,12 +77,20 @@ abbrev half_lost : List Event
 half_lost = clock 1000 ∷ look (codes "/b") 3 (File (record { size = 2; head = codes "xy"; bytes = [] })) ∷ []
 
 says_the_loss : next_call (after_all half_read half_lost) ≡ Some (AskSay (codes "1000 INFO [b] rotated /b\n"))
-unfolding brings to_logs to_children to_accept to_starts to_end read_of rotated_line stamped digits rest_of pieces_of lines_of
+unfolding brings to_logs to_children to_accept to_starts to_end look_taken rotated_line stamped digits rest_of pieces_of lines_of
 says_the_loss = refl
 
 takes_no_loss : last_input (after_all half_read half_lost).point ≡ Some 900
-unfolding brings to_logs to_children to_accept to_starts to_end read_of rest_of pieces_of
+unfolding brings to_logs to_children to_accept to_starts to_end look_taken rest_of pieces_of
 takes_no_loss = refl
+
+-- ---- logs that were followed before: one goes on with its half line, and one whose jail has it no more is let go
+
+abbrev followed_before : List Watching
+followed_before = log (codes "b") (codes "/b") (Pos 0 []) (codes "abc") ∷ log (codes "b") (codes "/a") (Pos 5 (codes "abcde")) [] ∷ []
+
+goes_on_with_half_a_line : logs_of followed_before (jails two_logs) ≡ log (codes "a") (codes "/a") nine [] ∷ log (codes "b") (codes "/b") (Pos 0 []) (codes "abc") ∷ []
+goes_on_with_half_a_line = refl
 
 -- ---- a log that cannot be read, and one that is not there
 
@@ -101,11 +111,11 @@ abbrev placed : List Event
 placed = clock 1000 ∷ look (codes "/a") 0 (File (record { size = 5; head = codes "abcde"; bytes = codes "abcde" })) ∷ Pause 250 ∷ clock 1001 ∷ []
 
 takes_the_end_as_its_place : last_input (after_all from_end placed).point ≡ Some 1000
-unfolding brings to_logs to_children to_accept to_starts to_end read_of rest_of pieces_of lines_of
+unfolding brings to_logs to_children to_accept to_starts to_end look_taken rest_of pieces_of lines_of
 takes_the_end_as_its_place = refl
 
 reads_on_from_the_end : next_call (after_all from_end placed) ≡ Some (AskLook (codes "/a") 64 5 65536)
-unfolding brings to_logs to_children to_accept to_starts to_end read_of rest_of pieces_of lines_of
+unfolding brings to_logs to_children to_accept to_starts to_end look_taken rest_of pieces_of lines_of
 reads_on_from_the_end = refl
 
 -- ---- a jail that is idle, and a server that is stopping

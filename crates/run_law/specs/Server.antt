@@ -1,14 +1,15 @@
 -- What a server has come to, once it has read the clock.
-use Rattle.std.specs.Prelude.{ℕ, max, min, Bool, List, [], Option}
+use Rattle.std.specs.Prelude.{ℕ, max, min, Bool, List, [], map}
 use Rattle.f2b_base.specs.Limits.{latest_reading}
 use Rattle.f2b_base.specs.declared.input.Input.{Input}
 use Rattle.f2b_base.specs.declared.input.What.{What}
 use Rattle.f2b_base.specs.declared.outside.Reading.{Reading}
 use Rattle.f2b_model.specs.Lanes.{books}
 use Rattle.f2b_model.specs.State.{Jail}
-use Rattle.f2b_model.specs.Steps.{moves, find_jail}
+use Rattle.f2b_model.specs.Steps.{moves}
 use Rattle.f2b_model.specs.Whole.{State, step, told, empty_state, is_whole_spent}
-use Rattle.run_law.specs.Logs.{Watching, logs_of}
+use Rattle.log_set.specs.Logs.{LogJail, Watching}
+use Rattle.run_law.specs.Logs.{log_jail, logs_of}
 use Rattle.run_law.specs.Said.{lines_of}
 
 pub record Server : Type 0 where
@@ -27,8 +28,9 @@ pub record Server : Type 0 where
 abbrev pub jails : Server → List Jail
 jails s = s.state.jails.jails
 
-abbrev pub jail_named : List ℕ → Server → Option Jail
-jail_named name s = find_jail moves name (jails s)
+-- as the set of the logs has them
+abbrev pub log_jails : Server → List LogJail
+log_jails s = map log_jail (jails s)
 
 abbrev pub is_stopping : Server → Bool
 is_stopping s = s.state.lanes.stopping

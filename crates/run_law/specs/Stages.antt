@@ -1,5 +1,5 @@
 -- What a part of a run hands up: from where to where it goes, whatever the server is, with what the code keeps of it.
-use Rattle.std.specs.Prelude.{ℕ, ◌≡◌, ◌≤◌, ◌++◌, List, [], None, Contains, Ok, Err}
+use Rattle.std.specs.Prelude.{ℕ, ◌≡◌, ◌≤◌, ◌++◌, ◌⊎◌, List, [], None, Contains, Ok, Err}
 use Rattle.f2b_base.specs.declared.outside.Tree.{Tree}
 use Rattle.f2b_world.specs.Faults.{Fault, OfSink, OfConfiguration, OfPatterns, Rose}
 use Rattle.f2b_world.specs.Reading.{reading}
@@ -90,6 +90,16 @@ HasCause old new SinkFault = Rose (old.faults OfSink) (new.faults OfSink)
 HasCause old new (PatternRefused jail place Syntax) = IsNoPattern jail place
 HasCause old new (PatternRefused jail place TooBig) = Rose (old.faults OfPatterns) (new.faults OfPatterns)
 HasCause old new _ = Unit {0}
+
+-- lines could not be said: the sink failed, or memory ran out
+abbrev pub IsUnsaid : Standing → Standing → Status → Type 0
+IsUnsaid old new SinkFault = Rose (old.faults OfSink) (new.faults OfSink)
+IsUnsaid old new NoMemory = Unit {0}
+IsUnsaid old new _ = ⊥
+
+-- a run that is refused ends with the refusal's own status, or since its line could not be said
+abbrev pub IsRefusedAs : Standing → Standing → Status → Status → Type 0
+IsRefusedAs old new refusal status = (status ≡ refusal) ⊎ IsUnsaid old new status
 
 -- ---- parts of a run
 

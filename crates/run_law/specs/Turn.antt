@@ -3,9 +3,9 @@
 -- Commands that run, clients and commands to start have their entries here, and each is the next one as long as it has no part of its
 -- own. So what is proved from one entry to another stays when they come.
 use Rattle.std.specs.Prelude.{ℕ, Option, Some, None, if◌then◌else◌}
-use Rattle.run_law.specs.Logs.{next_look}
+use Rattle.log_set.specs.Logs.{next_look}
 use Rattle.run_law.specs.Points.{Point, AtTurn, AtLook, AtPause}
-use Rattle.run_law.specs.Server.{Server, is_stopping, jails}
+use Rattle.run_law.specs.Server.{Server, is_stopping, log_jails}
 
 unfoldable pub to_end : Server → Point
 to_end s = AtTurn AtPause s
@@ -26,7 +26,7 @@ look_point None s = to_children s
 
 -- the next log, from a place on
 abbrev pub to_looks : ℕ → Server → Point
-to_looks i s = look_point (next_look i (jails s) s.logs) s
+to_looks i s = look_point (next_look i (log_jails s) s.logs) s
 
 -- once a stop was asked for, no log is looked at
 unfoldable pub to_logs : Server → Point

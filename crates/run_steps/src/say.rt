@@ -1,7 +1,7 @@
 //! Saying lines.
 ghost use Rattle.std.specs.Prelude.{◌≡◌, ◌≤◌, IfErr, IfOk, OnOk, length};
 ghost use Rattle.run_law.specs.Said.{joined};
-ghost use Rattle.run_law.specs.Stages.{HasCause, IsRefusal, IsSteady, Refuses, Says, SayFails};
+ghost use Rattle.run_law.specs.Stages.{IsRefusal, IsRefusedAs, IsSteady, IsUnsaid, Refuses, Says, SayFails};
 
 use crate::refusal::status_lines;
 use f2b_base::{Bytes, NoMemory};
@@ -28,7 +28,7 @@ fn say_bytes<W: World>(world: &mut W, bytes: &[u8], lines: &[Bytes]) -> Result<(
     requires lines { bytes.now ≡ joined lines.now }
     ensures ok { OnOk result (Says (W.stands world.old) (W.stands world.new) lines.now) }
     ensures err { IfErr result (SayFails (W.stands world.old) (W.stands world.new) lines.now) }
-    ensures cause { IfErr result (HasCause (W.stands world.old) (W.stands world.new)) }
+    ensures cause { IfErr result (IsUnsaid (W.stands world.old) (W.stands world.new)) }
     ensures steady { IsSteady (W.stands world.old) (W.stands world.new) }
 {
     match world.say(bytes) {
@@ -42,7 +42,7 @@ fn say_bytes<W: World>(world: &mut W, bytes: &[u8], lines: &[Bytes]) -> Result<(
 pub fn say_all<W: World>(alloc: Global, world: &mut W, lines: &[Bytes]) -> Result<(), Status>
     ensures ok { OnOk result (Says (W.stands world.old) (W.stands world.new) lines.now) }
     ensures err { IfErr result (SayFails (W.stands world.old) (W.stands world.new) lines.now) }
-    ensures cause { IfErr result (HasCause (W.stands world.old) (W.stands world.new)) }
+    ensures cause { IfErr result (IsUnsaid (W.stands world.old) (W.stands world.new)) }
     ensures steady { IsSteady (W.stands world.old) (W.stands world.new) }
 {
     if lines.is_empty() {
@@ -53,10 +53,11 @@ pub fn say_all<W: World>(alloc: Global, world: &mut W, lines: &[Bytes]) -> Resul
 }
 
 /// Says why a run is refused, and gives the status that it ends with.
-#[tactic(auto, using(run_law::proofs::PointLemmas::refusing))]
+#[tactic(auto, using(run_law::proofs::PointLemmas::refusing, run_law::proofs::CauseLemmas::refused))]
 pub fn refuse<W: World>(alloc: Global, world: &mut W, now: u64, status: Status) -> Status
     requires { IsRefusal status }
     ensures ends { Refuses (W.stands world.old) (W.stands world.new) now status result }
+    ensures cause { IsRefusedAs (W.stands world.old) (W.stands world.new) status result }
     ensures steady { IsSteady (W.stands world.old) (W.stands world.new) }
 {
     let lines = match status_lines(alloc, now, &status) {
