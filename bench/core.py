@@ -14,6 +14,7 @@ DAYS = [
     ("bans", "55 a second, each a ban"),
     ("fewer", "11 a second, each a ban"),
     ("once", "a million addresses, once each"),
+    ("swept", "the same, too old and swept"),
 ]
 
 
@@ -29,6 +30,7 @@ def run(program, day, cpu):
         said[name] = number
     numbers = {name: int(said[name]) for name in ("inputs", "counted", "begun", "active", "open", "microseconds")}
     numbers["peak"] = int(said["VmHWM"].split()[0])
+    numbers["left"] = int(said["VmRSS"].split()[0])
     return numbers
 
 
@@ -53,6 +55,7 @@ def main(program):
             f"{name:30} {each['inputs']:9,} {seconds:6.2f} {each['inputs'] / seconds:9,.0f} {each['counted']:8,}"
             f" {each['begun']:8,} {each['active']:7,} {each['open']:7,} {each['peak'] / 1024:9.1f}"
         )
+    print(f"once swept {days['swept']['left'] / 1024:.1f} MiB are left, {100 * days['swept']['left'] / days['swept']['peak']:.0f} % of the peak")
     times = days["lines"]["microseconds"] / days["busy"]["microseconds"]
     print(f"with lines {times:.2f} times the time of the same day without")
     print(f"about {each_takes(base, days['once'], 'open'):.0f} bytes for each address that failed once, with an empty line")

@@ -30,6 +30,9 @@ const BEGIN: u64 = 1_709_337_600;
 
 const ADDRESSES: u64 = 50_000;
 
+/// How many seconds a failure counts for.
+const FINDTIME: u64 = 600;
+
 const JAIL: &str = "sshd";
 
 const PATH: &str = "/var/log/auth.log";
@@ -59,6 +62,8 @@ struct Day {
     shows: bool,
     /// Whether each failure is of another address.
     apart: bool,
+    /// Whether all failures get too old at the end, and are swept.
+    swept: bool,
 }
 
 /// A day of this pace, whose jail bans after so many failures and counts bans that are over for so long.
@@ -75,6 +80,7 @@ fn plain_day(pace: u64, maxretry: u64, purge: u64) -> Day
         purge,
         shows: false,
         apart: false,
+        swept: false,
     }
 }
 
@@ -101,6 +107,11 @@ fn day_of(name: &str) -> Day
         "fewer" => plain_day(11, 1, 0),
         "once" => Day {
             apart: true,
+            ..plain_day(10_000, 5, 86_400)
+        },
+        "swept" => Day {
+            apart: true,
+            swept: true,
             ..plain_day(10_000, 5, 86_400)
         },
         _ => Day {
@@ -157,7 +168,7 @@ fn jail(alloc: Global, day: &Day) -> Result<JailDef, NoMemory>
         fail: Seq::new(alloc),
         ignore_lines: Seq::new(alloc),
         ignore: Seq::new(alloc),
-        findtime: 600,
+        findtime: FINDTIME,
         maxretry: day.maxretry,
         maxmatches: 5,
         rule: BanRule {
@@ -346,6 +357,16 @@ fn pass(alloc: Global, begin: Core, day: &Day, tally: &mut Tally) -> Result<Core
     Ok(core)
 }
 
+/// One failure more, so much later that no other one matters, and the turns that sweep behind it.
+fn swept(alloc: Global, begin: Core, day: &Day) -> Result<Core, NoMemory> {
+    let secs = moment(day.inputs, day.pace).saturating_add(2 * FINDTIME).min(LAST_MOMENT);
+    let (mut core, _) = begin.take(&failing(alloc, day, secs, day.inputs, 0)?)?;
+    for _ in 0..200 {
+        let _ = core.sweep(10_000);
+    }
+    Ok(core)
+}
+
 /// How many failures are open, by a view.
 fn open(core: &Core) -> Result<usize, NoMemory> {
     let view = core.view()?;
@@ -371,6 +392,9 @@ fn measure(rt: &(impl Print + AllocGlobal + CpuClock + Files), day: &Day) -> io:
     };
     let begin = rt.thread_cpu_time()?;
     let Ok(core) = pass(alloc, core, day, &mut tally) else {
+        return println!(rt; "no memory");
+    };
+    let Ok(core) = (if day.swept { swept(alloc, core, day) } else { Ok(core) }) else {
         return println!(rt; "no memory");
     };
     let end = rt.thread_cpu_time()?;

@@ -1,5 +1,5 @@
 -- One action of a jail, step by step.
-use Rattle.std.proofs.Common.{◌≡◌, ℕ, ◌<◌, ◌≤◌, not, nat_lt, Bool, true, false, List, length, Option, None, Some, Result, Ok, Err, refl, ap, ◌∙◌, arith}
+use Rattle.std.proofs.Common.{◌≡◌, ℕ, ◌<◌, ◌≤◌, not, nat_lt, true, false, List, length, None, Some, Result, Ok, Err, refl, ap, ◌∙◌, arith}
 use Rattle.std.proofs.lemmas.Bool.Decides.{nat_tests}
 use Rattle.f2b_base.specs.declared.jail.ActionDef.{ActionDef}
 use Rattle.ini_interp.specs.Sections.{Sections}
@@ -12,7 +12,7 @@ use Rattle.jail_conf.specs.Actions.{base_of, file_of, name_of, lanes_of, named_a
 use Rattle.jail_conf.specs.Options.{named}
 use Rattle.jail_conf.specs.Sources.{Bases, sections_of, of_definition, told, without_file}
 use Rattle.jail_conf.specs.Table.{action}
-use Rattle.jail_conf.specs.Then.{◌>>=◌, ◌>>◌, refuse_if, or_refuse, Gives}
+use Rattle.jail_conf.specs.Then.{◌>>=◌, or_refuse, Gives}
 use Rattle.jail_conf.specs.Told.{IsRefusal}
 use Rattle.jail_conf.specs.Words.{is_among}
 use Rattle.jail_conf.proofs.FaultLemmas.{first_fails, first_is_there, first_is, refusal_gives}

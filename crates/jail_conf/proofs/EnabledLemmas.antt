@@ -9,9 +9,9 @@ use Rattle.jail_conf.specs.Conf.{is_enabled, most_jails}
 use Rattle.jail_conf.specs.Jails.{is_jail_name}
 use Rattle.jail_conf.specs.Sources.{own, told}
 use Rattle.jail_conf.specs.Table as table
-use Rattle.jail_conf.specs.Then.{◌>>=◌, ◌>>◌, refuse_if, Gives}
+use Rattle.jail_conf.specs.Then.{◌>>◌, refuse_if, Gives}
 use Rattle.jail_conf.specs.Told.{IsRefusal}
-use Rattle.jail_conf.proofs.FaultLemmas.{first_fails, first_is_there, first_is, refusal_gives}
+use Rattle.jail_conf.proofs.FaultLemmas.{first_fails, first_is, refusal_gives}
 
 -- what is not refused leaves it to the rest
 pub not_refused : {A : Type 0} (holds : Bool) (error : ConfError) (next : Result A ConfError) → holds ≡ false → (refuse_if holds error >> next) ≡ next

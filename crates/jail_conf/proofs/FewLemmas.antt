@@ -1,5 +1,5 @@
 -- How many patterns the jails have together.
-use Rattle.std.proofs.Common.{◌≡◌, ◌∙◌, ℕ, ◌+◌, ◌<◌, ◌≤◌, Bool, true, false, List, [], ◌∷◌, ◌++◌, length, Option, None, Some, Result, Ok, Err, codes, refl, sym, ap, subst, arith}
+use Rattle.std.proofs.Common.{◌≡◌, ◌∙◌, ℕ, ◌+◌, ◌≤◌, Bool, true, false, List, [], ◌∷◌, ◌++◌, length, Option, None, Some, Result, Ok, Err, codes, sym, ap, subst, arith}
 use Rattle.std.specs.Prelude.{sum_by, IfSome}
 use Rattle.std.proofs.lemmas.List.Sums.{sum_by-append}
 use Rattle.f2b_base.specs.declared.jail.JailDef.{JailDef}
@@ -12,7 +12,6 @@ use Rattle.jail_conf.specs.Jails.{filter_of, lines_of, ignored_of, counts_of, ru
 use Rattle.jail_conf.specs.Patterns.{most_patterns}
 use Rattle.jail_conf.specs.Sources.{Bases, with_known, own, own_or}
 use Rattle.jail_conf.specs.Table as table
-use Rattle.jail_conf.specs.Then.{◌>>=◌, ◌>>◌}
 use Rattle.jail_conf.proofs.GoodLemmas.{bind_ok, then_ok, patterns_are_few}
 
 -- those of a jail are among them

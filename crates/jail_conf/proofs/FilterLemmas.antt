@@ -1,5 +1,5 @@
 -- The filter of a jail, step by step.
-use Rattle.std.proofs.Common.{◌≡◌, ℕ, not, Bool, true, false, List, Option, None, Some, Result, Ok, Err, refl, sym, ap, ◌∙◌, subst}
+use Rattle.std.proofs.Common.{◌≡◌, ℕ, not, true, false, List, None, Some, Result, Ok, Err, refl, sym, ap, ◌∙◌, subst}
 use Rattle.ini_interp.specs.Lines.{trimmed}
 use Rattle.ini_interp.specs.Sections.{Sections}
 use Rattle.jail_conf.specs.declared.conf_error.ConfError.{ConfError}
@@ -12,7 +12,7 @@ use Rattle.jail_conf.specs.Jails.{base_of, file_of, no_filter, known_of, named_f
 use Rattle.jail_conf.specs.Options.{named}
 use Rattle.jail_conf.specs.Sources.{Bases, sections_of, of_definition, own, told, without_file}
 use Rattle.jail_conf.specs.Table as table
-use Rattle.jail_conf.specs.Then.{◌>>=◌, ◌>>◌, refuse_if, or_refuse, Gives}
+use Rattle.jail_conf.specs.Then.{or_refuse, Gives}
 use Rattle.jail_conf.specs.Told.{IsRefusal}
 use Rattle.jail_conf.specs.Words.{is_empty}
 use Rattle.jail_conf.proofs.ActionLemmas.{fails_first}

@@ -1,12 +1,11 @@
 -- What holds of a value, by how its text is read.
-use Rattle.std.proofs.Common.{◌≡◌, ℕ, ◌+◌, ◌<◌, ◌≤◌, Bool, true, false, cond, nat_le, nat_lt, ◌==◌, ◌&&◌, ◌||◌, List, [], ◌∷◌, length, Option, None, Some, Result, Ok, Err, unwrap_or, refl, sym, subst, arith}
+use Rattle.std.proofs.Common.{◌≡◌, ℕ, ◌+◌, ◌<◌, ◌≤◌, Bool, true, false, nat_le, nat_lt, ◌==◌, ◌&&◌, ◌||◌, List, [], ◌∷◌, length, Option, None, Some, Result, Ok, Err, unwrap_or, refl, subst, arith}
 use Rattle.std.proofs.lemmas.Bool.Decides.{nat_tests}
 use Rattle.host_ident.specs.Expanded.{hosts_in}
-use Rattle.jail_conf.specs.declared.conf_error.ConfError.{ConfError}
 use Rattle.jail_conf.specs.declared.conf_error.ConfKind.{ConfKind}
 use Rattle.jail_conf.specs.declared.conf_error.ConfKind.TheVariants.{NoHost, TwoHosts, BadTag, TooMany}
 use Rattle.jail_conf.specs.declared.source.Source.{Source}
-use Rattle.jail_conf.specs.Items.{Item, item}
+use Rattle.jail_conf.specs.Items.{item}
 use Rattle.jail_conf.specs.Patterns.{pattern, in_order, patterns_in, has_bad_tag, is_too_long, most_patterns}
 use Rattle.jail_conf.specs.Readers.{Reader}
 use Rattle.jail_conf.specs.Sources.{text_in, read_if, found, or_told, own, or_else, own_or}
@@ -21,6 +20,17 @@ bind_ok (Err refusal) next value is = absurd (cc)
 pub then_ok : {A B E : Type 0} (first : Result A E) (next : Result B E) (value : B) → (first >> next) ≡ Ok value → next ≡ Ok value
 then_ok (Ok x) next value is = is
 then_ok (Err refusal) next value is = absurd (cc)
+
+-- what a result that is there has
+abbrev pub OfOk : {A E : Type 0} → (A → Type 0) → Result A E → Type 0
+OfOk P (Ok x) = P x
+OfOk P (Err refusal) = Unit {0}
+
+-- a value comes behind a refusal only where what is refused does not hold
+pub was_not_refused : {A E : Type 0} (holds : Bool) (refusal : E) (next : Result A E) (value : A) →
+    (refuse_if holds refusal >> next) ≡ Ok value → holds ≡ false
+was_not_refused true refusal next value is = absurd (cc)
+was_not_refused false refusal next value is = refl
 
 -- ---- values of items
 

@@ -1,5 +1,5 @@
 -- The lanes of a jail that is accepted: how many there are, and that no two have one name and one family.
-use Rattle.std.proofs.Common.{◌≡◌, ◌∙◌, ℕ, ◌+◌, ◌*◌, ◌<◌, ◌≤◌, Bool, true, false, ◌||◌, ◌&&◌, not, nat_lt, List, [], ◌∷◌, ◌++◌, length, Result, Ok, Err, codes, refl, ap, subst, arith}
+use Rattle.std.proofs.Common.{◌≡◌, ◌∙◌, ℕ, ◌+◌, ◌*◌, ◌<◌, ◌≤◌, Bool, true, false, ◌||◌, ◌&&◌, not, nat_lt, List, [], ◌∷◌, ◌++◌, length, Ok, codes, refl, ap, subst, arith}
 use Rattle.std.specs.List.{list_any}
 use Rattle.std.specs.Str.{bytes_eq}
 use Rattle.std.proofs.lemmas.Bool.Decides.{nat_tests}
@@ -10,6 +10,7 @@ use Rattle.f2b_base.specs.declared.addr.Family.TheVariants.{Both, Inet4, Inet6}
 use Rattle.f2b_base.specs.declared.jail.ActionDef.{ActionDef}
 use Rattle.f2b_model.specs.Lists.{AllOf, AreDistinct}
 use Rattle.f2b_model.specs.Sound.{same_kind}
+use Rattle.f2b_model.specs.Storable.{IsSpanOfTime}
 use Rattle.ini_interp.proofs.AreSectionsLemmas.{bytes_eq-flip}
 use Rattle.ini_interp.specs.Sections.{Sections}
 use Rattle.jail_conf.specs.declared.actions.Action.{Action}
@@ -20,28 +21,24 @@ use Rattle.jail_conf.specs.Actions.{base_of, file_of, name_of, lane, lane_of_bot
 use Rattle.jail_conf.specs.Options.{named}
 use Rattle.jail_conf.specs.Sources.{Bases, section_names, sections_of, of_definition, inet6_section, for_inet6, own, told, without_file}
 use Rattle.jail_conf.specs.Table.{command, timeout, action}
-use Rattle.jail_conf.specs.Then.{◌>>◌, refuse_if, or_refuse}
+use Rattle.jail_conf.specs.Then.{refuse_if, or_refuse}
+use Rattle.jail_conf.specs.Times.{seconds_from}
 use Rattle.jail_conf.specs.Words.{full_lines, is_among}
 use Rattle.jail_conf.proofs.DistinctLemmas.{all_weaker, all_append, none_in_first, none_in_second, none_passes_all, distinct_append, neither}
-use Rattle.jail_conf.proofs.GoodLemmas.{bind_ok, then_ok}
-
--- what a result that is there has
-abbrev pub OfOk : {A E : Type 0} → (A → Type 0) → Result A E → Type 0
-OfOk P (Ok x) = P x
-OfOk P (Err refusal) = Unit {0}
-
--- a value comes behind a refusal only where what is refused does not hold
-pub was_not_refused : {A E : Type 0} (holds : Bool) (refusal : E) (next : Result A E) (value : A) →
-    (refuse_if holds refusal >> next) ≡ Ok value → holds ≡ false
-was_not_refused true refusal next value is = absurd (cc)
-was_not_refused false refusal next value is = refl
+use Rattle.jail_conf.proofs.BoundLemmas.{seconds_are}
+use Rattle.jail_conf.proofs.GoodLemmas.{OfOk, bind_ok, then_ok, own_good, was_not_refused}
 
 -- ---- one action
+
+-- a try of the lane's commands takes so long at most
+abbrev pub HasTimeout : ActionDef → Type 0
+HasTimeout one = IsSpanOfTime one.timeout
 
 -- a lane of this name and family
 record IsLaneOf (name : List ℕ) (family : Family) (one : ActionDef) : Type 0 where
   named : one.name ≡ name
   of_family : one.family ≡ family
+  timeout : HasTimeout one
 
 lane_is : (source : Source) (name : List ℕ) (family : Family) (one : ActionDef) → lane source name family ≡ Ok one → IsLaneOf name family one
 unfolding lane
@@ -52,20 +49,25 @@ lane_is source name family one is =
     let unban = bind_ok (own source (command (codes "actionunban"))) _ one ban.2 in
     let check = bind_ok (own source (command (codes "actioncheck"))) _ one unban.2 in
     let seconds = bind_ok (own source timeout) _ one check.2 in
-    subst (OfOk (IsLaneOf name family)) seconds.2 (record { named = refl; of_family = refl })
+    subst (OfOk (IsLaneOf name family)) seconds.2 (record {
+      named = refl;
+      of_family = refl;
+      timeout = own_good IsSpanOfTime (seconds_from 1) (seconds_are 1) source (codes "timeout") 60 seconds.0 (omega arith, omega arith) seconds.1;
+    })
 
 -- the lanes of an action of this name
 pub record AreLanesOf (name : List ℕ) (lanes : List ActionDef) : Type 0 where
   pub few : length lanes ≤ 2
   pub named : AllOf (λ (one : ActionDef). one.name ≡ name) lanes
   pub apart : AreDistinct same_kind lanes
+  pub timeouts : AllOf HasTimeout lanes
 
 lane_of_both_is : (source : Source) (name : List ℕ) (lanes : List ActionDef) → lane_of_both source name ≡ Ok lanes → AreLanesOf name lanes
 unfolding lane_of_both
 lane_of_both_is source name lanes is =
     let both = bind_ok (lane source name Both) _ lanes is in
     let one : IsLaneOf name Both both.0 = lane_is source name Both both.0 both.1 in
-    subst (OfOk (AreLanesOf name)) both.2 (record { few = omega arith; named = (one.named, tt); apart = (refl, tt) })
+    subst (OfOk (AreLanesOf name)) both.2 (record { few = omega arith; named = (one.named, tt); apart = (refl, tt); timeouts = (one.timeout, tt) })
 
 none_of_another : (x y : Bool) → y ≡ false → ((x && y) || false) ≡ false
 none_of_another true true is = is
@@ -85,6 +87,7 @@ lane_of_each_is source name lanes is =
       few = omega arith;
       named = (first.named, (second.named, tt));
       apart = (none_of_another (bytes_eq inet4.0.name inet6.0.name) (same_family inet4.0.family inet6.0.family) families, (refl, tt));
+      timeouts = (first.timeout, (second.timeout, tt));
     })
 
 lanes_are : (sections : Sections) (source : Source) (name : List ℕ) (lanes : List ActionDef) → lanes_of sections source name ≡ Ok lanes →
@@ -137,9 +140,10 @@ pub record AreLanesBehind (names : List (List ℕ)) (lanes : List ActionDef) : T
   pub few : length lanes + 2 * length names ≤ 32
   pub new : AllOf (λ (one : ActionDef). is_among names one.name ≡ false) lanes
   pub apart : AreDistinct same_kind lanes
+  pub timeouts : AllOf HasTimeout lanes
 
 no_lanes : (names : List (List ℕ)) → length names ≤ 16 → AreLanesBehind names []
-no_lanes names few = record { few = omega arith; new = tt; apart = tt }
+no_lanes names few = record { few = omega arith; new = tt; apart = tt; timeouts = tt }
 
 -- a lane of another name is of another kind
 other_kind : (x y : Bool) → x ≡ false → (x && y) ≡ false
@@ -164,6 +168,7 @@ lanes_join names one others first rest = record {
   apart =
       distinct_append same_kind one.lanes others first.lanes.apart rest.apart
       (all_weaker (λ (lane : ActionDef). lane.name ≡ one.name) (λ (lane : ActionDef). list_any (same_kind lane) others ≡ false) apart one.lanes first.lanes.named);
+  timeouts = all_append HasTimeout one.lanes others first.lanes.timeouts rest.timeouts;
 }
   where
     differs : (lane : ActionDef) → is_among (names ++ one.name ∷ []) lane.name ≡ false → bytes_eq lane.name one.name ≡ false

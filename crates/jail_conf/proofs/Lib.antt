@@ -1,5 +1,7 @@
 pub mod AcceptedLemmas
 pub mod ActionLemmas
+mod AddressLemmas
+mod BoundLemmas
 pub mod DistinctLemmas
 pub mod EachLemmas
 pub mod EnabledLemmas
@@ -7,6 +9,7 @@ pub mod FaultLemmas
 pub mod FewLemmas
 pub mod FilterLemmas
 pub mod GoodLemmas
+mod ItemLemmas
 mod ItemRows
 pub mod LaneLemmas
 pub mod ListedLemmas
@@ -14,11 +17,13 @@ pub mod NextLemmas
 pub mod NumberLemmas
 pub mod OptionLemmas
 pub mod PartLemmas
+mod PatternBounds
 pub mod PlaceLemmas
 pub mod RunLemmas
 pub mod SecondLemmas
 pub mod SettingsLemmas
 pub mod SourceLemmas
+pub mod StorableLemmas
 pub mod TermLemmas
 pub mod TrimLemmas
 pub mod WatchLemmas

@@ -1,14 +1,14 @@
 -- The next jail, step by step.
-use Rattle.std.proofs.Common.{◌≡◌, ℕ, Bool, true, false, List, length, Option, None, Some, Result, Ok, Err, refl, sym, subst}
+use Rattle.std.proofs.Common.{◌≡◌, true, false, List, length, None, Some, Ok, Err, refl}
 use Rattle.std.specs.Prelude.{sum_by}
 use Rattle.f2b_base.specs.declared.jail.JailDef.{JailDef}
 use Rattle.jail_conf.specs.declared.conf_error.ConfError.{ConfError}
 use Rattle.jail_conf.specs.declared.fail.Fail.{Fail}
 use Rattle.jail_conf.specs.declared.source.Source.{Source}
-use Rattle.jail_conf.specs.Conf.{is_enabled, if_enabled, patterns_in, next_jail}
+use Rattle.jail_conf.specs.Conf.{is_enabled, patterns_in, next_jail}
 use Rattle.jail_conf.specs.Jails.{jail_of}
 use Rattle.jail_conf.specs.Sources.{Bases}
-use Rattle.jail_conf.specs.Then.{◌>>=◌, Gives}
+use Rattle.jail_conf.specs.Then.{Gives}
 use Rattle.jail_conf.proofs.FaultLemmas.{first_fails, first_is_there, first_is}
 
 pub next_enabled_fails : (bases : Bases) (jail : Source) (before : List JailDef) (fail : Fail ConfError) → Gives (is_enabled jail (length before)) (Err fail) →

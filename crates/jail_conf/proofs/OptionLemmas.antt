@@ -1,6 +1,6 @@
 -- How a name's options are read, part by part.
-use Rattle.std.proofs.Common.{◌≡◌, ◌≢◌, ℕ, suc, ◌+◌, ◌<◌, Bool, true, false, cond, not, ◌==◌, ◌&&◌, ◌||◌, List, [], ◌∷◌, ◌++◌, length, drop, codes, subst, length-drop, get_or, slice_index, unwrap_or, ◌-◌, length-append, ◌≤◌, Option, None, Some, IfNone, IfSome, refl, sym, ap, ◌∙◌, append_assoc, ne_eqb, arith}
-use Rattle.std.specs.List.{list_all, prefix_len, position_or_len}
+use Rattle.std.proofs.Common.{◌≡◌, ◌≢◌, ℕ, suc, ◌+◌, ◌<◌, Bool, true, false, cond, not, ◌==◌, ◌||◌, List, [], ◌∷◌, ◌++◌, length, drop, codes, subst, length-drop, get_or, slice_index, unwrap_or, length-append, ◌≤◌, Option, None, Some, IfNone, IfSome, refl, sym, ap, ◌∙◌, append_assoc, ne_eqb, arith}
+use Rattle.std.specs.List.{prefix_len, position_or_len}
 use denote.Bor.{Bor}
 use Rattle.std.specs.Option.{MatchOption}
 use Rattle.std.proofs.lemmas.List.Sums.{position_or_len_is}
@@ -10,7 +10,7 @@ use Rattle.std.proofs.lemmas.Bool.{and_parts}
 use Rattle.std.proofs.lemmas.Bool.Decides.{nat_tests}
 use Rattle.ini_interp.specs.Lines.{is_blank, trimmed_start, trimmed_end, trimmed}
 use Rattle.ini_interp.specs.Sections.{Items}
-use Rattle.jail_conf.specs.Options.{Place, Outside, Key, Value, Plain, Quoted, Closed, Nowhere, Reading, read_byte, outcome, options_from, is_quote, ends_value, behind_key, behind_value, behind, begins_plain, IsPlain, opens, groups, ReadsNothing, ReadsAs, ReadsOption}
+use Rattle.jail_conf.specs.Options.{Place, Outside, Key, Value, Plain, Quoted, Closed, Nowhere, read_byte, outcome, options_from, is_quote, ends_value, behind_value, behind, begins_plain, IsPlain, opens, groups, ReadsNothing, ReadsAs, ReadsOption}
 use Rattle.jail_conf.specs.declared.options.Given.{Given}
 use Rattle.jail_conf.specs.Sources.{percents_doubled}
 use Rattle.jail_conf.specs.Times.{begins_with}

@@ -1,14 +1,13 @@
 -- What is read as a name with options is written as one.
-use Rattle.std.proofs.Common.{◌≡◌, ◌≢◌, ℕ, zero, suc, ◌+◌, ◌<◌, ◌≤◌, Bool, true, false, cond, not, ◌==◌, ◌||◌, List, [], ◌∷◌, ◌++◌, length, take, drop, codes, Option, None, Some, refl, sym, ap, subst, ◌∙◌, append_assoc, length-append, ne_eqb, arith}
-use Rattle.std.specs.List.{list_all, prefix_len, position_or_len, before_first}
+use Rattle.std.proofs.Common.{◌≡◌, ◌≢◌, ℕ, zero, suc, ◌+◌, ◌<◌, ◌≤◌, Bool, true, false, cond, not, ◌==◌, List, [], ◌∷◌, ◌++◌, length, take, drop, codes, Option, None, Some, refl, sym, ap, subst, ◌∙◌, append_assoc, length-append, arith}
+use Rattle.std.specs.List.{prefix_len, position_or_len, before_first}
 use Rattle.std.specs.Str.{str_to_ascii_lowercase}
-use Rattle.std.proofs.lemmas.Bool.{and_parts}
 use Rattle.std.proofs.lemmas.Bool.Decides.{nat_tests}
 use Rattle.std.proofs.lemmas.List.{append-nil, take-append-drop}
 use Rattle.jail_conf.specs.declared.options.Named.{Named}
 use Rattle.ini_interp.specs.Lines.{is_blank, trimmed, trimmed_start}
 use Rattle.ini_interp.specs.Sections.{Items}
-use Rattle.jail_conf.specs.Options.{Place, Outside, Key, Value, Plain, Quoted, Closed, Nowhere, read_byte, options_from, is_quote, ends_value, behind_value, begins_plain, IsPlain, opens, from_first, if_named, groups, named}
+use Rattle.jail_conf.specs.Options.{Outside, Key, Value, Quoted, Closed, Nowhere, options_from, is_quote, ends_value, behind_value, IsPlain, opens, from_first, if_named, groups, named}
 use Rattle.jail_conf.specs.Times.{begins_with}
 use Rattle.jail_conf.specs.Words.{is_among_bytes, HasNone, is_empty}
 use Rattle.jail_conf.specs.WrittenOptions.{AreBlanks, IsValue, plain, quoted, IsKey, AreOptions, last, more, AreGroups, none, group, IsNamed}

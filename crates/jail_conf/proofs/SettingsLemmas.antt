@@ -1,15 +1,14 @@
 -- What a configuration comes to, step by step.
-use Rattle.std.proofs.Common.{◌≡◌, ℕ, List, [], Result, Ok, Err, codes, refl, sym, ap, subst}
+use Rattle.std.proofs.Common.{◌≡◌, ℕ, List, [], Ok, Err, codes, refl}
 use Rattle.f2b_base.specs.declared.jail.JailDef.{JailDef}
 use Rattle.ini_interp.specs.Sections.{Sections}
 use Rattle.jail_conf.specs.declared.conf_error.ConfError.{ConfError}
 use Rattle.jail_conf.specs.declared.fail.Fail.{Fail}
-use Rattle.jail_conf.specs.declared.settings.Settings.{Settings}
 use Rattle.jail_conf.specs.Conf.{settings_in, jails_behind, jail_names}
 use Rattle.jail_conf.specs.Sources.{Bases, sections_of, of_server, own}
 use Rattle.jail_conf.specs.Table as table
-use Rattle.jail_conf.specs.Then.{◌>>=◌, Gives}
-use Rattle.jail_conf.proofs.FaultLemmas.{first_fails, first_is_there, first_is}
+use Rattle.jail_conf.specs.Then.{Gives}
+use Rattle.jail_conf.proofs.FaultLemmas.{first_fails, first_is_there}
 
 pub server_fails : (bases : Bases) (fail : Fail ConfError) → Gives (sections_of bases (codes "fail2ban")) (Err fail) → Gives (settings_in bases) (Err fail)
 unfolding settings_in

@@ -1,5 +1,5 @@
 -- What goes into a source: an option with its percent signs doubled, and the names of a scope.
-use Rattle.std.proofs.Common.{◌≡◌, ℕ, true, List, [], ◌∷◌, ◌++◌, Result, Ok, Err, codes, refl, sym, ap, ◌∙◌, append_assoc}
+use Rattle.std.proofs.Common.{◌≡◌, ℕ, true, List, [], ◌∷◌, ◌++◌, Result, Ok, Err, codes, sym, ap, ◌∙◌, append_assoc}
 use Rattle.std.specs.Prelude.{OnOk}
 use Rattle.jail_conf.specs.Sources.{percents_doubled, in_definition}
 use Rattle.jail_conf.specs.Words.{is_among_bytes, HasNone}

@@ -14,8 +14,7 @@ use Rattle.jail_conf.specs.Table.{logpath}
 use Rattle.jail_conf.specs.Then.{refuse_if, each}
 use Rattle.jail_conf.specs.Words.{full_lines}
 use Rattle.jail_conf.proofs.DistinctLemmas.{distinct_append, neither, none_of_both}
-use Rattle.jail_conf.proofs.GoodLemmas.{bind_ok, then_ok, own_good}
-use Rattle.jail_conf.proofs.LaneLemmas.{OfOk, was_not_refused}
+use Rattle.jail_conf.proofs.GoodLemmas.{OfOk, bind_ok, then_ok, own_good, was_not_refused}
 
 abbrev pub paths_of : List WatchDef → List (List ℕ)
 paths_of all = map (λ (watch : WatchDef). watch.path) all

@@ -1,6 +1,6 @@
 -- What is written as a name with options is read as it, and nothing else is.
-use Rattle.std.proofs.Common.{◌≡◌, ℕ, zero, suc, ◌+◌, ◌<◌, ◌≤◌, Bool, true, false, cond, not, ◌==◌, ◌||◌, List, [], ◌∷◌, ◌++◌, length, take, drop, codes, Option, None, Some, refl, sym, ap, subst, ◌∙◌, append_assoc, arith}
-use Rattle.std.specs.List.{list_all, prefix_len, position_or_len, before_first}
+use Rattle.std.proofs.Common.{◌≡◌, ℕ, suc, ◌+◌, true, false, cond, not, List, [], ◌∷◌, ◌++◌, length, take, drop, codes, None, Some, refl, sym, ap, ◌∙◌, append_assoc, arith}
+use Rattle.std.specs.List.{position_or_len, before_first}
 use Rattle.std.specs.Str.{str_to_ascii_lowercase}
 use Rattle.std.proofs.lemmas.Bool.{and_parts}
 use Rattle.std.proofs.lemmas.Bool.Decides.{nat_tests}
@@ -10,10 +10,10 @@ use Rattle.std.proofs.Math.Seq.{take-append_seam, drop-append_seam}
 use Rattle.ini_interp.specs.Lines.{is_blank, trimmed}
 use Rattle.ini_interp.specs.Sections.{Items}
 use Rattle.jail_conf.specs.declared.options.Named.{Named}
-use Rattle.jail_conf.specs.Options.{Place, Outside, Key, Value, Plain, Quoted, Closed, read_byte, options_from, is_quote, ends_value, behind_value, begins_plain, IsPlain, opens, from_first, if_named, groups, named, ReadsAs, ReadsOption}
-use Rattle.jail_conf.specs.Words.{is_among_bytes, HasNone, is_empty}
+use Rattle.jail_conf.specs.Options.{Place, Outside, Key, Value, Closed, read_byte, options_from, ends_value, behind_value, IsPlain, opens, from_first, groups, named, ReadsAs, ReadsOption}
+use Rattle.jail_conf.specs.Words.{is_among_bytes, HasNone}
 use Rattle.jail_conf.specs.WrittenOptions.{AreBlanks, IsValue, plain, quoted, IsKey, AreOptions, last, more, AreGroups, none, group, IsNamed, NamesNothing}
-use Rattle.jail_conf.proofs.OptionLemmas.{step, outside_stays, value_stays, closed_stays, key_ends, quote_opens, quoted_ends, plain_ends, plain_stops, key_stops}
+use Rattle.jail_conf.proofs.OptionLemmas.{step, outside_stays, value_stays, closed_stays, key_ends, quote_opens, quoted_ends, plain_ends}
 
 -- ---- what is written is read
 

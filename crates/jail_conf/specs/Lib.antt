@@ -4,6 +4,7 @@ pub mod Choices
 pub mod Conf
 pub mod Dates
 pub mod Fails
+pub mod Helps
 pub mod Items
 pub mod Jails
 pub mod Laws
@@ -11,9 +12,11 @@ pub mod Logs
 pub mod Numbers
 pub mod Options
 pub mod Patterns
+pub mod Printed
 pub mod Readers
 pub mod Sources
 pub mod Table
+pub mod Texts
 pub mod Then
 pub mod Times
 pub mod Told

@@ -5,7 +5,7 @@ use Rattle.std.specs.Str.{str_to_ascii_lowercase}
 use Rattle.ini_interp.specs.Lines.{is_blank, trimmed}
 use Rattle.ini_interp.specs.Sections.{Items}
 use Rattle.jail_conf.specs.declared.options.Named.{Named}
-use Rattle.jail_conf.specs.Options.{is_quote, ends_value, begins_plain, IsPlain}
+use Rattle.jail_conf.specs.Options.{is_quote, IsPlain}
 use Rattle.jail_conf.specs.Words.{HasNone, is_empty}
 
 abbrev pub AreBlanks : List ℕ → Type 0

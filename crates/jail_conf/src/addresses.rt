@@ -3,7 +3,7 @@
 use crate::conf_error::ConfKind;
 use crate::each::each;
 use crate::fail::Fail;
-use crate::reading::Reading;
+use crate::reading::ReadsItem;
 use crate::words::words;
 use f2b_base::{Cidr, Seq};
 use std::alloc::Global;
@@ -12,7 +12,7 @@ use std::alloc::Global;
 #[derive(Drop)]
 struct Address;
 
-impl Reading<Cidr> for Address {
+impl ReadsItem<Cidr> for Address {
     ghost use Rattle.jail_conf.specs.Addresses.{address};
 
     ghost reading = { λ _. address };
@@ -29,7 +29,7 @@ impl Reading<Cidr> for Address {
 #[derive(Drop)]
 pub(crate) struct Addresses;
 
-impl Reading<Seq<Cidr>> for Addresses {
+impl ReadsItem<Seq<Cidr>> for Addresses {
     ghost use Rattle.jail_conf.specs.Addresses.{addresses};
 
     ghost reading = { λ _. addresses };

@@ -4,7 +4,7 @@ ghost use Rattle.jail_conf.specs.Choices.{truth};
 
 use crate::conf_error::ConfKind;
 use crate::fail::Fail;
-use crate::reading::Reading;
+use crate::reading::ReadsItem;
 use crate::words::{is_one_of, trim};
 use std::alloc::Global;
 
@@ -25,7 +25,7 @@ fn truth(word: &[u8]) -> Option<bool>
 #[derive(Drop)]
 pub(crate) struct Boolean;
 
-impl Reading<bool> for Boolean {
+impl ReadsItem<bool> for Boolean {
     ghost use Rattle.jail_conf.specs.Choices.{boolean};
 
     ghost reading = { λ _. boolean };
@@ -42,7 +42,7 @@ impl Reading<bool> for Boolean {
 #[derive(Drop)]
 pub(crate) struct OneOf(pub &'static str);
 
-impl Reading<()> for OneOf {
+impl ReadsItem<()> for OneOf {
     ghost use Rattle.jail_conf.specs.Choices.{one_of};
 
     ghost reading = { λ words. one_of words.0.now };
@@ -60,7 +60,7 @@ impl Reading<()> for OneOf {
 #[derive(Drop)]
 pub(crate) struct Nothing;
 
-impl Reading<()> for Nothing {
+impl ReadsItem<()> for Nothing {
     ghost use Rattle.jail_conf.specs.Choices.{nothing};
 
     ghost reading = { λ _. nothing };
@@ -78,7 +78,7 @@ impl Reading<()> for Nothing {
 #[derive(Drop)]
 pub(crate) struct OnlyFalse;
 
-impl Reading<()> for OnlyFalse {
+impl ReadsItem<()> for OnlyFalse {
     ghost use Rattle.jail_conf.specs.Choices.{only_false};
 
     ghost reading = { λ _. only_false };

@@ -3,6 +3,7 @@ ghost use Rattle.std.specs.Prelude.{◌≡◌, ◌≤◌, ◌+◌, [], length, s
 ghost use Rattle.std.specs.Char.{is_ascii_alphanumeric};
 ghost use Rattle.std.specs.List.{list_all};
 ghost use Rattle.f2b_model.specs.Sound.{AreFitDefs};
+ghost use Rattle.f2b_model.specs.Storable.{AreStorableDefs};
 ghost use Rattle.jail_conf.specs.Conf.{but_default, jail_names, is_enabled, patterns_in, next_jail, with_next, jails_behind, conf};
 ghost use Rattle.jail_conf.specs.Jails.{is_name_byte, is_jail_name};
 ghost use Rattle.jail_conf.specs.Laws.{AreWithinLimits};
@@ -18,6 +19,7 @@ use crate::sections::{section_names, sections_of};
 use crate::settings::Settings;
 use crate::source::Source;
 use crate::sources::{of_jail, of_server};
+use crate::texts::see;
 use f2b_base::{Defs, JailDef, NoMemory, Plain, Seq, Text, Tree};
 use ini_interp::{FileTable, Sections};
 use std::alloc::Global;
@@ -146,13 +148,14 @@ fn jails_in(
 
 /// What the files of a configuration come to, or the first refusal.
 ///
-/// What is accepted is fit for the model, and no more than a server may be given.
+/// What is accepted is fit for the model, no more than a server may be given, and within all bounds of what is stored.
 ///
 /// Reads no file and builds no pattern: paths may still have wildcards, and patterns their tags.
 pub fn conf(alloc: Global, tree: &Tree) -> Result<Settings, ConfFail>
     ensures defined { Gives (conf tree.now) result }
     ensures fit { IfOk result (λ settings. AreFitDefs settings.defs) }
     ensures limits { IfOk result (λ settings. AreWithinLimits settings.defs) }
+    ensures storable { IfOk result (λ settings. AreStorableDefs settings.defs) }
 {
     let files = FileTable::new(alloc, tree)?;
     let merged = sections_of(alloc, &files, "fail2ban")?;
@@ -163,8 +166,7 @@ pub fn conf(alloc: Global, tree: &Tree) -> Result<Settings, ConfFail>
     let sections = sections_of(alloc, &files, "jail")?;
     let names = jail_names(alloc, &sections)?;
     let jails = jails_in(alloc, &files, &sections, names.as_slice())?;
-    Ok(Settings {
-        defs: Defs { purge, jails },
-        socket,
-    })
+    let defs = Defs { purge, jails };
+    see(&defs);
+    Ok(Settings { defs, socket })
 }

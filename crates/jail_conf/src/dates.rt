@@ -4,7 +4,7 @@ ghost use Rattle.jail_conf.specs.Then.{Gives};
 
 use crate::conf_error::ConfKind;
 use crate::fail::Fail;
-use crate::reading::Reading;
+use crate::reading::ReadsItem;
 use date_words::is_date_pattern;
 use f2b_base::{DateSpec, Text};
 use std::alloc::Global;
@@ -29,7 +29,7 @@ fn refuse_unless_pattern(pattern: &str) -> Result<(), Fail<ConfKind>>
 #[derive(Drop)]
 pub(crate) struct Date;
 
-impl Reading<DateSpec> for Date {
+impl ReadsItem<DateSpec> for Date {
     ghost use Rattle.jail_conf.specs.Dates.{date};
 
     ghost reading = { λ _. date };

@@ -3,12 +3,12 @@ ghost use Rattle.jail_conf.specs.Then.{Gives, each};
 
 use crate::conf_error::ConfKind;
 use crate::fail::Fail;
-use crate::reading::Reading;
+use crate::reading::ReadsItem;
 use f2b_base::{Seq, Text};
 use std::alloc::Global;
 
 /// What each of the texts is read as, or what is wrong with the first that is refused.
-pub(crate) fn each<A: Drop, R: Reading<A>>(
+pub(crate) fn each<A: Drop, R: ReadsItem<A>>(
     alloc: Global,
     reading: &R,
     texts: &[Text],

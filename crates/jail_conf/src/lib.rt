@@ -28,6 +28,9 @@ mod options;
 #[cfg(test)]
 mod options_tests;
 mod patterns;
+mod printed;
+#[cfg(test)]
+mod printed_tests;
 mod reading;
 mod rule;
 mod seconds;
@@ -38,6 +41,7 @@ mod sources;
 mod terms;
 #[cfg(test)]
 mod tests;
+mod texts;
 mod times;
 mod unsupported;
 mod words;

@@ -9,6 +9,7 @@ fn tells_faults_of_files(rt: HostRuntime) -> Result<(), Fail> {
     for (jail, want) in [
         ("x = 1\n", "jail.conf|||Ini(NoSection(1))"),
         ("[j]\nx\n", "jail.conf|||Ini(NoDelimiter(2))"),
+        ("[j]\n x = 1\n", "jail.conf|||Ini(Indent(2))"),
         (
             "[INCLUDES]\nbefore = ../jail.conf\n",
             "jail.conf|||MissingInclude(\"../jail.conf\")",
@@ -92,5 +93,46 @@ fn takes_512_patterns(rt: HostRuntime) -> Result<(), Fail> {
     ];
     let got = told(rt.alloc(), more.as_slice())?;
     assert_eq!(rt; got.as_str(), "jail.conf|k|ignoreregex|TooMany");
+    Ok(())
+}
+
+/// A jail with an item of so many lines, each this text and its number.
+fn jail_of_lines(
+    alloc: Global,
+    item: &str,
+    line: &str,
+    end: &str,
+    count: u32,
+) -> Result<String, Fail> {
+    let mut jail = format!(in alloc; "[j]\nenabled = on\n{item} =\n")?;
+    for number in 0..count {
+        let listed = format!(in alloc; " {line}{number}{end}\n")?;
+        jail.push_str(listed.as_str())?;
+    }
+    Ok(jail)
+}
+
+#[test]
+fn takes_64_logs(rt: HostRuntime) -> Result<(), Fail> {
+    for (count, want) in [(64, "read"), (65, "jail.conf|j|logpath|TooMany")] {
+        let jail = jail_of_lines(rt.alloc(), "logpath", "/var/log/", "", count)?;
+        let files = [("jail.conf", jail.as_str())];
+        let got = told(rt.alloc(), files.as_slice())?;
+        assert_eq!(rt; got.as_str(), want);
+    }
+    Ok(())
+}
+
+#[test]
+fn takes_16_actions(rt: HostRuntime) -> Result<(), Fail> {
+    for (count, want) in [(16, "read"), (17, "jail.conf|j|action|TooMany")] {
+        let jail = jail_of_lines(rt.alloc(), "action", "a[actname=a", "]", count)?;
+        let files = [
+            ("action.d/a.conf", "[Definition]\nactionban = ban\n"),
+            ("jail.conf", jail.as_str()),
+        ];
+        let got = told(rt.alloc(), files.as_slice())?;
+        assert_eq!(rt; got.as_str(), want);
+    }
     Ok(())
 }

@@ -7,7 +7,7 @@ ghost use Rattle.jail_conf.specs.Words.{last_word, before_last_word};
 use crate::conf_error::ConfKind;
 use crate::each::each;
 use crate::fail::Fail;
-use crate::reading::Reading;
+use crate::reading::ReadsItem;
 use crate::words::{full_lines, is_blank, trim};
 use f2b_base::{NoMemory, Plain, Seq, Text, WatchDef};
 use std::alloc::Global;
@@ -71,7 +71,7 @@ fn watch(alloc: Global, path: &str, tail: bool) -> Result<WatchDef, Fail<ConfKin
 #[derive(Drop)]
 struct LogLine;
 
-impl Reading<WatchDef> for LogLine {
+impl ReadsItem<WatchDef> for LogLine {
     ghost reading = { λ _. watch_of };
 
     fn read(&self, alloc: Global, line: &str) -> Result<WatchDef, Fail<ConfKind>> {
@@ -121,7 +121,7 @@ const MOST_WATCHES: usize = 64;
 #[derive(Drop)]
 pub(crate) struct Watches;
 
-impl Reading<Seq<WatchDef>> for Watches {
+impl ReadsItem<Seq<WatchDef>> for Watches {
     ghost use Rattle.jail_conf.specs.Logs.{watches};
 
     ghost reading = { λ _. watches };

@@ -6,7 +6,7 @@ ghost use Rattle.jail_conf.specs.Words.{number, if_between};
 use crate::conf_error::ConfKind;
 use crate::each::each;
 use crate::fail::Fail;
-use crate::reading::Reading;
+use crate::reading::ReadsItem;
 use crate::words::{number, trim, words};
 use f2b_base::Seq;
 use std::alloc::Global;
@@ -27,7 +27,7 @@ pub(crate) struct Number {
     ghost below_greatest: { most < 2 ^ 64 - 1 },
 }
 
-impl Reading<u64> for Number {
+impl ReadsItem<u64> for Number {
     ghost use Rattle.jail_conf.specs.Numbers.{number_between};
 
     ghost reading = { λ bounds. number_between bounds.least bounds.most };
@@ -44,7 +44,7 @@ impl Reading<u64> for Number {
 #[derive(Drop)]
 pub(crate) struct OnlyOne;
 
-impl Reading<()> for OnlyOne {
+impl ReadsItem<()> for OnlyOne {
     ghost use Rattle.jail_conf.specs.Numbers.{only_one};
 
     ghost reading = { λ _. only_one };
@@ -88,7 +88,7 @@ fn thousandths(text: &str) -> Option<u64>
 #[derive(Drop)]
 pub(crate) struct Factor;
 
-impl Reading<u64> for Factor {
+impl ReadsItem<u64> for Factor {
     ghost use Rattle.jail_conf.specs.Numbers.{factor};
 
     ghost reading = { λ _. factor };
@@ -108,7 +108,7 @@ const MOST_MULTIPLIERS: usize = 64;
 #[derive(Drop)]
 pub(crate) struct Multipliers;
 
-impl Reading<Seq<u64>> for Multipliers {
+impl ReadsItem<Seq<u64>> for Multipliers {
     ghost use Rattle.jail_conf.specs.Numbers.{multipliers};
 
     ghost reading = { λ _. multipliers };

@@ -4,7 +4,7 @@ use crate::conf_error::ConfKind;
 use crate::fail::Fail as Refusal;
 use crate::options::read_named;
 use crate::patterns::{Patterns, Prefix};
-use crate::reading::Reading;
+use crate::reading::ReadsItem;
 use f2b_base::{NoMemory, Text};
 use std::alloc::Global;
 use std::test::Fail;

@@ -8,7 +8,7 @@ ghost use Rattle.jail_conf.specs.Then.{Gives};
 
 use crate::conf_error::ConfKind;
 use crate::fail::Fail;
-use crate::reading::Reading;
+use crate::reading::ReadsItem;
 use crate::words::{cut, full_lines};
 use f2b_base::{NoMemory, Seq, Text};
 use host_ident::hosts;
@@ -217,7 +217,7 @@ pub(crate) struct Patterns {
     pub before: u64,
 }
 
-impl Reading<Seq<Text>> for Patterns {
+impl ReadsItem<Seq<Text>> for Patterns {
     ghost use Rattle.jail_conf.specs.Patterns.{patterns_in};
 
     ghost reading = { λ these. patterns_in these.needs_host these.before };
@@ -232,7 +232,7 @@ impl Reading<Seq<Text>> for Patterns {
 #[derive(Drop)]
 pub(crate) struct Prefix;
 
-impl Reading<Option<Text>> for Prefix {
+impl ReadsItem<Option<Text>> for Prefix {
     ghost use Rattle.jail_conf.specs.Patterns.{prefix};
 
     ghost reading = { λ _. prefix };

@@ -6,7 +6,7 @@ use f2b_base::Text;
 use std::alloc::Global;
 
 /// A way to read the text of an item.
-pub(crate) trait Reading<A> {
+pub(crate) trait ReadsItem<A> {
     ghost use Rattle.std.specs.Prelude.{ℕ, List, Result};
     ghost use Rattle.jail_conf.specs.declared.conf_error.ConfKind.{ConfKind};
     ghost use Rattle.jail_conf.specs.Then.{Gives};
@@ -22,7 +22,7 @@ pub(crate) trait Reading<A> {
 #[derive(Drop)]
 pub(crate) struct AsWritten;
 
-impl Reading<Text> for AsWritten {
+impl ReadsItem<Text> for AsWritten {
     ghost use Rattle.jail_conf.specs.Readers.{as_written};
 
     ghost reading = { λ _. as_written };

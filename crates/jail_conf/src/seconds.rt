@@ -4,7 +4,7 @@ ghost use Rattle.jail_conf.specs.Times.{magnitude, negated, signed, time_word, c
 
 use crate::conf_error::ConfKind;
 use crate::fail::Fail;
-use crate::reading::Reading;
+use crate::reading::ReadsItem;
 use crate::terms::sum;
 use crate::words::trim;
 use std::alloc::Global;
@@ -68,7 +68,7 @@ pub(crate) struct Seconds {
     pub least: u64,
 }
 
-impl Reading<u64> for Seconds {
+impl ReadsItem<u64> for Seconds {
     ghost use Rattle.jail_conf.specs.Times.{seconds_from};
 
     ghost reading = { λ bound. seconds_from bound.least };
@@ -85,7 +85,7 @@ impl Reading<u64> for Seconds {
 #[derive(Drop)]
 pub(crate) struct Span;
 
-impl Reading<i64> for Span {
+impl ReadsItem<i64> for Span {
     ghost use Rattle.jail_conf.specs.Times.{span};
 
     ghost reading = { λ _. span };
@@ -102,7 +102,7 @@ impl Reading<i64> for Span {
 #[derive(Drop)]
 pub(crate) struct Jitter;
 
-impl Reading<u64> for Jitter {
+impl ReadsItem<u64> for Jitter {
     ghost use Rattle.jail_conf.specs.Times.{jitter};
 
     ghost reading = { λ _. jitter };

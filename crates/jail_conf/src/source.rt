@@ -8,7 +8,7 @@ ghost use Rattle.jail_conf.specs.Told.{IsRefusal, IsTold};
 
 use crate::conf_error::{ConfError, ConfFail, ConfKind};
 use crate::fail::Fail;
-use crate::reading::{AsWritten, Reading};
+use crate::reading::{AsWritten, ReadsItem};
 use f2b_base::{NoMemory, Plain, Seq, Text};
 use ini_interp::{Sections, value};
 use std::alloc::Global;
@@ -44,7 +44,7 @@ impl Source {
     }
 
     /// What the text of an item is read as, if it is there.
-    fn found<A: Drop, R: Reading<A>>(
+    fn found<A: Drop, R: ReadsItem<A>>(
         &self,
         alloc: Global,
         tags: &Source,
@@ -108,7 +108,7 @@ impl Source {
     }
 
     /// What an item is read as, if it is there, with tags of another source.
-    fn looked_up<A: Drop, R: Reading<A>>(
+    fn looked_up<A: Drop, R: ReadsItem<A>>(
         &self,
         alloc: Global,
         tags: &Source,
@@ -124,7 +124,7 @@ impl Source {
     }
 
     /// What an item comes to, or the default where it is not there.
-    pub(crate) fn item<A: Drop, R: Reading<A>>(
+    pub(crate) fn item<A: Drop, R: ReadsItem<A>>(
         &self,
         alloc: Global,
         name: &str,
@@ -138,7 +138,7 @@ impl Source {
     }
 
     /// The list that an item comes to, which has nothing in it where the item is not there.
-    pub(crate) fn list<A: Drop, R: Reading<Seq<A>>>(
+    pub(crate) fn list<A: Drop, R: ReadsItem<Seq<A>>>(
         &self,
         alloc: Global,
         name: &str,
@@ -157,7 +157,7 @@ impl Source {
     }
 
     /// What an item of a jail comes to, or that of its filter where it is not there. Tags in it stand for items of the filter.
-    pub(crate) fn item_or<A: Drop, R: Reading<A>>(
+    pub(crate) fn item_or<A: Drop, R: ReadsItem<A>>(
         &self,
         alloc: Global,
         filter: &Source,
@@ -175,7 +175,7 @@ impl Source {
     }
 
     /// The list that an item of a jail comes to, or that of its filter, which has nothing in it where neither is there.
-    pub(crate) fn list_or<A: Drop, R: Reading<Seq<A>>>(
+    pub(crate) fn list_or<A: Drop, R: ReadsItem<Seq<A>>>(
         &self,
         alloc: Global,
         filter: &Source,

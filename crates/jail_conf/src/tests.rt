@@ -6,7 +6,7 @@ use crate::conf_error::ConfKind;
 use crate::dates::Date;
 use crate::fail::Fail as Refusal;
 use crate::numbers::{Factor, Multipliers, Number, OnlyOne};
-use crate::reading::Reading;
+use crate::reading::ReadsItem;
 use crate::seconds::{Jitter, Seconds, Span, str2sec};
 use crate::source::Source;
 use crate::zones::Zone;

@@ -5,7 +5,7 @@ ghost use Rattle.jail_conf.specs.Zones.{offset, behind_name, zone_of};
 use crate::conf_error::ConfKind;
 use crate::fail::Fail;
 use crate::numbers::number_between;
-use crate::reading::Reading;
+use crate::reading::ReadsItem;
 use crate::words::trim;
 use std::alloc::Global;
 
@@ -52,7 +52,7 @@ fn zone_of(text: &str) -> Option<i64>
 #[derive(Drop)]
 pub(crate) struct Zone;
 
-impl Reading<i64> for Zone {
+impl ReadsItem<i64> for Zone {
     ghost use Rattle.jail_conf.specs.Zones.{zone};
 
     ghost reading = { λ _. zone };

@@ -1,5 +1,5 @@
 //! `Core` and its calls.
-ghost use Rattle.std.specs.Prelude.{◌≡◌, ◌≢◌, ◌↔◌, ◌≤◌, ◌&&◌, not, map, option_and_then, option_copied, option_map, IsTrue, IfOk};
+ghost use Rattle.std.specs.Prelude.{◌≡◌, ◌≢◌, ◌↔◌, ◌≤◌, ◌&&◌, not, option_and_then, option_copied, option_map, IsTrue, IfOk};
 ghost use Rattle.std.specs.Option.{option_map_or};
 ghost use Rattle.f2b_base.specs.declared.job.UpLane.{UpLane};
 ghost use Rattle.f2b_model.specs.Checks.{check_of};
@@ -14,7 +14,7 @@ ghost use Rattle.f2b_model.specs.Whole.{is_whole_spent, step_now, told_now};
 ghost use Rattle.f2b_model.specs.declared.jail_now.JailNow.{JailNow};
 ghost use Rattle.f2b_model.specs.Configured.{configured_now};
 ghost use Rattle.f2b_model.specs.Bounds.{IsTakenInput};
-ghost use Rattle.jail_rooms.specs.Shown.{ban_from, lately_in, totals_of};
+ghost use Rattle.jail_rooms.specs.Shown.{ban_from, defs_of, lately_in, totals_of};
 ghost use Rattle.lane_moves.specs.CheckText.{check_text_of};
 
 use crate::after::{Aftermath, after};
@@ -22,10 +22,13 @@ use action_queue::Lanes;
 use f2b_base::{Ban, Defs, Input, JailDef, NoMemory, Plain, Seq, Text, UpLane, View};
 use f2b_model::Told;
 use jail_moves::Totals;
-use jail_rooms::{Jails, same_defs};
+use jail_rooms::Jails;
 use lane_moves::LaneBook;
 use std::alloc::Global;
 use std::marker::Model;
+
+/// For how many seconds a sweep that left nothing to forget rests.
+const SWEEP_REST: u64 = 16;
 
 /// The state of the server: its jails, and its lanes of jobs.
 #[derive(Drop)]
@@ -33,6 +36,8 @@ pub struct Core {
     alloc: Global,
     jails: Jails,
     actions: LaneBook,
+    /// Before this moment no sweep is due, in seconds since 1970.
+    next_sweep: u64,
 }
 
 impl Model for Core {
@@ -66,7 +71,7 @@ fn stays(same: bool, stopping: bool, idle: bool, just: bool) -> bool
 
 impl Core {
     /// The state of these jails and lanes.
-    fn of_parts(alloc: Global, jails: Jails, actions: LaneBook) -> Core
+    fn of_parts(alloc: Global, jails: Jails, actions: LaneBook, next_sweep: u64) -> Core
         requires { AreWatched jails }
         ensures parts { result ≡ record { jails = jails; lanes = actions } }
         ensures few { result.lanes.next_job ≤ most_numbers }
@@ -77,6 +82,7 @@ impl Core {
             alloc,
             jails,
             actions,
+            next_sweep,
         }
     }
 
@@ -89,6 +95,7 @@ impl Core {
             alloc,
             jails: Jails::empty(alloc),
             actions: LaneBook::new(alloc),
+            next_sweep: 0,
         }
     }
 
@@ -105,6 +112,7 @@ impl Core {
             alloc,
             jails: Jails::of(alloc, view)?,
             actions: LaneBook::of(alloc, &view.up, view.stopping, &view.jobs, view.next_job)?,
+            next_sweep: 0,
         })
     }
 
@@ -115,7 +123,7 @@ impl Core {
     {
         Ok(View {
             at: self.jails.now(),
-            defs: self.jails.defs().copy()?,
+            defs: self.jails.defs()?,
             stopping: self.actions.is_stopping(),
             up: copies(self.alloc, self.actions.up())?,
             jails: self.jails.views()?,
@@ -164,9 +172,9 @@ impl Core {
         self.actions.check_text(job)
     }
 
-    /// The definitions. Takes no memory.
-    pub fn defs(&self) -> &Defs
-        ensures { result.now ≡ record { purge = self.now.jails.purge; jails = map (λ (j : JailNow). j.definition) self.now.jails.jails } }
+    /// A copy of the definitions.
+    pub fn defs(&self) -> Result<Defs, NoMemory>
+        ensures { IfOk result (λ defs. defs ≡ defs_of self.now.jails) }
     {
         self.jails.defs()
     }
@@ -202,13 +210,22 @@ impl Core {
     }
 
     /// Forgets, in all jails together, the failures of up to `most` addresses that have none which still matters by the last failure that
-    /// was counted in their jail: called once a turn, it gives the memory of a burst back once a later failure counts. The state stays as
-    /// it is; that something is forgotten is said of each jail's room alone. Where nothing is old it mostly takes no time by the
-    /// addresses. Takes no memory.
-    pub fn sweep(&mut self, most: u64)
-        ensures { self.new ≡ self.old }
+    /// was counted in their jail: called once a turn, it gives the memory of a burst back once a later failure counts. Once nothing is
+    /// left to forget it rests for some seconds, so that steady failures do not make each turn look at each address. The state stays as it
+    /// is. Gives of how many addresses failures were forgotten. Takes no memory.
+    pub fn sweep(&mut self, most: u64) -> u64
+        ensures state { self.new ≡ self.old }
+        ensures most { result ≤ most }
     {
-        self.jails.sweep(most);
+        let now = self.jails.now();
+        if now < self.next_sweep {
+            return 0;
+        }
+        let forgotten = self.jails.sweep(most);
+        if forgotten < most {
+            self.next_sweep = now.saturating_add(SWEEP_REST);
+        }
+        forgotten
     }
 
     /// Whether the serials of bans or the ids of jobs are used up. Nothing happens any more then. Takes no memory.
@@ -224,7 +241,7 @@ impl Core {
         requires { AreFitDefs defs.now }
         ensures { IsTrue result ↔ (configured_now defs.now self.now ≢ self.now) }
     {
-        let same = same_defs(defs, self.jails.defs());
+        let same = self.jails.has_defs(defs);
         let stopping = self.actions.is_stopping();
         let idle = self.jails.is_any_idle();
         let just = self.actions.are_just(defs);
@@ -248,6 +265,7 @@ impl Core {
             alloc,
             jails,
             actions,
+            next_sweep,
         } = self;
         let jails = jails.raised(&mut told, input.secs)?;
         let Aftermath {
@@ -256,7 +274,7 @@ impl Core {
             told: lanes,
         } = after(alloc, jails, actions, &mut told, &input.what, input.word)?;
         let jails = jails.dropped();
-        let core = Core::of_parts(alloc, jails, actions);
+        let core = Core::of_parts(alloc, jails, actions, next_sweep);
         Ok((core, Told { jails: told, lanes }))
     }
 }

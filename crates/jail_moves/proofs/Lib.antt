@@ -9,6 +9,7 @@ pub mod WindowLists
 pub mod WindowEntries
 pub mod WindowCounts
 pub mod WindowLosses
+pub mod WindowAlone
 pub mod WindowTurns
 pub mod WindowReads
 pub mod LineLemmas

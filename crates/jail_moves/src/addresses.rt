@@ -178,6 +178,15 @@ fn take_out(
     }
 }
 
+/// The failures that lead to a ban where one is enough: this one.
+fn alone(alloc: Global, failure: Failure) -> Result<Seq<Failure>, NoMemory>
+    ensures { IfOk result (λ failures. failures ≡ failure ∷ []) }
+{
+    let mut failures = Seq::new(alloc);
+    failures.push(failure)?;
+    Ok(failures)
+}
+
 /// Counts a failure at a moment. Where its address is then full, its window is taken out, and those of its failures that are near
 /// the new one are given, by time, with their lines.
 pub fn count(
@@ -196,6 +205,10 @@ pub fn count(
     ensures err { OnErr result (windows.new.entries ≡ windows.old.entries) }
     ensures latest { (time : ℕ) → time ≤ failure.time → AreNotBefore time windows.old.entries → AreNotBefore time windows.new.entries }
 {
+    if maxretry == 1 {
+        // Each failure fills its address, so there are no windows, and none is made to be taken out again.
+        return Ok(Some(alone(alloc, failure)?));
+    }
     let addr = failure.addr;
     let time = failure.time;
     let full = enter(windows, alloc, findtime, maxretry, failure, now)?;

@@ -1,6 +1,6 @@
 -- When a configuration changes nothing: it gives the definitions that stand, no stop was asked for, no jail is idle, and just its lanes
 -- are up.
-use Rattle.std.proofs.Common.{◌≡◌, ℕ, ◌<◌, ◌≤◌, Bool, true, false, cond, not, ◌&&◌, ◌||◌, List, [], ◌∷◌, Option, Some, None, length, map, refl, sym, ◌∙◌, ap, ap₂, subst, arith, length-append}
+use Rattle.std.proofs.Common.{◌≡◌, ℕ, ◌<◌, ◌≤◌, Bool, true, false, cond, not, ◌&&◌, ◌||◌, List, [], ◌∷◌, Option, Some, None, map, refl, sym, ◌∙◌, ap, ap₂, subst, arith, length-append}
 use Rattle.std.specs.Prelude.{bytes_eq}
 use Rattle.std.specs.List.{filter, list_any}
 use Rattle.std.specs.Cmp.Lexicographic.{bytes_decides}
@@ -27,15 +27,14 @@ use Rattle.f2b_model.specs.Steps.{configured, done, find_jail, kept_or_fresh, mo
 use Rattle.f2b_model.specs.Watches.{place_in, watches_of}
 use Rattle.f2b_model.specs.Whole.{Now}
 use Rattle.f2b_model.proofs.ListLemmas.{by_test}
-use Rattle.jail_moves.specs.Rooms.{Contents}
 use Rattle.f2b_model.specs.Configured.{configured_now}
-use Rattle.jail_rooms.specs.Kept.{jails_in}
+use Rattle.jail_rooms.specs.Shown.{defs_of}
 
 -- ---- what is asked
 
 -- the definitions of a middle state
 abbrev pub defs_now : Now → Defs
-defs_now n = record { purge = n.jails.purge; jails = map (λ (j : JailNow). j.definition) n.jails.jails }
+defs_now n = defs_of n.jails
 
 -- a middle state is as these definitions make it
 pub record IsConfigured (defs : Defs) (n : Now) : Type 0 where
@@ -264,18 +263,3 @@ stays_configured defs n same =
       none_idle = sym (ap (list_any (λ (j : JailNow). j.idle)) jails) ∙ are_busy defs.jails js;
       just = lanes_were_just n.jails.at (held moves_now n.jails) after (lanes_of defs) n.lanes (ap (λ (l : Lanes (List Job)). l.next_job) lanes);
     }
-
--- ---- the jails of a core
-
--- their definitions are those beside which they are kept
-pub definitions_in : (ds : List JailDef) (cs : List Contents) → length cs ≡ length ds → map (λ (j : JailNow). j.definition) (jails_in ds cs) ≡ ds
-definitions_in [] cs same = refl
-definitions_in (d ∷ ds) [] same = absurd (omega arith)
-definitions_in (d ∷ ds) (c ∷ cs) same = ap (λ (es : List JailDef). d ∷ es) (definitions_in ds cs (omega arith))
-
--- and one is idle where what is kept of it says so
-pub idle_as_kept : (ds : List JailDef) (cs : List Contents) → length cs ≡ length ds → list_any (λ (j : JailNow). j.idle) (jails_in ds cs) ≡ list_any (λ (c : Contents). c.idle) cs
-idle_as_kept [] [] same = refl
-idle_as_kept [] (c ∷ cs) same = absurd (omega arith)
-idle_as_kept (d ∷ ds) [] same = absurd (omega arith)
-idle_as_kept (d ∷ ds) (c ∷ cs) same = ap (λ (b : Bool). c.idle || b) (idle_as_kept ds cs (omega arith))

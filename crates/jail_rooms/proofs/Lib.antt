@@ -1,11 +1,12 @@
 pub mod DoneLemmas
 pub mod ConfigureLemmas
-pub mod ConfigureRooms
+pub mod LeftLemmas
 pub mod MovedLemmas
 pub mod PlaceLemmas
 pub mod ReadLemmas
 pub mod StoredLemmas
 pub mod StorableLemmas
+pub mod TakeLemmas
 pub mod TakenLemmas
-pub mod ShownLemmas
+pub mod SameLemmas
 pub mod SweepLemmas

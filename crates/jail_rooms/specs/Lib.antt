@@ -1,8 +1,8 @@
 pub mod Moved
-pub mod Happened
+pub mod Acted
 pub mod Kept
-pub mod Left
 pub mod Places
 pub mod Stored
 pub mod Shown
 pub mod Stale
+pub mod Same

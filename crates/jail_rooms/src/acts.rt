@@ -1,12 +1,16 @@
-//! What an input does in one jail, and in the jail of a name: failures found in a log, and bans by command.
-ghost use Rattle.std.specs.Prelude.{◌≡◌, ◌≤◌, ◌<◌, ◌+◌, ◌^◌, ◌++◌, length, OnOk, IfOk};
+//! What an input does in its jail: failures found in a log, bans by command, and what commands change.
+ghost use Rattle.std.specs.Prelude.{◌≡◌, ◌≤◌, ◌<◌, ◌+◌, ◌^◌, ◌++◌, length, map, option_copied, OnOk, IfOk};
+ghost use Rattle.f2b_model.specs.Bounds.{IsBoundedWhat};
+ghost use Rattle.f2b_model.specs.Lists.{AllOf};
 ghost use Rattle.f2b_model.specs.Steps.{banned_in_turn, found_in_turn, moves_now, read_in_jail, in_jail};
 ghost use Rattle.f2b_model.specs.Told.{told_banned_in_turn, told_found_in_turn, told_read, told_in};
-ghost use Rattle.jail_rooms.specs.Happened.{acted, told_acted};
-ghost use Rattle.jail_rooms.specs.Kept.{jails_in, AreKept};
+ghost use Rattle.jail_rooms.specs.Acted.{acted, jail_named, told_acted};
+ghost use Rattle.jail_rooms.specs.Kept.{now_of, IsKept};
 ghost use Rattle.jail_moves.specs.Rooms.{jail_in, IsKeptJail};
 
-use crate::definitions::place_of;
+use crate::changes::change;
+use crate::jail::Jail;
+use crate::shown::place_of;
 use f2b_base::{Addr, Failure, JailDef, NoMemory, Place, Seq, Text, What};
 use f2b_model::Happening;
 use jail_moves::Room;
@@ -94,20 +98,20 @@ pub fn read(
     Ok(next)
 }
 
-/// What an input does in its jail, where it finds or bans there. An attempt is one failure now. Gives the next serial.
+/// What an input does in its jail. An attempt is one failure now. Gives the next serial.
 pub fn act(
     alloc: Global,
-    definition: &JailDef,
-    room: &mut Room,
+    jail: &mut Jail,
     told: &mut Seq<Happening>,
     what: &What,
     stamp: InputStamp,
 ) -> Result<u64, NoMemory>
-    requires kept { IsKeptJail stamp.at stamp.serial definition.now room.old }
+    requires kept { IsKept stamp.at stamp.serial jail.old }
     requires serial { stamp.serial ≤ 2 ^ 62 }
-    ensures jail { IfOk result (λ next. acted stamp.at stamp.word what.now stamp.serial (jail_in definition.now room.old) ≡ record { jail = jail_in definition.now room.new; next = next }) }
-    ensures told { OnOk result (told.new ≡ told.old ++ told_acted stamp.at stamp.word what.now stamp.serial (jail_in definition.now room.old)) }
-    ensures kept { IfOk result (λ next. IsKeptJail stamp.at next definition.now room.new) }
+    requires bounded { IsBoundedWhat what.now }
+    ensures jail { IfOk result (λ next. acted stamp.at stamp.word what.now stamp.serial (now_of jail.old) ≡ record { jail = now_of jail.new; next = next }) }
+    ensures told { OnOk result (told.new ≡ told.old ++ told_acted stamp.at stamp.word what.now stamp.serial (now_of jail.old)) }
+    ensures kept { IfOk result (λ next. IsKept stamp.at next jail.new) }
     ensures next { IfOk result (λ next. stamp.serial ≤ next) }
 {
     match what {
@@ -123,11 +127,17 @@ pub fn act(
                 place,
                 failures,
             };
-            let next = read(definition, room, told, &reading, stamp)?;
+            let next = read(&jail.definition, &mut jail.room, told, &reading, stamp)?;
             Ok(next)
         }
         What::Ban { addrs, .. } => {
-            let next = ban(definition, room, told, addrs.as_slice(), stamp)?;
+            let next = ban(
+                &jail.definition,
+                &mut jail.room,
+                told,
+                addrs.as_slice(),
+                stamp,
+            )?;
             Ok(next)
         }
         What::Attempt { addr, .. } => {
@@ -136,40 +146,52 @@ pub fn act(
                 time: stamp.at,
                 line: Text::new(alloc),
             };
-            let next = find(definition, room, told, &[failure], stamp)?;
+            let next = find(&jail.definition, &mut jail.room, told, &[failure], stamp)?;
             Ok(next)
         }
-        _ => Ok(stamp.serial),
+        what => {
+            change(alloc, jail, what)?;
+            Ok(stamp.serial)
+        }
     }
 }
 
-/// What is found or banned in the jail of a name, if there is one. Gives the next serial.
+/// The name of the jail of an input that is of one.
+pub fn jail_named(what: &What) -> Option<&Text>
+    ensures { option_copied result ≡ jail_named what.now }
+{
+    match what {
+        What::Read { jail, .. } => Some(jail),
+        What::Ban { jail, .. } => Some(jail),
+        What::Attempt { jail, .. } => Some(jail),
+        What::Ignore { jail, .. } => Some(jail),
+        What::Findtime { jail, .. } => Some(jail),
+        What::Bantime { jail, .. } => Some(jail),
+        What::Maxretry { jail, .. } => Some(jail),
+        What::Idle { jail, .. } => Some(jail),
+        _ => None,
+    }
+}
+
+/// What an input does in the jail of a name, if there is one: its place is found once. Gives the next serial.
 pub fn act_at(
     alloc: Global,
-    definitions: &[JailDef],
-    rooms: &mut [Room],
+    jails: &mut [Jail],
     told: &mut Seq<Happening>,
     name: &Text,
     what: &What,
     stamp: InputStamp,
 ) -> Result<u64, NoMemory>
-    requires kept { AreKept stamp.at stamp.serial definitions.now rooms.old }
+    requires kept { AllOf (IsKept stamp.at stamp.serial) jails.old }
     requires serial { stamp.serial ≤ 2 ^ 62 }
-    ensures jails { IfOk result (λ next. in_jail moves_now name.now (acted stamp.at stamp.word what.now) stamp.serial (jails_in definitions.now rooms.old)
-        ≡ record { jails = jails_in definitions.now rooms.new; next = next }) }
-    ensures told { OnOk result (told.new ≡ told.old ++ told_in moves_now name.now (told_acted stamp.at stamp.word what.now stamp.serial) (jails_in definitions.now rooms.old)) }
-    ensures kept { IfOk result (λ next. AreKept stamp.at next definitions.now rooms.new) }
+    requires bounded { IsBoundedWhat what.now }
+    ensures jails { IfOk result (λ next. in_jail moves_now name.now (acted stamp.at stamp.word what.now) stamp.serial (map now_of jails.old) ≡ record { jails = map now_of jails.new; next = next }) }
+    ensures told { OnOk result (told.new ≡ told.old ++ told_in moves_now name.now (told_acted stamp.at stamp.word what.now stamp.serial) (map now_of jails.old)) }
+    ensures kept { IfOk result (λ next. AllOf (IsKept stamp.at next) jails.new) }
 {
-    let place = place_of(definitions, name);
-    if place < definitions.len() {
-        let next = act(
-            alloc,
-            &definitions[place],
-            &mut rooms[place],
-            told,
-            what,
-            stamp,
-        )?;
+    let place = place_of(jails, name);
+    if place < jails.len() {
+        let next = act(alloc, &mut jails[place], told, what, stamp)?;
         return Ok(next);
     }
     Ok(stamp.serial)

@@ -1,6 +1,10 @@
 //! When two configurations are one, as a test whose clause says so: a derived `==` says nothing of a value that holds a list.
-ghost use Rattle.std.specs.Prelude.{◌≡◌, ◌↔◌, length, IsTrue};
+ghost use Rattle.std.specs.Prelude.{◌≡◌, ◌↔◌, length, map, IsTrue};
+ghost use Rattle.f2b_model.specs.declared.jail_now.JailNow.{JailNow};
+ghost use Rattle.jail_rooms.specs.Kept.{now_of};
+ghost use Rattle.jail_rooms.specs.Same.{are_same_defs};
 
+use crate::jail::Jail;
 use f2b_base::{ActionDef, BanRule, Cidr, Defs, JailDef, Seq, Text, WatchDef};
 
 /// A value of fields alone, of which it can be told whether another one is equal.
@@ -88,9 +92,32 @@ impl Same for JailDef {
     }
 }
 
-/// Whether two configurations are one. Takes no memory.
-pub fn same_defs(a: &Defs, b: &Defs) -> bool
+/// Whether these are the definitions of jails, in their order. Takes no memory.
+pub fn are_definitions(jails: &[Jail], definitions: &[JailDef]) -> bool
+    ensures { IsTrue result ↔ (definitions.now ≡ map (λ (j : JailNow). j.definition) (map now_of jails.now)) }
+{
+    if jails.len() != definitions.len() {
+        return false;
+    }
+    for (index, jail) in jails.iter().enumerate() {
+        if !definitions[index].same(&jail.definition) {
+            return false;
+        }
+    }
+    true
+}
+
+/// Whether all parts of two configurations are the same.
+fn same_parts(a: &Defs, b: &Defs) -> bool
     ensures { IsTrue result ↔ (a.now ≡ b.now) }
 {
     a.purge == b.purge && a.jails.same(&b.jails)
+}
+
+/// Whether two configurations are one. Takes no memory.
+pub fn same_defs(a: &Defs, b: &Defs) -> bool
+    ensures same { IsTrue result ↔ (a.now ≡ b.now) }
+    ensures told { result ≡ are_same_defs a.now b.now }
+{
+    same_parts(a, b)
 }

@@ -1,36 +1,40 @@
-//! `Jails`: the jails of the server, their definitions and what is kept of each.
-ghost use Rattle.std.specs.Prelude.{◌≡◌, ◌≤◌, ◌^◌, ◌∷◌, ◌++◌, [], length, map, max, option_copied, option_map, option_and_then, true, Some, None, OnOk, IfOk, IfSome, MatchOption};
+//! `Jails`: the jails of the server.
+ghost use Rattle.std.specs.Prelude.{◌≡◌, ◌≤◌, ◌^◌, ◌∷◌, ◌++◌, ◌↔◌, [], ℕ, List, cond, length, map, max, option_copied, option_map, option_and_then, true, IsTrue, OnOk, IfOk, IfSome};
 ghost use Rattle.std.specs.List.{list_any};
 ghost use Rattle.std.specs.Option.{option_map_or};
 ghost use Rattle.f2b_base.specs.declared.ban.Failure.{Failure};
 ghost use Rattle.f2b_base.specs.declared.input.What.TheVariants.{Config};
+ghost use Rattle.f2b_base.specs.declared.jail.Defs.{Defs};
 ghost use Rattle.f2b_base.specs.declared.view.JailView.{JailView};
-ghost use Rattle.f2b_model.specs.Active.{held, held_by, held_of};
+ghost use Rattle.f2b_model.specs.Active.{held, held_of};
 ghost use Rattle.f2b_model.specs.NowMoves.{dropped_now};
+ghost use Rattle.f2b_model.specs.Nows.{JailsNow};
 ghost use Rattle.f2b_model.specs.Sound.{AreFitDefs};
-ghost use Rattle.f2b_model.specs.Steps.{at_reading, done, each_jail, find_jail, is_ban_due, moves_now};
-ghost use Rattle.f2b_model.specs.Told.{told_done, told_each, told_ends};
+ghost use Rattle.f2b_model.specs.Steps.{at_jail, at_reading, done, each_jail, find_jail, is_ban_due, is_meant_jail, moves_now, unbanned};
+ghost use Rattle.f2b_model.specs.Told.{told_done, told_each, told_ends, told_in, told_unbanned};
 ghost use Rattle.f2b_base.specs.Limits.{default_purge, last_moment};
 ghost use Rattle.f2b_model.specs.StorableViews.{IsStorableView, taken_up};
 ghost use Rattle.f2b_model.specs.Views.{jail_view};
 ghost use Rattle.f2b_model.specs.Lists.{AllOf};
 ghost use Rattle.f2b_model.specs.declared.jail_now.JailNow.{JailNow};
 ghost use Rattle.f2b_model.specs.OfJails.{is_of_jails};
-ghost use Rattle.jail_rooms.specs.Kept.{jails_in};
 ghost use Rattle.f2b_model.specs.Bounds.{IsBoundedWhat, IsBounded};
-ghost use Rattle.jail_rooms.specs.Shown.{ban_from, lately_in, totals_of};
-ghost use Rattle.jail_moves.specs.Rooms.{jail_in, Contents, IsKeptJail};
+ghost use Rattle.jail_rooms.specs.Acted.{acted, told_acted};
+ghost use Rattle.jail_rooms.specs.Shown.{ban_from, defs_of, lately_in, totals_of};
 
-use crate::acts::InputStamp;
+use crate::acts::{InputStamp, act_at, jail_named};
 use crate::configure::configure;
-use crate::ends::{drop_old_bans, end_due_bans, is_ban_due};
-use crate::inputs::happen;
+use crate::ends::{drop_old_bans, end_due_bans, is_any_idle, is_ban_due, unban_jails};
+use crate::equality::are_definitions;
+use crate::jail::Jail;
 use crate::shown::jail_of;
-use crate::stored::{rooms_of, views};
+use crate::stored::{active_bans, definitions, jails_of, views};
 use crate::sweep::sweep_all;
-use f2b_base::{Ban, DEFAULT_PURGE, Defs, JailDef, JailView, NoMemory, Plain, Seq, View, What};
+use f2b_base::{
+    Addr, Ban, DEFAULT_PURGE, Defs, JailDef, JailView, NoMemory, Seq, Text, View, What,
+};
 use f2b_model::{Happening, JailBans};
-use jail_moves::{Room, Totals};
+use jail_moves::Totals;
 use std::alloc::Global;
 use std::marker::Model;
 
@@ -40,50 +44,26 @@ pub struct Jails {
     alloc: Global,
     /// The greatest moment so far.
     at: u64,
-    defs: Defs,
-    /// What is kept of each jail, in the order of the definitions.
-    rooms: Vec<Room>,
+    /// For how many seconds a ban that is over counts.
+    purge: u64,
+    /// The jails, in the order of the configuration.
+    jails: Vec<Jail>,
     /// The serial of the ban to come.
     next_ban: u64,
 }
 
 impl Model for Jails {
-    ghost use Rattle.std.specs.Prelude.{◌≤◌};
+    ghost use Rattle.std.specs.Prelude.{◌≤◌, map};
+    ghost use Rattle.f2b_model.specs.Lists.{AllOf};
     ghost use Rattle.f2b_model.specs.Nows.{JailsNow};
     ghost use Rattle.f2b_base.specs.Limits.{last_moment};
-    ghost use Rattle.jail_rooms.specs.Kept.{jails_in, AreKept};
+    ghost use Rattle.jail_rooms.specs.Kept.{now_of, IsKept};
 
     ghost Value = { JailsNow };
 
-    ghost view = { λ j. record { at = j.at; purge = j.defs.purge; jails = jails_in j.defs.jails j.rooms.items; next_ban = j.next_ban } };
+    ghost view = { λ j. record { at = j.at; purge = j.purge; jails = map now_of j.jails.items; next_ban = j.next_ban } };
 
-    ghost invariant = { λ j. (j.at ≤ last_moment) × AreKept j.at j.next_ban j.defs.jails j.rooms.items };
-}
-
-/// The active bans of each jail.
-fn active_bans(
-    definitions: &[JailDef],
-    rooms: &[Room],
-    alloc: Global,
-) -> Result<Vec<JailBans>, NoMemory>
-    requires { length rooms.now ≡ length definitions.now }
-    ensures { IfOk result (λ held. held_of held.items ≡ held_by moves_now (jails_in definitions.now rooms.now)) }
-{
-    let mut held = Vec::new(alloc);
-    for index in 0..rooms.len() {
-        held.push(JailBans {
-            jail: definitions[index].name.copy()?,
-            bans: rooms[index].bans()?,
-        })?;
-    }
-    Ok(held)
-}
-
-/// Whether the logs of some jail are not looked at.
-fn is_any_idle(rooms: &[Room]) -> bool
-    ensures { result ≡ list_any (λ (c : Contents). c.idle) rooms.now }
-{
-    rooms.iter().any(|room| room.is_idle())
+    ghost invariant = { λ j. (j.at ≤ last_moment) × AllOf (IsKept j.at j.next_ban) j.jails.items };
 }
 
 impl Jails {
@@ -94,11 +74,8 @@ impl Jails {
         Jails {
             alloc,
             at: 0,
-            defs: Defs {
-                purge: DEFAULT_PURGE,
-                jails: Seq::new(alloc),
-            },
-            rooms: Vec::new(alloc),
+            purge: DEFAULT_PURGE,
+            jails: Vec::new(alloc),
             next_ban: 0,
         }
     }
@@ -108,8 +85,7 @@ impl Jails {
         requires { IsStorableView view.now }
         ensures jails { IfOk result (λ jails. jails ≡ (taken_up view.now).jails) }
     {
-        let defs = view.defs.copy()?;
-        let rooms = rooms_of(
+        let jails = jails_of(
             alloc,
             view.defs.jails.as_slice(),
             view.jails.as_slice(),
@@ -118,8 +94,8 @@ impl Jails {
         Ok(Jails {
             alloc,
             at: view.at,
-            defs,
-            rooms,
+            purge: view.defs.purge,
+            jails,
             next_ban: view.next_ban,
         })
     }
@@ -139,57 +115,59 @@ impl Jails {
         self.next_ban
     }
 
-    /// The definitions. Takes no memory.
-    pub fn defs(&self) -> &Defs
-        ensures { result.now ≡ record { purge = self.now.purge; jails = map (λ (j : JailNow). j.definition) self.now.jails } }
+    /// A copy of the definitions.
+    pub fn defs(&self) -> Result<Defs, NoMemory>
+        ensures { IfOk result (λ defs. defs ≡ defs_of self.now) }
     {
-        &self.defs
+        Ok(Defs {
+            purge: self.purge,
+            jails: definitions(self.alloc, self.jails.as_slice())?,
+        })
+    }
+
+    /// Whether these are the definitions. Takes no memory.
+    pub fn has_defs(&self, defs: &Defs) -> bool
+        ensures { IsTrue result ↔ (defs.now ≡ defs_of self.now) }
+    {
+        self.purge == defs.purge && are_definitions(self.jails.as_slice(), defs.jails.as_slice())
     }
 
     /// Whether some ban's end has come at a moment. Takes no memory.
     pub fn ban_due(&self, now: u64) -> bool
         ensures { result ≡ is_ban_due moves_now now self.now }
     {
-        is_ban_due(self.rooms.as_slice(), now)
+        is_ban_due(self.jails.as_slice(), now)
     }
 
     /// Whether the logs of some jail are not looked at. Takes no memory.
     pub fn is_any_idle(&self) -> bool
         ensures { result ≡ list_any (λ (j : JailNow). j.idle) self.now.jails }
     {
-        is_any_idle(self.rooms.as_slice())
-    }
-
-    /// The jail of a name, if there is one: its definition, and what is kept of it.
-    fn jail_of(&self, name: &str) -> Option<(&JailDef, &Room)>
-        ensures jail { MatchOption result (find_jail moves_now name.now self.now.jails ≡ None) (λ p. find_jail moves_now name.now self.now.jails ≡ Some (jail_in p.0.now p.1.now)) }
-        ensures kept { IfSome result (λ p. IsKeptJail self.now.at self.now.next_ban p.0.now p.1.now) }
-    {
-        jail_of(self.defs.jails.as_slice(), self.rooms.as_slice(), name)
+        is_any_idle(self.jails.as_slice())
     }
 
     /// The definition of the jail of a name, if there is one. Takes no memory.
     pub fn definition(&self, name: &str) -> Option<&JailDef>
         ensures { option_copied result ≡ option_map (λ (j : JailNow). j.definition) (find_jail moves_now name.now self.now.jails) }
     {
-        let (definition, _) = self.jail_of(name)?;
-        Some(definition)
+        let jail = jail_of(self.jails.as_slice(), name)?;
+        Some(&jail.definition)
     }
 
     /// What happened in the jail of a name in numbers, and whether it is idle. Takes no memory.
     pub fn totals(&self, name: &str) -> Option<Totals>
         ensures { result ≡ option_map totals_of (find_jail moves_now name.now self.now.jails) }
     {
-        let (_, room) = self.jail_of(name)?;
-        Some(room.totals())
+        let jail = jail_of(self.jails.as_slice(), name)?;
+        Some(jail.room.totals())
     }
 
     /// The active ban of the least serial that is at least this one, in the jail of a name. Takes no memory.
     pub fn ban_from(&self, name: &str, serial: u64) -> Option<&Ban>
         ensures { option_copied result ≡ option_and_then (ban_from serial) (find_jail moves_now name.now self.now.jails) }
     {
-        let (_, room) = self.jail_of(name)?;
-        room.ban_from(serial)
+        let jail = jail_of(self.jails.as_slice(), name)?;
+        jail.room.ban_from(serial)
     }
 
     /// How many addresses have an open failure in the jail of a name that is later than `findtime` before a moment. 0 where there is no
@@ -198,8 +176,8 @@ impl Jails {
         requires { self.now.at ≤ now }
         ensures { result ≡ option_map_or (lately_in now) (find_jail moves_now name.now self.now.jails) 0 }
     {
-        match self.jail_of(name) {
-            Some((definition, room)) => room.failed_lately(definition, now),
+        match jail_of(self.jails.as_slice(), name) {
+            Some(jail) => jail.room.failed_lately(&jail.definition, now),
             None => 0,
         }
     }
@@ -209,30 +187,23 @@ impl Jails {
         ensures views { IfOk result (λ views. views ≡ map jail_view self.now.jails) }
         ensures times { IfOk result (λ views. AllOf (λ (j : JailView). AllOf (λ (f : Failure). f.time ≤ self.now.at) j.failures) views) }
     {
-        views(
-            self.alloc,
-            self.defs.jails.as_slice(),
-            self.rooms.as_slice(),
-        )
+        views(self.alloc, self.jails.as_slice())
     }
 
     /// The active bans of each jail.
     pub fn held(&self) -> Result<Vec<JailBans>, NoMemory>
         ensures { IfOk result (λ all. held_of all.items ≡ held moves_now self.now) }
     {
-        active_bans(
-            self.defs.jails.as_slice(),
-            self.rooms.as_slice(),
-            self.alloc,
-        )
+        active_bans(self.alloc, self.jails.as_slice())
     }
 
-    /// Forgets, in all jails together, the failures of up to `most` addresses that have none which still matters: a caller that calls it
-    /// now and then gets the memory of a burst back. The state stays as it is. Takes no memory.
-    pub fn sweep(&mut self, most: u64)
-        ensures { self.new ≡ self.old }
+    /// Forgets, in all jails together, the failures of up to `most` addresses that have none which still matters, and gives of how many: a
+    /// caller that calls it now and then gets the memory of a burst back. The state stays as it is. Takes no memory.
+    pub fn sweep(&mut self, most: u64) -> u64
+        ensures jails { self.new ≡ self.old }
+        ensures most { result ≤ most }
     {
-        let _ = sweep_all(&mut self.rooms, most);
+        sweep_all(self.jails.as_mut_slice(), most)
     }
 
     /// The jails at a reading, once the bans that are due have ended; tells of them.
@@ -244,17 +215,79 @@ impl Jails {
         let Jails {
             alloc,
             at,
-            defs,
-            mut rooms,
+            purge,
+            mut jails,
             next_ban,
         } = self;
         let at = at.max(secs);
-        end_due_bans(defs.jails.as_slice(), &mut rooms, told, at)?;
+        end_due_bans(jails.as_mut_slice(), told, at)?;
         Ok(Jails {
             alloc,
             at,
-            defs,
-            rooms,
+            purge,
+            jails,
+            next_ban,
+        })
+    }
+
+    /// The jails after an input in the jail of a name, if there is one; tells of it.
+    fn acted(
+        self,
+        told: &mut Seq<Happening>,
+        name: &Text,
+        what: &What,
+        word: u64,
+    ) -> Result<Jails, NoMemory>
+        requires serial { self.next_ban ≤ 2 ^ 62 }
+        requires bounded { IsBoundedWhat what.now }
+        ensures jails { IfOk result (λ jails. jails ≡ at_jail moves_now name.now (acted self.at word what.now) self) }
+        ensures told { OnOk result (told.new ≡ told.old ++ told_in moves_now name.now (told_acted self.at word what.now self.next_ban) self.jails) }
+    {
+        let Jails {
+            alloc,
+            at,
+            purge,
+            mut jails,
+            next_ban,
+        } = self;
+        let stamp = InputStamp {
+            at,
+            word,
+            serial: next_ban,
+        };
+        let next_ban = act_at(alloc, jails.as_mut_slice(), told, name, what, stamp)?;
+        Ok(Jails {
+            alloc,
+            at,
+            purge,
+            jails,
+            next_ban,
+        })
+    }
+
+    /// The jails once bans have ended in those that a command means; tells of them.
+    fn unbanned(
+        self,
+        told: &mut Seq<Happening>,
+        name: &Option<Text>,
+        addrs: &Option<Seq<Addr>>,
+    ) -> Result<Jails, NoMemory>
+        ensures jails { IfOk result (λ jails. jails ≡ each_jail moves_now (λ (j : JailNow). cond (is_meant_jail name.now j.definition) (unbanned moves_now self.at addrs.now j) j) self) }
+        ensures told { OnOk result (told.new ≡ told.old ++ told_each (told_unbanned moves_now name.now addrs.now) self.jails) }
+    {
+        let Jails {
+            alloc,
+            at,
+            purge,
+            mut jails,
+            next_ban,
+        } = self;
+        unban_jails(jails.as_mut_slice(), told, name, addrs, at)?;
+        Ok(Jails {
+            alloc,
+            at,
+            purge,
+            jails,
             next_ban,
         })
     }
@@ -267,26 +300,13 @@ impl Jails {
         ensures jails { IfOk result (λ jails. jails ≡ done moves_now word what.now self) }
         ensures told { OnOk result (told.new ≡ told.old ++ told_done moves_now word what.now self) }
     {
-        let Jails {
-            alloc,
-            at,
-            mut defs,
-            mut rooms,
-            next_ban,
-        } = self;
-        let stamp = InputStamp {
-            at,
-            word,
-            serial: next_ban,
-        };
-        let next_ban = happen(alloc, &mut defs.jails, &mut rooms, told, what, stamp)?;
-        Ok(Jails {
-            alloc,
-            at,
-            defs,
-            rooms,
-            next_ban,
-        })
+        if let What::Unban { jail, addrs } = what {
+            return self.unbanned(told, jail, addrs);
+        }
+        match jail_named(what) {
+            Some(name) => self.acted(told, name, what, word),
+            None => Ok(self),
+        }
     }
 
     /// The jails of a configuration.
@@ -298,17 +318,16 @@ impl Jails {
         let Jails {
             alloc,
             at,
-            defs,
-            rooms,
+            jails,
             next_ban,
+            ..
         } = self;
-        let rooms = configure(alloc, defs.jails.as_slice(), rooms, new.jails.as_slice())?;
-        let defs = new.copy()?;
+        let jails = configure(alloc, jails, new.jails.as_slice())?;
         Ok(Jails {
             alloc,
             at,
-            defs,
-            rooms,
+            purge: new.purge,
+            jails,
             next_ban,
         })
     }
@@ -320,16 +339,16 @@ impl Jails {
         let Jails {
             alloc,
             at,
-            defs,
-            mut rooms,
+            purge,
+            mut jails,
             next_ban,
         } = self;
-        drop_old_bans(defs.jails.as_slice(), &mut rooms, at, defs.purge);
+        drop_old_bans(jails.as_mut_slice(), at, purge);
         Jails {
             alloc,
             at,
-            defs,
-            rooms,
+            purge,
+            jails,
             next_ban,
         }
     }

@@ -11,10 +11,9 @@
 mod acts;
 mod changes;
 mod configure;
-mod definitions;
 mod ends;
 mod equality;
-mod inputs;
+mod jail;
 mod jails;
 mod shown;
 mod stored;

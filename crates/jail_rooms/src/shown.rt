@@ -1,31 +1,37 @@
-//! The jail of a name, as replies show it.
-ghost use Rattle.std.specs.Prelude.{◌≡◌, ℕ, Some, None, bytes_eq, IfSome, MatchOption};
+//! The jail of a name.
+ghost use Rattle.std.specs.Prelude.{◌≡◌, ◌≤◌, ℕ, Some, None, bytes_eq, length, map, IfSome, MatchOption};
+ghost use Rattle.f2b_model.specs.Lists.{AllOf};
 ghost use Rattle.f2b_model.specs.Steps.{find_jail, moves_now};
-ghost use Rattle.jail_moves.specs.Rooms.{jail_in, IsKeptJail};
-ghost use Rattle.jail_rooms.specs.Kept.{jails_in, AreKept};
+ghost use Rattle.jail_rooms.specs.Kept.{now_of, IsKept};
+ghost use Rattle.jail_rooms.specs.Places.{jail_place};
 
-use f2b_base::JailDef;
-use jail_moves::Room;
+use crate::jail::Jail;
+use f2b_base::Text;
 
-/// Whether a definition has a name.
-fn is_named(definition: &JailDef, name: &str) -> bool
-    ensures { result ≡ bytes_eq definition.now.name name.now }
+/// The place of the first jail of a name, or how many there are.
+pub fn place_of(jails: &[Jail], name: &Text) -> usize
+    ensures place { result ≡ jail_place name.now jails.now }
+    ensures within { result ≤ length jails.now }
 {
-    definition.name.as_str() == name
+    for (index, jail) in jails.iter().enumerate() {
+        if jail.definition.name == *name {
+            return index;
+        }
+    }
+    jails.len()
 }
 
-/// The first jail of a name: its definition, and what is kept of it.
-pub fn jail_of<'a>(
-    definitions: &'a [JailDef],
-    rooms: &'a [Room],
-    name: &str,
-) -> Option<(&'a JailDef, &'a Room)>
-    ensures jail { MatchOption result (find_jail moves_now name.now (jails_in definitions.now rooms.now) ≡ None)
-        (λ p. find_jail moves_now name.now (jails_in definitions.now rooms.now) ≡ Some (jail_in p.0.now p.1.now)) }
-    ensures kept { (at next : ℕ) → AreKept at next definitions.now rooms.now → IfSome result (λ p. IsKeptJail at next p.0.now p.1.now) }
+/// Whether a jail has a name.
+fn is_named(jail: &Jail, name: &str) -> bool
+    ensures { result ≡ bytes_eq jail.now.definition.name name.now }
 {
-    definitions
-        .iter()
-        .zip(rooms.iter())
-        .find(|(definition, _)| is_named(definition, name))
+    jail.definition.name.as_str() == name
+}
+
+/// The first jail of a name.
+pub fn jail_of<'a>(jails: &'a [Jail], name: &str) -> Option<&'a Jail>
+    ensures jail { MatchOption result (find_jail moves_now name.now (map now_of jails.now) ≡ None) (λ j. find_jail moves_now name.now (map now_of jails.now) ≡ Some (now_of j.now)) }
+    ensures kept { (at next : ℕ) → AllOf (IsKept at next) jails.now → IfSome result (λ j. IsKept at next j.now) }
+{
+    jails.iter().find(|jail| is_named(jail, name))
 }

@@ -1,34 +1,24 @@
 //! What no longer matters is forgotten in each jail.
-ghost use Rattle.std.specs.Prelude.{◌≡◌, ◌+◌, ◌<◌, ◌≤◌, ℕ, List};
-ghost use Rattle.f2b_base.specs.declared.jail.JailDef.{JailDef};
-ghost use Rattle.jail_rooms.specs.Kept.{jails_in, AreKept};
+ghost use Rattle.std.specs.Prelude.{◌≡◌, ◌+◌, ◌<◌, ◌≤◌, ℕ, map};
+ghost use Rattle.f2b_model.specs.Lists.{AllOf};
+ghost use Rattle.jail_rooms.specs.Kept.{now_of, IsKept};
 ghost use Rattle.jail_rooms.specs.Stale.{stale_count};
 
-use jail_moves::Room;
+use crate::jail::Jail;
 
-/// Forgets the failures of up to `most` addresses that have none which still matters, jail by jail, and gives of how many.
-fn sweep_each(rooms: &mut [Room], most: u64) -> u64
-    ensures jails { (at next : ℕ) → (ds : List JailDef) → AreKept at next ds rooms.old → jails_in ds rooms.new ≡ jails_in ds rooms.old }
-    ensures kept { (at next : ℕ) → (ds : List JailDef) → AreKept at next ds rooms.old → AreKept at next ds rooms.new }
+/// Forgets the failures of up to `most` addresses that have none which still matters, jail by jail, and gives of how many. Takes no
+/// memory.
+pub fn sweep_all(jails: &mut [Jail], most: u64) -> u64
+    ensures jails { (at next : ℕ) → AllOf (IsKept at next) jails.old → map now_of jails.new ≡ map now_of jails.old }
+    ensures kept { (at next : ℕ) → AllOf (IsKept at next) jails.old → AllOf (IsKept at next) jails.new }
     ensures most { result ≤ most }
-    ensures left { stale_count rooms.new + result ≡ stale_count rooms.old }
-    ensures none { result < most → stale_count rooms.new ≡ 0 }
+    ensures left { stale_count jails.new + result ≡ stale_count jails.old }
+    ensures none { result < most → stale_count jails.new ≡ 0 }
 {
     let mut left = most;
-    for index in 0..rooms.len() {
-        let forgotten = rooms[index].sweep(left);
+    for index in 0..jails.len() {
+        let forgotten = jails[index].room.sweep(left);
         left -= forgotten;
     }
     most - left
-}
-
-/// The same for the jails of the server. Takes no memory.
-pub fn sweep_all(rooms: &mut Vec<Room>, most: u64) -> u64
-    ensures jails { (at next : ℕ) → (ds : List JailDef) → AreKept at next ds rooms.old.items → jails_in ds rooms.new.items ≡ jails_in ds rooms.old.items }
-    ensures kept { (at next : ℕ) → (ds : List JailDef) → AreKept at next ds rooms.old.items → AreKept at next ds rooms.new.items }
-    ensures most { result ≤ most }
-    ensures left { stale_count rooms.new.items + result ≡ stale_count rooms.old.items }
-    ensures none { result < most → stale_count rooms.new.items ≡ 0 }
-{
-    sweep_each(rooms.as_mut_slice(), most)
 }

@@ -53,7 +53,7 @@ module _ (before after : Follow) (file : FileLook) (step : Step) (built : before
       let d : after.definition ≡ f.definition = definition_is ∙ keeps.definition in
       let r : after.filter ≡ rules_of f.definition = filter_is ∙ built ∙ ap rules_of keeps.definition in
       let n : after.now ≡ f.now = now_is ∙ keeps.now in
-      λ i. Read (d i).name (path_of (d i).watches) Tail (failures_in (r i) (n i) (d i).findtime lines)
+      λ i. Read (d i).name (path_of (d i).watches) Tail (failures_in (r i) (d i).ignore (n i) (d i).findtime lines)
 
   pub reads_some : (what : What) (lines : List Line) → step ≡ Lines lines → what ≡ read_by after.definition after.filter after.now lines → ReadsLines before file after (Some what)
   reads_some what lines is what_is = record {

@@ -1,6 +1,7 @@
 -- What a run does: the one call that comes next, and where each event leaves the run.
 use Rattle.std.specs.Prelude.{ℕ, zero, suc, ◌≡◌, ◌+◌, ◌-◌, ◌++◌, max, min, slice_get, Bool, true, false, List, [], ◌∷◌, Option, Some, None}
 use Rattle.f2b_base.specs.Limits.{default_purge, head_bytes, latest_reading, look_bytes}
+use Rattle.f2b_base.specs.declared.addr.Cidr.{Cidr}
 use Rattle.f2b_base.specs.declared.ban.Failure.{Failure}
 use Rattle.f2b_base.specs.declared.input.Input.{Input}
 use Rattle.f2b_base.specs.declared.input.What.{What}
@@ -228,17 +229,19 @@ failure_in (Failed addr time index) = record { addr = addr; time = time; line = 
 failure_in _ = []
 
 -- a line that is too long is missed
-abbrev pub failures_of : Rules → ℕ → ℕ → Line → List Failure
-failures_of rules now findtime (Whole text) = failure_in (finding rules now findtime text)
-failures_of rules now findtime _ = []
+abbrev pub failures_of : Rules → List Cidr → ℕ → ℕ → Line → List Failure
+failures_of rules masks now findtime (Whole text) = failure_in (finding rules masks now findtime text)
+failures_of rules masks now findtime _ = []
 
-abbrev pub failures_in : Rules → ℕ → ℕ → List Line → List Failure
-failures_in rules now findtime [] = []
-failures_in rules now findtime (line ∷ lines) = failures_of rules now findtime line ++ failures_in rules now findtime lines
+abbrev pub failures_in : Rules → List Cidr → ℕ → ℕ → List Line → List Failure
+failures_in rules masks now findtime [] = []
+failures_in rules masks now findtime (line ∷ lines) = failures_of rules masks now findtime line ++ failures_in rules masks now findtime lines
 
 -- what was found in these lines. The place in the log is not kept yet
 abbrev pub read_of : Following → List Line → What
-read_of f lines = Read f.definition.name (path_of f.definition.watches) Tail (failures_in (rules_of f.definition) f.now f.definition.findtime lines)
+read_of f lines =
+    Read f.definition.name (path_of f.definition.watches) Tail
+    (failures_in (rules_of f.definition) f.definition.ignore f.now f.definition.findtime lines)
 
 -- a read is taken where lines have become whole; of a log that is another one nothing is told yet
 abbrev pub step_read : Step → Following → Run → Run

@@ -165,7 +165,8 @@ read_what f _ = None
 
 -- what is taken of these lines, by a definition and the rules of its patterns
 abbrev pub read_by : JailDef → Rules → ℕ → List Line → What
-read_by definition rules now lines = Read definition.name (path_of definition.watches) Tail (failures_in rules now definition.findtime lines)
+read_by definition rules now lines =
+    Read definition.name (path_of definition.watches) Tail (failures_in rules definition.ignore now definition.findtime lines)
 
 -- a look was handed to the follower, and the lines searched that became whole
 pub record ReadsLines (before : Follow) (file : FileLook) (after : Follow) (what : Option What) : Type 0 where

@@ -15,6 +15,7 @@ use crate::status::Status;
 use crate::take::take;
 use f2b_base::{FileLook, JailDef, LATEST_READING, NoMemory, Place, Plain, Reading, Text, What};
 use f2b_world::{Look, World};
+use ignore_set::IgnoreSet;
 use log_follow::{Ask, Line, Step};
 use std::alloc::Global;
 
@@ -29,7 +30,7 @@ fn at_reading(follow: Follow, reading: Reading) -> Follow
     let mut follow = follow;
     follow.now = follow.now.max(reading.secs.min(LATEST_READING));
     follow.word = reading.word;
-    follow.core.sweep(FORGOTTEN_A_TURN);
+    let _ = follow.core.sweep(FORGOTTEN_A_TURN);
     follow
 }
 
@@ -85,7 +86,8 @@ fn what_read(alloc: Global, follow: &Follow, lines: &[Line]) -> Result<What, NoM
     ensures { IfOk result (λ what. what ≡ (let kept = follow.entry.now in read_by kept.definition kept.filter kept.now lines.now)) }
 {
     let findtime = follow.definition.findtime;
-    let found = find(alloc, &follow.filter, lines, follow.now, findtime)?;
+    let ignore = IgnoreSet::new(alloc, &follow.definition.ignore)?;
+    let found = find(alloc, &follow.filter, &ignore, lines, follow.now, findtime)?;
     Ok(What::Read {
         jail: follow.definition.name.copy()?,
         path: Text::from_str(alloc, path(&follow.definition))?,

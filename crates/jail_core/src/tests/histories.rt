@@ -102,7 +102,7 @@ fn a_ban_is_taken_back_while_it_waits(rt: HostRuntime) -> Result<(), Fail> {
     let taken = configuration(alloc, ADD, "", 0)?;
     let (core, ordered) = jobs_after(Core::empty(alloc), alloc, 1000, taken)?;
     assert_eq!(rt; ordered.as_str(), "0 Start up\n");
-    assert_eq!(rt; core.defs().jails.len(), 1);
+    assert_eq!(rt; core.defs()?.jails.len(), 1);
 
     let (core, ordered) = jobs_after(core, alloc, 1000, ended(0, 0))?;
     assert_eq!(rt; ordered.as_str(), "");

@@ -64,11 +64,13 @@ fn with_stale_failures(alloc: Global) -> Result<Core, NoMemory>
 }
 
 #[test]
-fn a_sweep_changes_nothing_of_a_view(rt: HostRuntime) -> Result<(), Fail> {
+fn a_sweep_forgets_what_matters_no_more_and_changes_nothing_of_a_view(
+    rt: HostRuntime,
+) -> Result<(), Fail> {
     let mut core = with_stale_failures(rt.alloc())?;
     let before = core.view()?;
-    for _ in 0..3 {
-        core.sweep(1);
+    for forgotten in [1, 1, 0] {
+        assert_eq!(rt; core.sweep(1), forgotten);
         assert!(rt; core.view()? == before);
     }
     Ok(())

@@ -4,7 +4,7 @@ use Rattle.jail_conf.specs.Actions.{lane}
 use Rattle.jail_conf.specs.Sources.{own}
 use Rattle.jail_conf.specs.Table as table
 use Rattle.jail_conf.specs.Then.{Gives}
-use Rattle.jail_conf.proofs.FaultLemmas.{first_fails, first_fails_alone}
+use Rattle.jail_conf.proofs.FaultLemmas.{first_fails}
 use Rattle.jail_conf.proofs.actions.lane.Goals as goal
 
 pub returns-in_err-start : goal.returns-in_err-start

@@ -1,5 +1,5 @@
 use Rattle.std.proofs.lemmas.Result.{err_from_is_err_and}
-use Rattle.std.proofs.Common.{◌≡◌, ◌∙◌, [], Ok, Err, codes, ap, subst}
+use Rattle.std.proofs.Common.{◌≡◌, ◌∙◌, [], Ok, Err, codes, subst}
 use Rattle.jail_conf.specs.Conf.{settings_in, jails_behind, jail_names}
 use Rattle.jail_conf.specs.Items.{item}
 use Rattle.jail_conf.specs.Readers.{as_written}
@@ -8,6 +8,7 @@ use Rattle.jail_conf.specs.Table as table
 use Rattle.jail_conf.specs.Then.{Gives}
 use Rattle.jail_conf.proofs.AcceptedLemmas.{conf_is_fit, conf_is_within}
 use Rattle.jail_conf.proofs.SettingsLemmas.{ServerIs, server_fails, socket_fails, purge_fails, sections_fail, jails_fail, settings_are}
+use Rattle.jail_conf.proofs.StorableLemmas.{conf_is_storable}
 use Rattle.jail_conf.proofs.configuration.conf.Goals as goal
 
 pub returns-in_err-merged-clause-defined : goal.returns-in_err-merged-clause-defined
@@ -101,3 +102,8 @@ returns-clause-fit c =
 pub returns-clause-limits : goal.returns-clause-limits
 returns-clause-limits c =
     conf_is_within c.args.tree.now (record { defs = record { purge = c.in_ok-purge.purge; jails = c.in_ok-jails.jails }; socket = c.in_ok-socket.socket }) (returns-clause-defined c)
+
+pub returns-clause-storable : goal.returns-clause-storable
+returns-clause-storable c =
+    conf_is_storable c.args.tree.now (record { defs = record { purge = c.in_ok-purge.purge; jails = c.in_ok-jails.jails }; socket = c.in_ok-socket.socket }) (returns-clause-defined c)
+    c.see.ensures

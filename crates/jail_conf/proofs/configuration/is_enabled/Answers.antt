@@ -1,5 +1,5 @@
 use Rattle.std.proofs.lemmas.Result.{err_from_is_err_and}
-use Rattle.std.proofs.Common.{◌≡◌, ◌∙◌, ◌&&◌, not, nat_lt, Bool, true, false, Ok, Err, sym, ap}
+use Rattle.std.proofs.Common.{◌≡◌, ◌∙◌, ◌&&◌, not, nat_lt, true, false, Ok, sym, ap}
 use Rattle.jail_conf.specs.Conf.{most_jails}
 use Rattle.jail_conf.specs.Jails.{is_jail_name}
 use Rattle.jail_conf.specs.Sources.{own}

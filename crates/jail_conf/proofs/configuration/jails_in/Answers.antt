@@ -1,4 +1,4 @@
-use Rattle.std.proofs.Common.{◌≡◌, ◌∙◌, ◌+◌, ap, sym, drop}
+use Rattle.std.proofs.Common.{◌∙◌, ◌+◌, ap, drop}
 use Rattle.jail_conf.specs.Conf.{jails_behind}
 use Rattle.jail_conf.specs.Sources.{bases_of}
 use Rattle.jail_conf.proofs.ListedLemmas.{jails_step, name_at, next_found}

@@ -6,7 +6,7 @@ use Rattle.jail_conf.specs.Numbers.{number_between}
 use Rattle.jail_conf.specs.Sources.{own}
 use Rattle.jail_conf.specs.Table as table
 use Rattle.jail_conf.specs.Then.{Gives}
-use Rattle.jail_conf.proofs.FaultLemmas.{first_fails, first_fails_alone}
+use Rattle.jail_conf.proofs.FaultLemmas.{first_fails}
 use Rattle.jail_conf.proofs.counts.counts_of.Goals as goal
 
 pub returns-in_err-findtime : goal.returns-in_err-findtime

@@ -1,5 +1,5 @@
 use Rattle.std.proofs.lemmas.Result.{err_from_is_err_and}
-use Rattle.std.proofs.Common.{◌≡◌, ◌∙◌, true, false, Ok, Err, sym, ap, subst}
+use Rattle.std.proofs.Common.{◌≡◌, ◌∙◌, true, false, Ok, sym, ap, subst}
 use Rattle.ini_interp.specs.Lines.{trimmed}
 use Rattle.jail_conf.specs.Jails.{no_filter, named_filter}
 use Rattle.jail_conf.specs.Sources.{bases_of, own}

@@ -1,5 +1,5 @@
 use Rattle.std.proofs.lemmas.Result.{err_from_is_err_and}
-use Rattle.std.proofs.Common.{◌≡◌, ◌∙◌, Ok, Err, codes, ap, subst}
+use Rattle.std.proofs.Common.{◌∙◌, codes, ap, subst}
 use Rattle.jail_conf.specs.Jails.{filter_of, jail_with, jail_of}
 use Rattle.jail_conf.specs.Sources.{bases_of, with_items}
 use Rattle.jail_conf.specs.Then.{Gives}

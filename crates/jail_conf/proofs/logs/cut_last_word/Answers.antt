@@ -1,9 +1,7 @@
-use Rattle.std.proofs.Common.{◌≡◌, ◌<◌, ◌-◌, ◌∙◌, ap, sym, length, get_or, take, drop, arith, rules, true}
-use Rattle.std.specs.Str.{IsCharBoundary}
-use Rattle.std.proofs.lemmas.Grind.{common_steps}
+use Rattle.std.proofs.Common.{◌≡◌, ◌<◌, ◌-◌, ◌∙◌, ap, length, get_or, take, drop, arith, rules, true}
 use Rattle.ini_interp.specs.Lines.{is_blank, trimmed}
 use Rattle.jail_conf.specs.Words.{last_word_len}
-use Rattle.jail_conf.proofs.TrimLemmas.{last_word_at, word_boundary, word_place}
+use Rattle.jail_conf.proofs.TrimLemmas.{word_boundary, word_place}
 use Rattle.jail_conf.proofs.logs.cut_last_word.Goals as goal
 use Rattle.jail_conf.proofs.logs.cut_last_word.Goals.{then-loop-start-test+else-not-is_blank, else-loop-start-test}
 

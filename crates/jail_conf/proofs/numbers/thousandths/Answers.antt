@@ -1,7 +1,5 @@
-use Rattle.std.proofs.Common.{◌≡◌, ◌∙◌, None, Option, ℕ, false, cond, lit<, sym, ap, arith, option_map, rules, min, ◌-◌, ◌^◌}
-use Rattle.std.specs.List.{list_any}
+use Rattle.std.proofs.Common.{None, lit<, rules}
 use Rattle.std.proofs.lemmas.Str.Pattern.{split_once_first}
-use Rattle.jail_conf.specs.Numbers.{is_dot}
 use Rattle.jail_conf.proofs.NumberLemmas.{thousandths-whole}
 use Rattle.jail_conf.proofs.numbers.thousandths.Goals as goal
 

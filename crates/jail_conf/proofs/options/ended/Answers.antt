@@ -1,6 +1,5 @@
 use Rattle.std.proofs.Common.{◌≡◌, ◌∷◌, None, Some, lit<}
 use Rattle.std.proofs.lemmas.Str.Pattern.{strip_prefix_char}
-use Rattle.ini_interp.specs.Lines.{trimmed_start}
 use Rattle.jail_conf.proofs.OptionLemmas.{closed_comma, closed_bracket, closed_none, trimmed_shorter, if_none}
 use Rattle.jail_conf.proofs.options.ended.Goals as goal
 

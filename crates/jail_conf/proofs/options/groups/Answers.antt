@@ -1,6 +1,5 @@
-use Rattle.std.proofs.Common.{◌≡◌, ◌∙◌, ◌∷◌, None, Some, false, sym, lit<}
+use Rattle.std.proofs.Common.{◌≡◌, ◌∙◌, None, Some, false, sym, lit<}
 use Rattle.std.proofs.lemmas.Str.Pattern.{strip_prefix_char}
-use Rattle.ini_interp.specs.Lines.{is_blank, trimmed_start}
 use Rattle.jail_conf.specs.Words.{is_empty}
 use Rattle.jail_conf.proofs.OptionLemmas.{groups_begin, outside_stops, no_blank_first, group_is_read, group_shorter}
 use Rattle.jail_conf.proofs.options.groups.Goals as goal

@@ -1,5 +1,4 @@
-use Rattle.std.proofs.Common.{◌≡◌, true, false, sym, ◌∙◌}
-use Rattle.jail_conf.specs.Words.{is_empty}
+use Rattle.std.proofs.Common.{sym, ◌∙◌}
 use Rattle.jail_conf.proofs.OptionLemmas.{key_alone, key_stops_at, key_is_empty, key_is_read, if_none}
 use Rattle.jail_conf.proofs.options.key_at.Goals as goal
 

@@ -1,6 +1,5 @@
-use Rattle.std.proofs.Common.{◌≡◌, ◌∷◌, None, Some, lit<, refl}
+use Rattle.std.proofs.Common.{None, Some, lit<, refl}
 use Rattle.std.proofs.lemmas.Str.Pattern.{strip_prefix_char}
-use Rattle.ini_interp.specs.Lines.{trimmed_start}
 use Rattle.jail_conf.proofs.OptionLemmas.{quote_none, quote_some, quote_shorter, begins_plain_at, plain_none, plain_some, plain_shorter}
 use Rattle.jail_conf.proofs.options.value_at.Goals as goal
 

@@ -1,4 +1,8 @@
 -- A failure goes in, and the window out where the address is full.
+use Rattle.std.proofs.Common.{Some, List, sym, subst}
+use Rattle.f2b_base.specs.declared.ban.Failure.{Failure}
+use Rattle.jail_moves.specs.Addresses.{Counts}
+use Rattle.jail_moves.proofs.WindowAlone.{counted_alone}
 use Rattle.jail_moves.proofs.WindowLosses.{counted_on, counted_out}
 use Rattle.jail_moves.proofs.addresses.count.Goals as goal
 
@@ -15,3 +19,9 @@ returns-clause-ok c =
 
 pub returns-then-full-clause-latest : goal.returns-then-full-clause-latest
 returns-then-full-clause-latest c = λ time le a. c.take_out.ensures.latest time (c.enter.ensures.latest time le a)
+
+pub returns-then-maxretry-eq1-clause-ok : goal.returns-then-maxretry-eq1-clause-ok
+returns-then-maxretry-eq1-clause-ok c =
+    subst (λ (fs : List Failure). Counts c.args.findtime c.args.maxretry c.args.now c.args.failure c.args.windows.now.entries c.args.windows.now.entries (Some fs))
+    (sym c.in_ok-alone.ensures)
+    (counted_alone c.args.findtime c.args.maxretry c.args.now c.args.failure c.args.windows.now.entries c.requires.held c.if-maxretry-eq1.true c.requires.recent)

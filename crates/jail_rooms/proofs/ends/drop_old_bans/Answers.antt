@@ -1,26 +1,20 @@
-use Rattle.std.proofs.Common.{◌≡◌, List, length, sym, ◌∙◌, ap, subst, arith, rules}
+use Rattle.std.proofs.Common.{◌≡◌, length, sym, subst, arith}
 use Rattle.f2b_model.specs.declared.jail_now.JailNow.{JailNow}
 use Rattle.f2b_model.specs.NowMoves.{dropped_now}
-use Rattle.jail_moves.specs.Rooms.{Contents}
-use Rattle.jail_rooms.specs.Moved.{AreMoved}
-use Rattle.jail_rooms.specs.Kept.{jails_in, AreKept}
-use Rattle.jail_rooms.proofs.MovedLemmas.{all_kept, all_moved, as_a_whole, same_length}
+use Rattle.jail_rooms.specs.Moved.{AreMoved, IsMoved}
+use Rattle.jail_rooms.specs.declared.jail.Jail.{Jail}
+use Rattle.jail_rooms.proofs.MovedLemmas.{one_more}
 use Rattle.jail_rooms.proofs.ends.drop_old_bans.Goals as goal
 
-pub returns-clause-jails : goal.returns-clause-jails
-returns-clause-jails c =
+pub loop-index-preserved : goal.loop-index-preserved
+loop-index-preserved c =
     let move : JailNow → JailNow = dropped_now c.args.at c.args.purge in
-    let slice : c.as_mut_slice.result.now ≡ c.args.rooms.now.items = search rules in
-    let moved = subst (λ (old : List Contents). AreMoved move c.args.at (length c.args.definitions.now) c.args.definitions.now old c.drop_in_turn.new.rooms) slice c.drop_in_turn.ensures in
-    let same = same_length move c.args.at (length c.args.definitions.now) c.args.definitions.now c.args.rooms.now.items c.drop_in_turn.new.rooms moved in
-    ap (jails_in c.args.definitions.now) (as_a_whole c.drop_in_turn.new.rooms c.args.rooms.now.items _ same (search rules))
-    ∙ all_moved move c.args.at c.args.definitions.now c.args.rooms.now.items c.drop_in_turn.new.rooms c.requires moved
+    let j : Jail = c.index-jails-index.result in
+    let own = c.index-jails-index.is in
+    one_more move c.args.at c.loop-index.index c.args.jails.now c.loop-index.jails j c.drop_past.new.self c.loop-index-test.true c.loop-index.invariant own
+    (subst (λ (r : Jail). IsMoved move c.args.at r c.drop_past.new.self) (sym own) c.drop_past.ensures)
 
-pub returns-clause-kept : goal.returns-clause-kept
-returns-clause-kept c next kept =
-    let move : JailNow → JailNow = dropped_now c.args.at c.args.purge in
-    let slice : c.as_mut_slice.result.now ≡ c.args.rooms.now.items = search rules in
-    let moved = subst (λ (old : List Contents). AreMoved move c.args.at (length c.args.definitions.now) c.args.definitions.now old c.drop_in_turn.new.rooms) slice c.drop_in_turn.ensures in
-    let same = same_length move c.args.at (length c.args.definitions.now) c.args.definitions.now c.args.rooms.now.items c.drop_in_turn.new.rooms moved in
-    subst (λ (cs : List Contents). AreKept c.args.at next c.args.definitions.now cs) (sym (as_a_whole c.drop_in_turn.new.rooms c.args.rooms.now.items _ same (search rules)))
-    (all_kept move c.args.at c.args.at next c.args.definitions.now c.args.rooms.now.items c.drop_in_turn.new.rooms (omega arith) moved kept)
+pub returns : goal.returns
+returns c =
+    let all : c.loop-index.index ≡ length c.args.jails.now = omega (arith, c.loop-index-test.false, c.loop-index.auto.index-end) in
+    subst (λ k. AreMoved (dropped_now c.args.at c.args.purge) c.args.at k c.args.jails.now c.loop-index.jails) all c.loop-index.invariant

@@ -1,7 +1,7 @@
 use Rattle.std.proofs.Common.{◌≡◌, map, take}
 use Rattle.f2b_model.specs.Views.{jail_view}
-use Rattle.jail_rooms.specs.Kept.{jails_in}
+use Rattle.jail_rooms.specs.Kept.{now_of}
 use Rattle.jail_rooms.proofs.stored.views.Given as goal
 
-abbrev pub invariant-loop-index : goal.invariant-loop-index
-invariant-loop-index l = l.views ≡ map jail_view (take l.index (jails_in l.definitions l.rooms))
+abbrev pub invariant-loop-jail : goal.invariant-loop-jail
+invariant-loop-jail l = l.views ≡ map jail_view (map now_of (take l.jail-index l.jails))

@@ -14,6 +14,6 @@ loop-line-preserved c =
       same = c.in_ok-finding.ensures.same ∙ c.loop-line.invariant.same;
       found = c.in_ok-add.ensures
           ∙ ap₂ (λ (a b : List Failure). a ++ b) c.loop-line.invariant.found
-          (c.in_ok-finding.ensures.found ∙ ap (λ (r : Rules). failures_of r now findtime line) c.loop-line.invariant.same)
-          ∙ sym (failures_more c.args.filter.now now findtime c.args.lines.now c.loop-line.line-index line c.loop-line-test.true c.line-item.is);
+          (c.in_ok-finding.ensures.found ∙ ap (λ (r : Rules). failures_of r c.args.ignore.now now findtime line) c.loop-line.invariant.same)
+          ∙ sym (failures_more c.args.filter.now c.args.ignore.now now findtime c.args.lines.now c.loop-line.line-index line c.loop-line-test.true c.line-item.is);
     }

@@ -11,10 +11,10 @@ pub returns : goal.returns
 returns c =
     let defs : Defs = c.args.defs.now in
     let n : Now = record { jails = c.self.inside.jails; lanes = c.self.inside.actions } in
-    let same : IsTrue c.same_defs-same.result ↔ (defs ≡ defs_now n) = subst (λ (d : Defs). IsTrue c.same_defs-same.result ↔ (defs ≡ d)) c.defs.ensures c.same_defs-same.ensures in
-    let kept : c.stays.result ≡ (c.same_defs-same.result && (not n.lanes.stopping && (not (any_idle n) && are_just (lanes_of defs) n.lanes.up))) =
+    let same : IsTrue c.has_defs-same.result ↔ (defs ≡ defs_now n) = c.has_defs-same.ensures in
+    let kept : c.stays.result ≡ (c.has_defs-same.result && (not n.lanes.stopping && (not (any_idle n) && are_just (lanes_of defs) n.lanes.up))) =
     c.stays.ensures
-    ∙ ap (λ b. c.same_defs-same.result && (not b && (not c.is_any_idle-idle.result && c.are_just-just.result))) c.is_stopping-stopping.ensures
-    ∙ ap₂ (λ b d. c.same_defs-same.result && (not n.lanes.stopping && (not b && d))) c.is_any_idle-idle.ensures c.are_just-just.ensures in
+    ∙ ap (λ b. c.has_defs-same.result && (not b && (not c.is_any_idle-idle.result && c.are_just-just.result))) c.is_stopping-stopping.ensures
+    ∙ ap₂ (λ b d. c.has_defs-same.result && (not n.lanes.stopping && (not b && d))) c.is_any_idle-idle.ensures c.are_just-just.ensures in
     subst (λ (m : Now). IsTrue (not c.stays.result) ↔ (configured_now defs m ≢ m)) c.self.view_is
-    (changes_is defs n c.same_defs-same.result c.stays.result c.requires c.self.invariant same kept)
+    (changes_is defs n c.has_defs-same.result c.stays.result c.requires c.self.invariant same kept)

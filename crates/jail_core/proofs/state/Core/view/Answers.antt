@@ -15,7 +15,7 @@ returns-clause-storable c = λ storable.
     let n : Now = record { jails = c.self.inside.jails; lanes = c.self.inside.actions } in
     let v : View = record {
       at = c.now.result;
-      defs = c.in_ok-copy.field-0;
+      defs = c.in_ok-defs.field-0;
       stopping = c.is_stopping.result;
       up = c.in_ok-copies.field-0;
       jails = c.in_ok-views.field-0;

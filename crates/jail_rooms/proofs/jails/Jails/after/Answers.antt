@@ -1,24 +1,15 @@
-use Rattle.std.proofs.Common.{◌++◌, List, sym, ◌∙◌, ap}
+use Rattle.std.proofs.Common.{◌≡◌, ◌++◌, Some, List, sym, ◌∙◌, ap}
+use Rattle.std.specs.Prelude.{option_copied}
+use Rattle.std.proofs.lemmas.Result.{IfOk-weaker, on_ok_weaker}
 use Rattle.f2b_model.specs.declared.happening.Happening.{Happening}
-use Rattle.f2b_model.specs.declared.jail_now.JailNow.{JailNow}
-use Rattle.f2b_model.specs.Nows.{JailsNow}
-use Rattle.f2b_model.specs.Steps.{JailsAndSerial, done, moves_now, with_serial}
-use Rattle.f2b_model.specs.Told.{told_done}
-use Rattle.jail_rooms.specs.Kept.{jails_in}
-use Rattle.jail_rooms.proofs.DoneLemmas.{done_is, told_is}
+use Rattle.jail_rooms.specs.Acted.{jail_named}
+use Rattle.jail_rooms.proofs.DoneLemmas.{done_in, told_done_in}
 use Rattle.jail_rooms.proofs.jails.Jails.after.Goals as goal
 
-pub returns-clause-jails : goal.returns-clause-jails
-returns-clause-jails c =
-    let i = c.self.inside in
-    let w : JailsNow = record { at = i.at; purge = i.defs.purge; jails = jails_in i.defs.jails i.rooms.items; next_ban = i.next_ban } in
-    sym (ap (λ (o : JailsAndSerial JailNow). with_serial w o) c.in_ok-next_ban.ensures.jails)
-    ∙ sym (done_is c.args.word c.args.what.now w c.requires.alone)
-    ∙ ap (done moves_now c.args.word c.args.what.now) c.self.view_is
-
-pub returns-clause-told : goal.returns-clause-told
-returns-clause-told c =
-    let i = c.self.inside in
-    let w : JailsNow = record { at = i.at; purge = i.defs.purge; jails = jails_in i.defs.jails i.rooms.items; next_ban = i.next_ban } in
-    c.in_ok-next_ban.ensures.told
-    ∙ ap (λ (r : List Happening). c.args.told.now ++ r) (sym (told_is c.args.word c.args.what.now w c.requires.alone) ∙ ap (told_done moves_now c.args.word c.args.what.now) c.self.view_is)
+pub returns-in-Some : goal.returns-in-Some
+returns-in-Some c =
+    let named : jail_named c.args.what.now ≡ Some c.in-Some.name.now = sym c.jail_named.ensures ∙ ap option_copied c.in-Some.is in
+    record {
+      jails = IfOk-weaker c.acted.result _ _ (λ js is. is ∙ sym (done_in c.args.word c.args.what.now c.args.self c.in-Some.name.now named)) c.acted.ensures.jails;
+      told = on_ok_weaker c.acted.result (λ is. is ∙ ap (λ (r : List Happening). c.args.told.now ++ r) (sym (told_done_in c.args.word c.args.what.now c.args.self c.in-Some.name.now named))) c.acted.ensures.told;
+    }

@@ -1,7 +1,22 @@
-use Rattle.std.proofs.Common.{length, sym, ◌∙◌, ap}
-use Rattle.jail_rooms.proofs.MovedLemmas.{kept_length}
+use Rattle.std.proofs.Common.{List, ◌∙◌, ap, arith, rules}
+use Rattle.f2b_model.specs.NowMoves.{dropped_now}
+use Rattle.f2b_model.specs.Nows.{JailsNow}
+use Rattle.f2b_model.specs.Steps.{each_jail, moves_now}
+use Rattle.f2b_model.specs.declared.jail_now.JailNow.{JailNow}
+use Rattle.jail_rooms.proofs.MovedLemmas.{kept_whole, moved_whole}
 use Rattle.jail_rooms.proofs.jails.Jails.dropped.Goals as goal
 
-pub drop_old_bans-requires : goal.drop_old_bans-requires
-drop_old_bans-requires c =
-    kept_length c.self.inside.at c.self.inside.next_ban c.self.inside.defs.jails c.self.inside.rooms.items c.self.invariant.1 ∙ ap length (sym c.as_slice.ensures)
+pub returns : goal.returns
+returns c =
+    let i = c.self.inside in
+    ap (λ (js : List JailNow). let w : JailsNow = record { at = i.at; purge = i.purge; jails = js; next_ban = i.next_ban } in w)
+    (moved_whole (dropped_now i.at i.purge) i.at i.jails.items c.as_mut_slice.result.now c.drop_old_bans.new.jails _ (search rules) (search rules) c.drop_old_bans.ensures)
+    ∙ ap (λ (w : JailsNow). each_jail moves_now (dropped_now w.at w.purge) w) c.self.view_is
+
+pub invariant_of-result : goal.invariant_of-result
+invariant_of-result c =
+    let i = c.self.inside in (
+      c.self.invariant.0,
+      kept_whole (dropped_now i.at i.purge) i.at i.at i.next_ban i.jails.items c.as_mut_slice.result.now c.drop_old_bans.new.jails _
+          (omega arith) (search rules) (search rules) c.drop_old_bans.ensures c.self.invariant.1,
+    )

@@ -1,0 +1,19 @@
+use Rattle.std.proofs.Common.{◌++◌, ◌∙◌, [], ap, ap₂, sym, List}
+use Rattle.std.specs.List.{cons_option}
+use Rattle.f2b_base.specs.declared.ban.Failure.{Failure}
+use Rattle.log_set.proofs.FindLemmas.{one_more}
+use Rattle.log_set.specs.Searches.{failure_by}
+use Rattle.log_set.specs.declared.jail_search.JailSearch.{JailSearch}
+use Rattle.log_set.proofs.jail_search.JailSearch.failures.Goals as goal
+
+pub loop-line-preserved : goal.loop-line-preserved
+loop-line-preserved c =
+    let line = c.line-item.result in
+    let now = c.args.now in
+    record {
+      same = c.in_ok-failure.ensures.same ∙ c.loop-line.invariant.same;
+      found = c.in_ok-add.ensures
+          ∙ ap₂ (λ (a b : List Failure). a ++ b) c.loop-line.invariant.found
+          (ap (λ f. cons_option f []) c.in_ok-failure.ensures.found ∙ ap (λ (j : JailSearch). cons_option (failure_by j now line) []) c.loop-line.invariant.same)
+          ∙ sym (one_more c.args.self.now now c.args.lines.now c.loop-line.line-index line c.loop-line-test.true c.line-item.is);
+    }

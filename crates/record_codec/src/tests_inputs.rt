@@ -1,0 +1,124 @@
+//! Inputs that are read, cut and broken.
+
+use crate::tests::{LOOK, LOOK_STARTS, cut_place};
+use crate::{ReadError, input_len, read_input, read_input_v1, write_input};
+use f2b_base::{Bytes, Input};
+use std::alloc::Global;
+use std::process::Abort;
+use std::test::Fail;
+
+// An input of each kind, at 1000 with the word 7, in the order of the kinds.
+const KINDS: [&[u8]; 15] = [
+    &[0],
+    &[1, 1, b'a', 0, 0, 0],
+    &[
+        2, 0xff, 0xff, 0xff, 0xff, 0xff, 0xff, 0xff, 0xff, 0xff, 1, 0, 1,
+    ],
+    &[3, 0, 0],
+    &[4],
+    &[5, 1, b'a', 2, 4, 0xc0, 0, 2, 7, 4, 0xc0, 0, 2, 8],
+    &[6, 0, 0],
+    &[6, 1, 1, b'a', 1, 2, 4, 0xc0, 0, 2, 7, 4, 0xc0, 0, 2, 7],
+    &[7, 1, b'a', 4, 0xc0, 0, 2, 7],
+    &[8, 1, b'a', 4, 0xc0, 0, 2, 0, 24, 1],
+    &[9, 1, b'a', 0x80, 0xbc, 0xe0, 0xdf, 0x0b],
+    &[10, 1, b'a', 1],
+    &[11, 1, b'a', 0xa0, 0x8d, 6],
+    &[12, 1, b'a', 1],
+    &[13, 2, 2],
+];
+
+// What an input is spelt as is what was read of it.
+fn is_spelt_as(alloc: Global, input: &Input, bytes: &[u8]) -> Result<bool, Fail> {
+    let mut out = Bytes::new(alloc);
+    write_input(alloc, input, &mut out)?;
+    Ok(out.as_slice() == bytes && input_len(input) == bytes.len() as u64)
+}
+
+// The bytes of an input at 1000 with the word 7.
+fn input_of(alloc: Global, what: &[u8]) -> Result<Bytes, Fail> {
+    let mut out = Bytes::new(alloc);
+    out.push_slice(&[0xe8, 7, 7])?;
+    out.push_slice(what)?;
+    Ok(out)
+}
+
+#[test]
+fn each_kind_of_input_is_read_and_written_again(rt: HostRuntime) -> Result<(), Fail> {
+    let alloc = rt.alloc();
+    for what in KINDS {
+        let mut bytes = input_of(alloc, what)?;
+        let len = bytes.len();
+        bytes.push(0xff)?;
+        let (input, read) = read_input(alloc, bytes.as_slice()).or(Err("not read"))?;
+        assert_eq!(rt; read, len as u64);
+        bytes.truncate(len);
+        assert!(rt; is_spelt_as(alloc, &input, bytes.as_slice())?, "{what:?}");
+    }
+    Ok(())
+}
+
+// The place at which an input is bad.
+fn input_fault(rt: &impl Abort, alloc: Global, bytes: &[u8]) -> Option<u64> {
+    match read_input(alloc, bytes) {
+        Ok(_) => None,
+        Err(ReadError::Bad(at)) => Some(at),
+        Err(ReadError::NoMemory) => {
+            assert!(rt; false, "no memory");
+            None
+        }
+    }
+}
+
+#[test]
+fn an_input_that_is_cut_is_bad_at_the_field_that_is_cut(rt: HostRuntime) {
+    let alloc = rt.alloc();
+    for len in 0..LOOK.len() {
+        let place = input_fault(&rt, alloc, &LOOK[..len]);
+        assert_eq!(rt;
+            place,
+            Some(cut_place(&LOOK_STARTS, len as u64)),
+            "cut at {len}"
+        );
+    }
+}
+
+// What happened as it is broken, and the place that is bad then.
+const BROKEN: [(&[u8], u64); 9] = [
+    (&[14], 3),
+    (&[5, 1, b'a', 2, 4, 0xc0, 0, 2, 7, 4, 0xc0, 0, 2, 7], 12),
+    (&[6, 2], 4),
+    (&[8, 1, b'a', 4, 0xc0, 0, 2, 1, 24, 1], 11),
+    (&[9, 1, b'a', 0], 6),
+    (&[10, 1, b'a', 0], 6),
+    (&[11, 1, b'a', 0xa1, 0x8d, 6], 6),
+    (&[12, 1, b'a', 0x80], 6),
+    (&[13, 2, 3], 5),
+];
+
+#[test]
+fn an_input_that_is_broken_is_bad_at_the_first_field_at_fault(rt: HostRuntime) -> Result<(), Fail> {
+    let alloc = rt.alloc();
+    for (what, place) in BROKEN {
+        let bytes = input_of(alloc, what)?;
+        assert_eq!(rt;
+            input_fault(&rt, alloc, bytes.as_slice()),
+            Some(place),
+            "{what:?}"
+        );
+    }
+    Ok(())
+}
+
+#[test]
+fn version_one_reads_the_same_inputs_but_for_lines(rt: HostRuntime) -> Result<(), Fail> {
+    let alloc = rt.alloc();
+    for what in KINDS {
+        let bytes = input_of(alloc, what)?;
+        let (input, _) = read_input_v1(alloc, bytes.as_slice()).or(Err("not read"))?;
+        assert!(rt; is_spelt_as(alloc, &input, bytes.as_slice())?, "{what:?}");
+    }
+    let cut = read_input_v1(alloc, &LOOK).err().ok_or("read")?;
+    assert_eq!(rt; cut, ReadError::Bad(32));
+    Ok(())
+}

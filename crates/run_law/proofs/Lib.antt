@@ -1,0 +1,12 @@
+mod RowJails
+mod StartRows
+mod TreeRows
+mod TurnRows
+pub mod PointLemmas
+pub mod StageLemmas
+pub mod SaidLemmas
+pub mod ChangesLemmas
+pub mod CauseLemmas
+pub mod ServeLemmas
+pub mod TurnLemmas
+pub mod WordLemmas

@@ -1,0 +1,385 @@
+-- From the law alone: a run ends for its turns exactly where it has made as many pauses as it was asked for.
+use Rattle.std.proofs.Common.{ℕ, zero, suc, ◌≡◌, ◌≢◌, ◌<◌, ◌≤◌, ◌+◌, ◌-◌, ◌++◌, Bool, true, false, cond, List, [], ◌∷◌, Option, Some, None, Result, Ok, Err, refl, sym, ◌∙◌, subst, arith}
+use Rattle.std.specs.Prelude.{slice_get, option_map}
+use Rattle.f2b_base.specs.declared.input.What.{What}
+use Rattle.f2b_base.specs.declared.outside.TreeAnswer.{TreeAnswer}
+use Rattle.f2b_base.specs.declared.outside.TreeAnswer.TheVariants.{Tree, Failed as TreeFailed, TooLarge as TreeTooLarge, NoMemory as TreeNoMemory}
+use Rattle.f2b_world.specs.Told.{History, grown}
+use Rattle.f2b_world.specs.Walks.{after, Along}
+use Rattle.f2b_world.specs.declared.answer.Look.{Look}
+use Rattle.f2b_world.specs.declared.answer.Look.TheVariants.{File, Absent, Failed as LookFailed, NoMemory as LookNoMemory}
+use Rattle.f2b_world.specs.declared.answer.MakeAnswer.{MakeAnswer}
+use Rattle.f2b_world.specs.declared.answer.MakeAnswer.TheVariants.{Built, Syntax as WasSyntax, TooBig as WasTooBig}
+use Rattle.f2b_world.specs.declared.answer.Said.TheVariants.{Done, Failed as SayFailed}
+use Rattle.f2b_world.specs.declared.event.Event.{Event}
+use Rattle.f2b_world.specs.declared.event.Event.TheVariants.{Say, Make, Clock, Config, Names, Look as LookAt, Pause}
+use Rattle.filter_regex.specs.declared.error.BuildKind.TheVariants.{Syntax, TooBig}
+use Rattle.jail_conf.specs.Conf.{conf}
+use Rattle.jail_conf.specs.declared.conf_error.ConfError.{ConfError}
+use Rattle.jail_conf.specs.declared.settings.Settings.{Settings}
+use Rattle.log_follow.specs.Watches.{looked as watch_looked}
+use Rattle.run_law.specs.Calls.{Call, IsNext}
+use Rattle.run_law.specs.Clock.{tick_news}
+use Rattle.run_law.specs.Law.{Free, Ends, IsOver, MayCome, call_of, feed, moved, opening, point_call, turns}
+use Rattle.run_law.specs.Logs.{Watching, next_look}
+use Rattle.run_law.specs.Looks.{after_look, log_call, look_news, looked, looked_at, now_is, unread_news}
+use Rattle.run_law.specs.News.{News, after_news, brings, brings_by, entered, goes_to, lines_in, owing, refused, server_after}
+use Rattle.run_law.specs.Patterns.{Pattern, is_any_action, patterns_of}
+use Rattle.run_law.specs.Paths.{Path, Naming, first_naming, named, with_paths}
+use Rattle.run_law.specs.Pause.{paused, turned}
+use Rattle.run_law.specs.Points.{Place, AtClock, AtLook, AtPause, Point, AtTree, AtMakes, AtFirst, AtNames, AtTurn, Over, Run}
+use Rattle.run_law.specs.Refusals.{status_lines}
+use Rattle.run_law.specs.Served.{CountsTurns, pauses_in}
+use Rattle.run_law.specs.Server.{Server, begun, is_spent, is_stopping, jails, read_at}
+use Rattle.run_law.specs.Start.{accepted, defined, first_turn, made, make_call, makes_on, names_call, names_in, start_news, to_makes, to_names, tree_read, unread_by}
+use Rattle.run_law.specs.Turn.{look_point, to_accept, to_children, to_end, to_logs, to_looks, to_starts}
+use Rattle.run_law.proofs.PointLemmas.{paid_call}
+use Rattle.run_law.proofs.SaidLemmas.{pause_next}
+use Rattle.run_law.specs.declared.plan.Plan.{Plan}
+use Rattle.run_law.specs.declared.status.Status.{Status}
+use Rattle.run_law.specs.declared.status.Status.TheVariants.{Stopped, TurnsSpent, WorkloadDone, Usage, ConfFault, ConfRefused, DiskFault, NotAJournal, JournalFull, GateFault, SinkFault, ConfTooLarge, PatternRefused, NumbersSpent, NotBuilt, NoMemory}
+
+-- ---- where the entries of a turn lead: to a place of it, with the same server
+
+record IsOfTurn (point : Point) (s : Server) : Type 0 where
+  pub place : Place
+  pub is : point ≡ AtTurn place s
+
+children_of_turn : (s : Server) → IsOfTurn (to_children s) s
+unfolding to_children to_accept to_starts to_end
+children_of_turn s = record { place = AtPause; is = refl }
+
+look_of_turn : (o : Option ℕ) (s : Server) → IsOfTurn (look_point o s) s
+look_of_turn (Some i) s = record { place = AtLook i; is = refl }
+look_of_turn None s = children_of_turn s
+
+looks_of_turn : (i : ℕ) (s : Server) → IsOfTurn (to_looks i s) s
+looks_of_turn i s = look_of_turn (next_look i (jails s) s.logs) s
+
+either_of_turn : (stopping : Bool) (s : Server) → IsOfTurn (cond stopping (to_children s) (to_looks 0 s)) s
+either_of_turn true s = children_of_turn s
+either_of_turn false s = looks_of_turn 0 s
+
+logs_of_turn : (s : Server) → IsOfTurn (to_logs s) s
+unfolding to_logs
+logs_of_turn s = either_of_turn (is_stopping s) s
+
+-- ---- how many pauses fit a point
+
+-- so many were made: with the turns that are left they are all turns, and some turn is left
+abbrev FitsPoint : ℕ → ℕ → Point → Type 0
+FitsPoint all made (AtNames settings naming s) = (made ≡ 0) × (s.left ≡ all)
+FitsPoint all made (AtTurn place s) = (made + s.left ≡ all) × (1 ≤ s.left)
+FitsPoint all made (Over TurnsSpent) = made ≡ all
+FitsPoint all made (Over status) = made < all
+FitsPoint all made _ = made ≡ 0
+
+-- where the turns are spent nothing is owed
+abbrev IsPaid : Point → List (List ℕ) → Type 0
+IsPaid (Over TurnsSpent) owed = owed ≡ []
+IsPaid _ owed = Unit {0}
+
+record Fits (all made : ℕ) (r : Run) : Type 0 where
+  pub plan : r.plan.turns ≡ all
+  pub point : FitsPoint all made r.point
+  pub paid : IsPaid r.point r.owed
+
+-- a place of a turn fits as another one of the same turn does
+of_turn : (all made : ℕ) (r : Run) (point : Point) (s : Server) (lines : List (List ℕ)) → IsOfTurn point s → r.plan.turns ≡ all → made + s.left ≡ all → 1 ≤ s.left → Fits all made (owing lines (goes_to point r))
+of_turn all made r point s lines turn plan sum some =
+    let P : Point → Type 0 = λ p. Fits all made (owing lines (goes_to p r)) in
+    subst P (sym turn.is) (record { plan = plan; point = (sum, some); paid = tt })
+
+-- an input takes no turn
+same_left : (o : Option What) (s : Server) → (server_after o s).left ≡ s.left
+same_left None s = refl
+same_left (Some what) s = refl
+
+-- what an event brings leads to its point, or numbers are spent
+module _ (P : Run → Type 0) (news : News) (next : Server → Point) (s : Server) (r : Run)
+    (goes : (lines : List (List ℕ)) → P (owing lines (goes_to (next (after_news news s)) r))) (over : (lines : List (List ℕ)) → P (owing lines (goes_to (Over NumbersSpent) r))) where
+  entered_case : (spent : Bool) (what : What) → news.what ≡ Some what → P (entered spent news what next s r)
+  entered_case true what is = over (status_lines s.now NumbersSpent)
+  entered_case false what is =
+      let Q : Option What → Type 0 = λ o. (lines : List (List ℕ)) → P (owing lines (goes_to (next (server_after o s)) r)) in
+      subst Q is goes (lines_in news what s)
+
+  by_case : (o : Option What) → news.what ≡ o → P (brings_by o news next s r)
+  by_case None is =
+      let Q : Option What → Type 0 = λ o. (lines : List (List ℕ)) → P (owing lines (goes_to (next (server_after o s)) r)) in
+      subst Q is goes (news.before ++ news.behind)
+  by_case (Some what) is = entered_case (is_spent s) what is
+
+  brings_case : P (brings news next s r)
+  unfolding brings
+  brings_case = by_case news.what refl
+
+-- ---- the start
+
+module _ (all : ℕ) (some : 1 ≤ all) (r : Run) (plan : r.plan.turns ≡ all) where
+  refused_fits : (status : Status) → FitsPoint all 0 (Over status) → IsPaid (Over status) (r.owed ++ status_lines 0 status) → Fits all 0 (refused 0 status r)
+  refused_fits status point paid = record { plan = plan; point = point; paid = paid }
+
+  early : 0 < all
+  early = omega (arith, some)
+
+  makes_fits : (settings : Settings) (left : List Pattern) → Fits all 0 (goes_to (to_makes settings left) r)
+  makes_fits settings [] = record { plan = plan; point = refl; paid = tt }
+  makes_fits settings (p ∷ ps) = record { plan = plan; point = refl; paid = tt }
+
+  accepted_fits : (action : Bool) (settings : Settings) → Fits all 0 (accepted action settings r)
+  accepted_fits true settings = refused_fits NotBuilt early tt
+  accepted_fits false settings = makes_fits settings (patterns_of settings.defs)
+
+  defined_fits : (o : Result Settings ConfError) → Fits all 0 (defined o r)
+  defined_fits (Ok settings) = accepted_fits (is_any_action settings.defs) settings
+  defined_fits (Err error) = refused_fits (ConfRefused error) early tt
+
+  tree_fits : (answer : TreeAnswer) → Fits all 0 r → Fits all 0 (tree_read answer r)
+  tree_fits (Tree tree) fits = defined_fits (conf tree)
+  tree_fits TreeFailed fits = refused_fits ConfFault early tt
+  tree_fits TreeTooLarge fits = refused_fits ConfTooLarge early tt
+  tree_fits TreeNoMemory fits = fits
+
+  made_fits : (answer : MakeAnswer) (settings : Settings) (p : Pattern) (ps : List Pattern) → Fits all 0 (made answer settings p ps r)
+  made_fits Built settings p ps = makes_fits settings ps
+  made_fits WasSyntax settings p ps = refused_fits (PatternRefused p.jail p.place Syntax) early tt
+  made_fits WasTooBig settings p ps = refused_fits (PatternRefused p.jail p.place TooBig) early tt
+
+  on_fits : (left : List Pattern) (answer : MakeAnswer) (settings : Settings) → Fits all 0 r → Fits all 0 (makes_on left answer settings r)
+  on_fits [] answer settings fits = fits
+  on_fits (p ∷ ps) answer settings fits = made_fits answer settings p ps
+
+  first_fits : (news : News) (s : Server) → s.left ≡ all → Fits all 0 (brings news first_turn s r)
+  first_fits news s left =
+      let same : (after_news news s).left ≡ all = same_left news.what s ∙ left in
+      brings_case (Fits all 0) news first_turn s r
+      (λ lines. record { plan = plan; point = (omega (arith, same), omega (arith, some, same)); paid = tt })
+      (λ lines. record { plan = plan; point = early; paid = tt })
+
+  named_fits : (news : News) (settings : Settings) (naming : Naming) (s : Server) → s.left ≡ all → Fits all 0 (brings news (AtNames settings naming) s r)
+  named_fits news settings naming s left =
+      brings_case (Fits all 0) news (AtNames settings naming) s r
+      (λ lines. record { plan = plan; point = (refl, same_left news.what s ∙ left); paid = tt })
+      (λ lines. record { plan = plan; point = early; paid = tt })
+
+  names_fits : (before : List (List ℕ)) (settings : Settings) (naming : Naming) (left : List Path) (s : Server) → s.left ≡ all → Fits all 0 (to_names before settings naming left s r)
+  names_fits before settings naming [] s is = first_fits (start_news before (with_paths settings.defs naming.found) s) s is
+  names_fits before settings naming (p ∷ ps) s is = named_fits (record { before = before; what = None; behind = [] }) settings naming s is
+
+-- ---- a turn
+
+module _ (all made : ℕ) (r : Run) (plan : r.plan.turns ≡ all) (s : Server) (sum : made + s.left ≡ all) (some : 1 ≤ s.left) where
+  sooner : made < all
+  sooner = omega (arith, sum, some)
+
+  -- what is brought for a server with as many turns left
+  turn_fits : (news : News) (next : Server → Point) (t : Server) → ((u : Server) → IsOfTurn (next u) u) → t.left ≡ s.left → Fits all made (brings news next t r)
+  turn_fits news next t turn left =
+      let u = after_news news t in
+      let same : u.left ≡ s.left = same_left news.what t ∙ left in
+      brings_case (Fits all made) news next t r
+      (λ lines. of_turn all made r (next u) u lines (turn u) plan (omega (arith, sum, same)) (omega (arith, some, same)))
+      (λ lines. record { plan = plan; point = sooner; paid = tt })
+
+  -- the run only goes on
+  plain_fits : (point : Point) → IsOfTurn point s → Fits all made (goes_to point r)
+  plain_fits point turn =
+      let P : Point → Type 0 = λ p. Fits all made (goes_to p r) in
+      subst P (sym turn.is) (record { plan = plan; point = (sum, some); paid = tt })
+
+  looked_fits : (answer : Look) (l : Watching) (i : ℕ) → Fits all made r → Fits all made (looked answer l i s r)
+  looked_fits (File file) l i fits = turn_fits (look_news s (after_look file l) (watch_looked l.watch file).1) (to_looks (i + 1)) (now_is i (after_look file l) s) (looks_of_turn (i + 1)) refl
+  looked_fits Absent l i fits = plain_fits (to_looks (i + 1) s) (looks_of_turn (i + 1) s)
+  looked_fits LookFailed l i fits = turn_fits (unread_news s l) (to_looks (i + 1)) s (looks_of_turn (i + 1)) refl
+  looked_fits LookNoMemory l i fits = fits
+
+  looked_at_fits : (o : Option Watching) (answer : Look) (i : ℕ) → Fits all made r → Fits all made (looked_at o answer i s r)
+  looked_at_fits None answer i fits = fits
+  looked_at_fits (Some l) answer i fits = looked_fits answer l i fits
+
+  turned_fits : (n : ℕ) → s.left ≡ suc n → r.owed ≡ [] → Fits all (suc made) (goes_to (turned n s) r)
+  turned_fits zero left paid = record { plan = plan; point = omega (arith, sum, left); paid = paid }
+  turned_fits (suc n) left paid = record { plan = plan; point = (omega (arith, sum, left), omega arith); paid = tt }
+
+  paused_fits : r.owed ≡ [] → Fits all (suc made) (paused s r)
+  paused_fits paid = let same : s.left ≡ suc (s.left - 1) = omega (arith, some) in turned_fits (s.left - 1) same paid
+
+-- ---- one event
+
+-- an event that is no pause
+abbrev IsNoPause : Event → Type 0
+IsNoPause (Pause ms) = ⊥
+IsNoPause _ = Unit {0}
+
+sooner_of : (all made : ℕ) (s : Server) → made + s.left ≡ all → 1 ≤ s.left → made < all
+sooner_of all made s sum some = omega (arith, sum, some)
+
+-- pauses so far, behind an event
+abbrev pauses_after : ℕ → Event → ℕ
+pauses_after made (Pause ms) = suc made
+pauses_after made _ = made
+
+names_no_pause : (left : List Path) (ms : ℕ) → IsNext (names_call left) (Pause ms) → ⊥
+names_no_pause [] ms next = next
+names_no_pause (p ∷ ps) ms next = next
+
+makes_no_pause : (left : List Pattern) (ms : ℕ) → IsNext (make_call left) (Pause ms) → ⊥
+makes_no_pause [] ms next = next
+makes_no_pause (p ∷ ps) ms next = next
+
+look_no_pause : (o : Option Watching) (ms : ℕ) → IsNext (option_map log_call o) (Pause ms) → ⊥
+look_no_pause None ms next = next
+look_no_pause (Some l) ms next = next
+
+-- a pause is the last call of a turn
+pause_fits : (all made : ℕ) (r : Run) (p : Point) (ms : ℕ) → r.plan.turns ≡ all → FitsPoint all made p → r.owed ≡ [] → IsNext (point_call r.plan p) (Pause ms)
+    → Fits all (suc made) (moved p (Pause ms) r)
+pause_fits all made r AtTree ms plan point paid next = absurd next
+pause_fits all made r (AtMakes settings left) ms plan point paid next = absurd (makes_no_pause left ms next)
+pause_fits all made r (AtFirst settings) ms plan point paid next = absurd next
+pause_fits all made r (AtNames settings naming s) ms plan point paid next = absurd (names_no_pause naming.left ms next)
+pause_fits all made r (AtTurn AtClock s) ms plan point paid next = absurd next
+pause_fits all made r (AtTurn (AtLook i) s) ms plan point paid next = absurd (look_no_pause (slice_get s.logs i) ms next)
+pause_fits all made r (AtTurn AtPause s) ms plan point paid next = paused_fits all made r plan s point.0 point.1 paid
+pause_fits all made r (Over status) ms plan point paid next = absurd next
+
+turns_fit : (all made : ℕ) (r : Run) (place : Place) (s : Server) (event : Event) → r.plan.turns ≡ all → FitsPoint all made (AtTurn place s) → Fits all made r → IsNoPause event → Fits all made (turns place event s r)
+turns_fit all made r AtClock s (Clock answer) plan point fits plain =
+    let t = read_at answer s in turn_fits all made r plan s point.0 point.1 (tick_news t) to_logs t logs_of_turn refl
+turns_fit all made r (AtLook i) s (LookAt path head from max answer) plan point fits plain = looked_at_fits all made r plan s point.0 point.1 (slice_get s.logs i) answer i fits
+turns_fit all made r AtPause s (Pause ms) plan point fits plain = absurd plain
+turns_fit all made r _ s _ plan point fits plain = fits
+
+-- where the start has made no pause
+at_none : (all made : ℕ) (r t : Run) → made ≡ 0 → Fits all made r → (Fits all 0 r → Fits all 0 t) → Fits all made t
+at_none all made r t none fits more =
+    let P : ℕ → Type 0 = λ n. Fits all n r in
+    let Q : ℕ → Type 0 = λ n. Fits all n t in
+    subst Q (sym none) (more (subst P none fits))
+
+moved_fits : (all made : ℕ) (some : 1 ≤ all) (r : Run) (p : Point) (event : Event) → r.plan.turns ≡ all → FitsPoint all made p → Fits all made r → IsNoPause event → Fits all made (moved p event r)
+moved_fits all made some r AtTree (Config root answer) plan point fits plain = at_none all made r _ point fits (λ f. tree_fits all some r plan answer f)
+moved_fits all made some r (AtMakes settings left) (Make text answer) plan point fits plain = at_none all made r _ point fits (λ f. on_fits all some r plan left answer settings f)
+moved_fits all made some r (AtFirst settings) (Clock answer) plan point fits plain =
+    at_none all made r _ point fits (λ f. names_fits all some r plan [] settings (first_naming settings.defs) (first_naming settings.defs).left (begun r.plan.turns answer) plan)
+moved_fits all made some r (AtNames settings naming s) (Names dir answer) plan point fits plain =
+    let next = named (names_in answer) naming in
+    at_none all made r _ point.0 fits (λ f. names_fits all some r plan (unread_by answer s.now naming.left) settings next next.left s point.1)
+moved_fits all made some r (AtTurn place s) event plan point fits plain = turns_fit all made r place s event plan point fits plain
+moved_fits all made some r _ _ plan point fits plain = fits
+
+-- a line may be said before the last turn is over alone
+say_sooner : (all made : ℕ) (some : 1 ≤ all) (plan : Plan) (p : Point) (owed : List (List ℕ)) (event : Event) → FitsPoint all made p → IsPaid p owed → IsNext (call_of plan p owed) event → made < all
+say_sooner all made some plan AtTree owed event point paid next = omega (arith, some, point)
+say_sooner all made some plan (AtMakes settings left) owed event point paid next = omega (arith, some, point)
+say_sooner all made some plan (AtFirst settings) owed event point paid next = omega (arith, some, point)
+say_sooner all made some plan (AtNames settings naming s) owed event point paid next = let none : made ≡ 0 = point.0 in omega (arith, some, none)
+say_sooner all made some plan (AtTurn place s) owed event point paid next = sooner_of all made s point.0 point.1
+say_sooner all made some plan (Over TurnsSpent) owed event point paid next = absurd (let P : List (List ℕ) → Type 0 = λ ls. IsNext (call_of plan (Over TurnsSpent) ls) event in subst P paid next)
+say_sooner all made some plan (Over Stopped) owed event point paid next = point
+say_sooner all made some plan (Over WorkloadDone) owed event point paid next = point
+say_sooner all made some plan (Over Usage) owed event point paid next = point
+say_sooner all made some plan (Over ConfFault) owed event point paid next = point
+say_sooner all made some plan (Over (ConfRefused error)) owed event point paid next = point
+say_sooner all made some plan (Over DiskFault) owed event point paid next = point
+say_sooner all made some plan (Over (NotAJournal slot at)) owed event point paid next = point
+say_sooner all made some plan (Over (JournalFull need limit)) owed event point paid next = point
+say_sooner all made some plan (Over GateFault) owed event point paid next = point
+say_sooner all made some plan (Over SinkFault) owed event point paid next = point
+say_sooner all made some plan (Over ConfTooLarge) owed event point paid next = point
+say_sooner all made some plan (Over (PatternRefused jail place kind)) owed event point paid next = point
+say_sooner all made some plan (Over NumbersSpent) owed event point paid next = point
+say_sooner all made some plan (Over NotBuilt) owed event point paid next = point
+say_sooner all made some plan (Over NoMemory) owed event point paid next = point
+
+paid_none : (p : Point) → IsPaid p []
+paid_none (Over TurnsSpent) = refl
+paid_none _ = tt
+
+step_fits : (all made : ℕ) (some : 1 ≤ all) (r : Run) (event : Event) → Fits all made r → MayCome r event → Fits all (pauses_after made event) (feed r event)
+step_fits all made some r (Say bytes Done) fits may = record { plan = fits.plan; point = fits.point; paid = paid_none r.point }
+step_fits all made some r (Say bytes SayFailed) fits may = record { plan = fits.plan; point = say_sooner all made some r.plan r.point r.owed (Say bytes SayFailed) fits.point fits.paid may; paid = tt }
+step_fits all made some r (Pause ms) fits may =
+    let paid = pause_next r.plan r.point r.owed ms may in
+    let P : List (List ℕ) → Type 0 = λ ls. IsNext (call_of r.plan r.point ls) (Pause ms) in
+    let Q : Option Call → Type 0 = λ c. IsNext c (Pause ms) in
+    pause_fits all made r r.point ms fits.plan fits.point paid (subst Q (paid_call r.plan r.point) (subst P paid may))
+step_fits all made some r event fits may = moved_fits all made some r r.point event fits.plan fits.point fits tt
+
+-- ---- whole runs
+
+made_after : ℕ → List Event → ℕ
+made_after made [] = made
+made_after made (event ∷ es) = made_after (pauses_after made event) es
+
+walk : (all made : ℕ) (some : 1 ≤ all) (r : Run) (g : History) (es : List Event) → Fits all made r → Along feed MayCome Free r g es → Fits all (made_after made es) (after feed MayCome Free r es)
+unfolding made_after
+walk all made some r g [] fits along = fits
+walk all made some r g (event ∷ es) fits along =
+    walk all (pauses_after made event) some (feed r event) (grown g (event ∷ [])) es (step_fits all made some r event fits along.0.allowed) along.1
+
+event_counts : (made : ℕ) (event : Event) (es : List Event) → pauses_after made event + pauses_in es ≡ made + pauses_in (event ∷ es)
+event_counts made (Pause ms) es = omega arith
+event_counts made _ es = refl
+
+counted : (made : ℕ) (es : List Event) → made_after made es ≡ made + pauses_in es
+unfolding made_after
+counted made [] = omega arith
+counted made (event ∷ es) = counted (pauses_after made event) es ∙ event_counts made event es
+
+over_fits : (all made : ℕ) (status : Status) → status ≢ TurnsSpent → FitsPoint all made (Over status) → made < all
+over_fits all made TurnsSpent other point = absurd (other refl)
+over_fits all made Stopped other point = point
+over_fits all made WorkloadDone other point = point
+over_fits all made Usage other point = point
+over_fits all made ConfFault other point = point
+over_fits all made (ConfRefused error) other point = point
+over_fits all made DiskFault other point = point
+over_fits all made (NotAJournal slot at) other point = point
+over_fits all made (JournalFull need limit) other point = point
+over_fits all made GateFault other point = point
+over_fits all made SinkFault other point = point
+over_fits all made ConfTooLarge other point = point
+over_fits all made (PatternRefused jail place kind) other point = point
+over_fits all made NumbersSpent other point = point
+over_fits all made NotBuilt other point = point
+over_fits all made NoMemory other point = point
+
+ends_over : (status : Status) (r : Run) → status ≢ NoMemory → Ends status r → r.point ≡ Over status
+ends_over NoMemory r loud ends = absurd (loud refl)
+ends_over Stopped r loud ends = ends.point
+ends_over TurnsSpent r loud ends = ends.point
+ends_over WorkloadDone r loud ends = ends.point
+ends_over Usage r loud ends = ends.point
+ends_over ConfFault r loud ends = ends.point
+ends_over (ConfRefused error) r loud ends = ends.point
+ends_over DiskFault r loud ends = ends.point
+ends_over (NotAJournal slot at) r loud ends = ends.point
+ends_over (JournalFull need limit) r loud ends = ends.point
+ends_over GateFault r loud ends = ends.point
+ends_over SinkFault r loud ends = ends.point
+ends_over ConfTooLarge r loud ends = ends.point
+ends_over (PatternRefused jail place kind) r loud ends = ends.point
+ends_over NumbersSpent r loud ends = ends.point
+ends_over NotBuilt r loud ends = ends.point
+
+-- a run that was planned ends for its turns exactly where it has made as many pauses
+pub counts_turns : (plan : Plan) (status : Status) (g : History) (es : List Event) → 1 ≤ plan.turns → Along feed MayCome Free (opening plan) g es → Ends status (after feed MayCome Free (opening plan) es)
+    → CountsTurns plan.turns status es
+counts_turns plan status g es some along ends =
+    let all = plan.turns in
+    let first : Fits all 0 (opening plan) = record { plan = refl; point = refl; paid = tt } in
+    let last = walk all 0 some (opening plan) g es first along in
+    let made : made_after 0 es ≡ pauses_in es = counted 0 es ∙ omega arith in
+    let P : Point → Type 0 = λ p. FitsPoint all (made_after 0 es) p in
+    record {
+      spent = λ is.
+          let Q : Status → Type 0 = λ s. Ends s (after feed MayCome Free (opening plan) es) in
+          let over : IsOver TurnsSpent (after feed MayCome Free (opening plan) es) = subst Q is ends in
+          let all_made : made_after 0 es ≡ all = subst P over.point last.point in
+          sym made ∙ all_made;
+      sooner = λ other loud.
+          let less : made_after 0 es < all = over_fits all (made_after 0 es) status other (subst P (ends_over status (after feed MayCome Free (opening plan) es) loud ends) last.point) in
+          omega (arith, less, made);
+    }

@@ -1,0 +1,29 @@
+-- Calls on the outside with their arguments, and which event is which call.
+use Rattle.std.specs.Prelude.{ℕ, ◌≡◌, List, Option, Some, None}
+use Rattle.f2b_world.specs.declared.event.Event.{Event}
+use Rattle.f2b_world.specs.declared.event.Event.TheVariants.{Say, Make, Clock, Config, Names, Look as LookAt, Pause}
+
+pub data Call : Type 0 where
+  AskSay : List ℕ → Call
+  AskTree : List ℕ → Call
+  AskMake : List ℕ → Call
+  AskClock : Call
+  AskNames : List ℕ → Call
+  -- a path, how many of the first bytes, from which offset on, and how many bytes at most
+  AskLook : List ℕ → ℕ → ℕ → ℕ → Call
+  AskPause : ℕ → Call
+
+-- the event is this call, with some answer
+abbrev pub Makes : Call → Event → Type 0
+Makes (AskSay line) (Say bytes answer) = bytes ≡ line
+Makes (AskTree root) (Config there answer) = there ≡ root
+Makes (AskMake text) (Make made answer) = made ≡ text
+Makes AskClock (Clock answer) = Unit {0}
+Makes (AskNames dir) (Names there answer) = there ≡ dir
+Makes (AskLook path head from max) (LookAt there first begin most answer) = (there ≡ path) × (first ≡ head) × (begin ≡ from) × (most ≡ max)
+Makes (AskPause ms) (Pause waited) = waited ≡ ms
+Makes _ _ = ⊥
+
+abbrev pub IsNext : Option Call → Event → Type 0
+IsNext (Some call) event = Makes call event
+IsNext None event = ⊥

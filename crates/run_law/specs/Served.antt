@@ -1,0 +1,81 @@
+-- What a whole run is.
+use Rattle.std.specs.Prelude.{ℕ, suc, ◌≡◌, ◌≢◌, ◌<◌, ◌++◌, List, [], ◌∷◌, take, slice_get, Option, Some, None}
+use Rattle.f2b_world.specs.Told.{History, Adds}
+use Rattle.f2b_world.specs.Walks.{after, Along}
+use Rattle.f2b_world.specs.declared.answer.Said.TheVariants.{Done}
+use Rattle.f2b_world.specs.declared.event.Event.{Event}
+use Rattle.f2b_world.specs.declared.event.Event.TheVariants.{Say, Pause}
+use Rattle.f2b_world.specs.Told.{Standing}
+use Rattle.run_law.specs.Law.{MayCome, Free, Ends, feed, begin}
+use Rattle.run_law.specs.Points.{Run}
+use Rattle.run_law.specs.Said.{joined}
+use Rattle.run_law.specs.Stages.{HasCause}
+use Rattle.run_law.specs.Words.{plan_of}
+use Rattle.run_law.specs.declared.status.Status.{Status}
+use Rattle.run_law.specs.declared.status.Status.TheVariants.{TurnsSpent, Usage, SinkFault, NoMemory}
+
+-- each event is the call that comes next after those before it
+abbrev pub Obeys : Run → History → List Event → Type 0
+Obeys r g es = Along feed MayCome Free r g es
+
+-- where the events leave a run of these words
+abbrev pub run_after : List (List ℕ) → List Event → Run
+run_after words es = after feed MayCome Free (begin words) es
+
+-- ---- what was said
+
+-- the bytes that were said without a fault
+abbrev pub said_by : List Event → List ℕ
+said_by [] = []
+said_by (Say bytes Done ∷ es) = bytes ++ said_by es
+said_by (_ ∷ es) = said_by es
+
+-- all lines that the events so far tell of a run, said or owed, as bytes
+abbrev pub lines_in : Run → List ℕ
+lines_in r = joined (r.said ++ r.owed)
+
+abbrev pub lines_by : List (List ℕ) → List Event → List ℕ
+lines_by words es = lines_in (run_after words es)
+
+abbrev pub IsBeginning : List ℕ → List ℕ → Type 0
+IsBeginning xs ys = (rest : List ℕ) × (ys ≡ xs ++ rest)
+
+-- all was said where a run ends, but for a sink fault and want of memory
+abbrev pub SaysAll : List (List ℕ) → Status → List Event → Type 0
+SaysAll words SinkFault es = Unit {0}
+SaysAll words NoMemory es = Unit {0}
+SaysAll words _ es = said_by es ≡ lines_by words es
+
+-- At every point what was said is a beginning of the lines of the events so far; at each pause and at the end it is all of them.
+pub record SaysInOrder (words : List (List ℕ)) (status : Status) (es : List Event) : Type 0 where
+  pub begins : (k : ℕ) → IsBeginning (said_by (take k es)) (lines_by words (take k es))
+  pub paused : (k ms : ℕ) → slice_get es k ≡ Some (Pause ms) → said_by (take k es) ≡ lines_by words (take k es)
+  pub ended : SaysAll words status es
+
+-- ---- turns
+
+-- how many pauses there were
+abbrev pub pauses_in : List Event → ℕ
+pauses_in [] = 0
+pauses_in (Pause ms ∷ es) = suc (pauses_in es)
+pauses_in (_ ∷ es) = pauses_in es
+
+-- A run ends for its turns exactly where it has made as many pauses as it was asked for, and never makes more.
+pub record CountsTurns (turns : ℕ) (status : Status) (es : List Event) : Type 0 where
+  pub spent : status ≡ TurnsSpent → pauses_in es ≡ turns
+  pub sooner : status ≢ TurnsSpent → status ≢ NoMemory → pauses_in es < turns
+
+-- ---- the whole run
+
+-- The run's events obey the law from the first to the last, the run ends with this status where no call is left, and its lines were said
+-- in their order.
+pub record IsRun (old new : Option History) (words : List (List ℕ)) (status : Status) : Type 0 where
+  pub law : Adds old new (λ g es. Obeys (begin words) g es × Ends status (run_after words es))
+  pub lines : Adds old new (λ g es. SaysInOrder words status es)
+
+-- The cause of each status, in every world: words outside the table, or a cause behind them. That all turns were made is told by the
+-- events.
+abbrev pub IsCaused : List (List ℕ) → Standing → Standing → Status → Type 0
+IsCaused words old new TurnsSpent = Unit {0}
+IsCaused words old new Usage = plan_of words ≡ None
+IsCaused words old new status = HasCause old new status

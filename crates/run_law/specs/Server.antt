@@ -1,0 +1,69 @@
+-- What a server has come to, once it has read the clock.
+use Rattle.std.specs.Prelude.{ℕ, max, min, Bool, List, [], Option}
+use Rattle.f2b_base.specs.Limits.{latest_reading}
+use Rattle.f2b_base.specs.declared.input.Input.{Input}
+use Rattle.f2b_base.specs.declared.input.What.{What}
+use Rattle.f2b_base.specs.declared.outside.Reading.{Reading}
+use Rattle.f2b_model.specs.Lanes.{books}
+use Rattle.f2b_model.specs.State.{Jail}
+use Rattle.f2b_model.specs.Steps.{moves, find_jail}
+use Rattle.f2b_model.specs.Whole.{State, step, told, empty_state, is_whole_spent}
+use Rattle.run_law.specs.Logs.{Watching, logs_of}
+use Rattle.run_law.specs.Said.{lines_of}
+
+pub record Server : Type 0 where
+  -- the state after all inputs so far
+  pub state : State
+  -- the greatest reading so far, and the last reading's word
+  pub now : ℕ
+  pub word : ℕ
+  -- in the order of the jails and their watches
+  pub logs : List Watching
+  -- the turns that are left
+  pub left : ℕ
+
+-- ---- what is derived
+
+abbrev pub jails : Server → List Jail
+jails s = s.state.jails.jails
+
+abbrev pub jail_named : List ℕ → Server → Option Jail
+jail_named name s = find_jail moves name (jails s)
+
+abbrev pub is_stopping : Server → Bool
+is_stopping s = s.state.lanes.stopping
+
+-- whether serials or ids are used up
+abbrev pub is_spent : Server → Bool
+is_spent s = is_whole_spent moves books s.state
+
+-- ---- the clock
+
+-- a reading above the latest counts as it
+abbrev pub moment_of : Reading → ℕ
+moment_of answer = min answer.secs latest_reading
+
+-- now never goes back
+abbrev pub read_at : Reading → Server → Server
+read_at answer s = record s { now = max s.now (moment_of answer); word = answer.word }
+
+-- a server at its first reading: nothing happened yet
+abbrev pub begun : ℕ → Reading → Server
+begun turns answer = record { state = empty_state; now = moment_of answer; word = answer.word; logs = []; left = turns }
+
+-- ---- an input
+
+-- what happened, at the last reading
+abbrev pub input_at : Server → What → Input
+input_at s what = record { secs = s.now; word = s.word; what = what }
+
+-- the step of an input
+abbrev pub taken : What → Server → Server
+taken what s = record s { state = step s.state (input_at s what) }
+
+abbrev pub told_lines : What → Server → List (List ℕ)
+told_lines what s = lines_of s.now (told s.state (input_at s what))
+
+-- the logs of the jails as they are now
+abbrev pub following : Server → Server
+following s = record s { logs = logs_of s.logs (jails s) }

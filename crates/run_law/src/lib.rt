@@ -1,0 +1,14 @@
+//! The law of a whole run of the server: which call on the outside comes next, and where its answer leads.
+//!
+//! There is no code here but how a run ends and what it is asked to do. A run is a list of events, one for each call; `specs/Law.antt`
+//! says after each of them the one call that may come next, and which lines are told by then, so a server that obeys it can be told
+//! from one that does not by its events alone. Each part of a run has a file of its own: `Start`, `Clock`, `Looks`, `Pause`. What
+//! an event brings is taken in one place, `News`: no part knows how lines are said. What follows from the law alone stands in
+//! `proofs/`: that what was said is at every point a beginning of what was told. Nothing here opens a file or knows what a core keeps.
+#![tactic(auto)]
+
+mod plan;
+mod status;
+
+pub use plan::Plan;
+pub use status::Status;

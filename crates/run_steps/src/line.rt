@@ -1,0 +1,108 @@
+//! The lines that the server says, each as a text and its stamp.
+ghost use Rattle.std.specs.Prelude.{◌≡◌, ◌++◌, IfOk, OnOk, codes};
+ghost use Rattle.f2b_base.specs.Addresses.{printed};
+ghost use Rattle.run_law.specs.Said.{stamped, ready_line, happening_text, line_of, rotated_line, unread_line};
+
+use f2b_base::{Addr, Bytes, NoMemory, Text};
+use f2b_model::Happening;
+use std::alloc::Global;
+
+/// The text as a line of this second, in seconds since 1970.
+#[tactic(auto, unfolding(run_law::specs::Said::stamped))]
+pub fn stamped(alloc: Global, now: u64, text: &[u8]) -> Result<Bytes, NoMemory>
+    ensures { IfOk result (λ line. line ≡ stamped now text.now) }
+{
+    let seconds = format!(in alloc; "{now}")?;
+    let mut line = Bytes::from_slice(alloc, seconds.as_bytes())?;
+    line.push_slice(b" ")?;
+    line.push_slice(text)?;
+    line.push_slice(b"\n")?;
+    Ok(line)
+}
+
+/// That the server takes failures from now on.
+#[tactic(auto, unfolding(run_law::specs::Said::ready_line))]
+pub fn ready_line(alloc: Global, now: u64) -> Result<Bytes, NoMemory>
+    ensures { IfOk result (λ line. line ≡ ready_line now) }
+{
+    stamped(alloc, now, b"INFO Server ready")
+}
+
+fn push_addr(text: &mut Bytes, addr: &Addr) -> Result<(), NoMemory>
+    ensures { OnOk result (text.new ≡ text.old ++ printed addr.now) }
+{
+    let mut printed = [0; 45];
+    let len = addr.print(&mut printed);
+    text.push_slice(&printed[..len])
+}
+
+fn jail_text(
+    alloc: Global,
+    begin: &[u8],
+    name: &Text,
+    deed: &[u8],
+    addr: &Addr,
+) -> Result<Bytes, NoMemory>
+    ensures { IfOk result (λ text. text ≡ begin.now ++ name.now ++ deed.now ++ printed addr.now) }
+{
+    let mut text = Bytes::from_slice(alloc, begin)?;
+    text.push_slice(name.as_str().as_bytes())?;
+    text.push_slice(deed)?;
+    push_addr(&mut text, addr)?;
+    Ok(text)
+}
+
+fn happening_text(alloc: Global, happening: &Happening) -> Result<Bytes, NoMemory>
+    ensures { IfOk result (λ text. text ≡ happening_text happening.now) }
+{
+    match happening {
+        Happening::Counts { jail, addr } => jail_text(alloc, b"INFO [", jail, b"] Found ", addr),
+        Happening::Begins { jail, ban, .. } => jail_text(
+            alloc,
+            b"NOTICE [",
+            jail,
+            b"] Ban ",
+            &ban.addr,
+        ),
+        Happening::Ends { jail, ban } => jail_text(
+            alloc,
+            b"NOTICE [",
+            jail,
+            b"] Unban ",
+            &ban.addr,
+        ),
+    }
+}
+
+/// What a step did in a jail, as the line of its second.
+#[tactic(auto, unfolding(run_law::specs::Said::line_of))]
+pub fn happening_line(alloc: Global, now: u64, happening: &Happening) -> Result<Bytes, NoMemory>
+    ensures { IfOk result (λ line. line ≡ line_of now happening.now) }
+{
+    let text = happening_text(alloc, happening)?;
+    stamped(alloc, now, text.as_slice())
+}
+
+/// That a log or a directory cannot be read, by the path that the jail names.
+#[tactic(auto, unfolding(run_law::specs::Said::unread_line))]
+pub fn unread_line(alloc: Global, now: u64, jail: &str, path: &str) -> Result<Bytes, NoMemory>
+    ensures { IfOk result (λ line. line ≡ unread_line now jail.now path.now) }
+{
+    let mut text = Bytes::from_slice(alloc, b"WARNING [")?;
+    text.push_slice(jail.as_bytes())?;
+    text.push_slice(b"] cannot read ")?;
+    text.push_slice(path.as_bytes())?;
+    stamped(alloc, now, text.as_slice())
+}
+
+/// That a log is another one now.
+#[tactic(auto, unfolding(run_law::specs::Said::rotated_line))]
+pub fn rotated_line(alloc: Global, now: u64, jail: &str, path: &str) -> Result<Bytes, NoMemory>
+    ensures { IfOk result (λ line. line ≡ rotated_line now jail.now path.now) }
+{
+    let mut text = Bytes::from_slice(alloc, b"INFO [")?;
+    text.push_slice(jail.as_bytes())?;
+    text.push_slice(b"] rotated ")?;
+    text.push_slice(path.as_bytes())?;
+    stamped(alloc, now, text.as_slice())
+}
