@@ -1,3 +1,7 @@
+//! The program's files, and whole tests over them.
+
+mod rows;
+
 use crate::files::RealFiles;
 use f2b_world::{FileAnswer, FilePiece, Files};
 use std::alloc::AllocError;

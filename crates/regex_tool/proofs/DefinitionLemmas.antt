@@ -1,5 +1,5 @@
 -- The jail that is tested, and how few patterns it has.
-use Rattle.std.proofs.Common.{◌≡◌, ℕ, ◌+◌, ◌<◌, ◌≤◌, ◌^◌, pos, List, [], ◌∷◌, ◌++◌, length, slice_index_or, Option, None, Some, Result, Ok, Err, refl, sym, ap, subst, ◌∙◌, arith}
+use Rattle.std.proofs.Common.{◌≡◌, ℕ, ◌+◌, ◌<◌, ◌≤◌, ◌^◌, pos, List, [], ◌∷◌, ◌++◌, length, slice_get, Option, None, Some, Result, Ok, Err, refl, sym, ap, subst, ◌∙◌, arith}
 use Rattle.std.proofs.lemmas.List.Sums.{sum_by-append}
 use Rattle.f2b_base.specs.declared.jail.JailDef.{JailDef}
 use Rattle.f2b_base.specs.declared.outside.Tree.{Tree}
@@ -45,7 +45,7 @@ few_lines (Some text) lines few = omega arith
 pub testable_with : (asks : Asks) (jail : JailDef) → IsFew jail → IsTestable (with_words asks jail)
 testable_with asks jail few = record { zone = refl; few = record { fail = few.fail; ignore_lines = few_lines asks.ignore jail.ignore_lines few.ignore_lines } }
 
--- the first of some jails
-pub first_by : (jails : List JailDef) (jail : JailDef) → 0 < length jails → jail ≡ slice_index_or jails 0 jail → first_of jails ≡ Some jail
-first_by [] jail some is = absurd (omega arith)
-first_by (first ∷ jails) jail some is = ap Some (sym is)
+-- the jail at the first place
+pub first_at : (jails : List JailDef) (jail : JailDef) → slice_get jails 0 ≡ Some jail → first_of jails ≡ Some jail
+first_at [] jail is = is
+first_at (first ∷ jails) jail is = is

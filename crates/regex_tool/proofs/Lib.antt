@@ -7,3 +7,4 @@ pub mod RaisedLemmas
 pub mod ReadLemmas
 pub mod RunLemmas
 pub mod TargetLemmas
+pub mod TreeLemmas

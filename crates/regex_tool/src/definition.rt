@@ -89,15 +89,15 @@ fn filter_tree(alloc: Global, name: &str, tree: &Tree) -> Result<Tree, NoMemory>
     Ok(Tree { files })
 }
 
-/// The one jail of a configuration. That there is none is never so, and told as want of memory.
-fn only_jail(settings: Settings) -> Result<JailDef, NoMemory>
-    ensures { IfOk result (λ jail. first_of settings.defs.jails ≡ Some jail) }
+/// The first jail of a configuration. That there is none is never so, and told as want of memory.
+#[tactic(auto, using(crate::proofs::DefinitionLemmas::first_at))]
+fn only_jail(settings: &Settings) -> Result<JailDef, NoMemory>
+    ensures { IfOk result (λ jail. first_of settings.now.defs.jails ≡ Some jail) }
 {
-    let mut jails = settings.defs.jails;
-    if jails.is_empty() {
-        return Err(NoMemory);
+    match settings.defs.jails.as_slice().first() {
+        Some(jail) => jail.copy(),
+        None => Err(NoMemory),
     }
-    Ok(jails.remove(0))
 }
 
 /// How a date pattern of the words is read.
@@ -176,7 +176,7 @@ fn filter_jail(alloc: Global, target: Target<'_>, tree: &Tree) -> Result<JailDef
 {
     let own = filter_tree(alloc, target.name, tree)?;
     match conf(alloc, &own) {
-        Ok(settings) => Ok(only_jail(settings)?),
+        Ok(settings) => Ok(only_jail(&settings)?),
         Err(fail) => Err(conf_fail(fail)),
     }
 }

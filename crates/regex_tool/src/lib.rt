@@ -19,8 +19,6 @@ mod report;
 mod status;
 mod target;
 mod tool;
-#[cfg(test)]
-mod tests;
 mod words;
 
 pub use kind::ToolKind;

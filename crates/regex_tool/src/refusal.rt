@@ -1,5 +1,6 @@
 //! The line of a test that is refused.
-ghost use Rattle.std.specs.Prelude.{◌≡◌, ◌++◌, IfOk, OnOk};
+ghost use Rattle.std.specs.Prelude.{◌≡◌, ◌++◌, IfOk};
+ghost use Rattle.std.specs.Fmt.{decimal};
 ghost use Rattle.regex_tool.specs.Refusals.{place_text, kind_text, pattern_text, refusal_text, refusal_line};
 
 use crate::kind::ToolKind;
@@ -9,20 +10,22 @@ use f2b_base::{NoMemory, Text};
 use filter_regex::PatternPlace;
 use std::alloc::Global;
 
-fn push_place(alloc: Global, text: &mut Text, place: PatternPlace) -> Result<(), NoMemory>
-    ensures { OnOk result (text.new ≡ text.old ++ place_text place) }
+fn numbered(alloc: Global, word: &str, number: u32) -> Result<Text, NoMemory>
+    ensures { IfOk result (λ text. text ≡ word.now ++ decimal number) }
+{
+    let mut text = Text::from_str(alloc, word)?;
+    push_number(alloc, &mut text, u64::from(number))?;
+    Ok(text)
+}
+
+fn place_text(alloc: Global, place: PatternPlace) -> Result<Text, NoMemory>
+    ensures { IfOk result (λ text. text ≡ place_text place) }
 {
     match place {
-        PatternPlace::Date => text.push_str("datepattern"),
-        PatternPlace::Pref => text.push_str("prefregex"),
-        PatternPlace::Fail(number) => {
-            text.push_str("failregex ")?;
-            push_number(alloc, text, u64::from(number))
-        }
-        PatternPlace::Ignore(number) => {
-            text.push_str("ignoreregex ")?;
-            push_number(alloc, text, u64::from(number))
-        }
+        PatternPlace::Date => Text::from_str(alloc, "datepattern"),
+        PatternPlace::Pref => Text::from_str(alloc, "prefregex"),
+        PatternPlace::Fail(number) => numbered(alloc, "failregex ", number),
+        PatternPlace::Ignore(number) => numbered(alloc, "ignoreregex ", number),
     }
 }
 
@@ -50,7 +53,7 @@ fn pattern_text(
     let mut text = Text::from_str(alloc, "Pattern refused: ")?;
     text.push_str(jail)?;
     text.push_str(" ")?;
-    push_place(alloc, &mut text, place)?;
+    text.push_str(place_text(alloc, place)?.as_str())?;
     text.push_str(" ")?;
     text.push_str(kind_text(kind))?;
     Ok(text)

@@ -52,7 +52,7 @@ returns-in-Absent-2-clause-read g c =
 pub loop-piece-preserved : goal.loop-piece-preserved
 loop-piece-preserved g c = record {
   opened = opened_then _ _ _ c.loop-piece.invariant.opened (opened_by_piece _ _ c.piece.result _ c.piece.ensures.file);
-  reads = reads_more _ _ _ _ _ c.loop-piece.at 65536 _ c.in-Bytes-2.bytes c.as_slice.result.now c.loop-piece.invariant.reads
-      (answered _ _ _ c.piece.result _ c.args.path.now c.loop-piece.at 65536 c.in-Bytes-2.is c.loop-piece.invariant.opened c.piece.ensures.file)
+  reads = reads_more _ _ _ _ _ c.loop-piece.at 65536 _ c.in-Bytes.bytes c.as_slice.result.now c.loop-piece.invariant.reads
+      (answered _ _ _ c.piece.result _ c.args.path.now c.loop-piece.at 65536 c.in-Bytes.is c.loop-piece.invariant.opened c.piece.ensures.file)
       c.in_ok-feed-in-Bytes-2.ensures c.as_slice.ensures (c.in_ok-at-in-Bytes-2.ensures ∙ ap (λ n. c.loop-piece.at + n) c.len.ensures);
 }
