@@ -7,9 +7,7 @@ use crate::fault::Fault;
 use crate::regular::open_regular;
 use crate::tree::{TreeFault, read_tree};
 use f2b_base::{Bytes, TreeAnswer};
-use f2b_world::{
-    FileAnswer, FilePiece, Files, Made, Outside, Patterns, build_pattern, raised,
-};
+use f2b_world::{FileAnswer, FilePiece, Files, Made, Outside, Patterns, build_pattern, raised};
 use std::alloc::AllocGlobal;
 use std::rt;
 

@@ -74,11 +74,7 @@ fn refusal_text(alloc: Global, jail: &str, status: &ToolStatus) -> Result<Text, 
 
 /// What is said where a test of the jail with this name ends so.
 #[tactic(auto, unfolding(crate::specs::Refusals::refusal_line))]
-pub(crate) fn refusal_line(
-    alloc: Global,
-    jail: &str,
-    status: &ToolStatus,
-) -> Result<Text, NoMemory>
+pub(crate) fn refusal_line(alloc: Global, jail: &str, status: &ToolStatus) -> Result<Text, NoMemory>
     ensures { IfOk result (λ line. line ≡ refusal_line jail.now status.now) }
 {
     let text = refusal_text(alloc, jail, status)?;

@@ -23,10 +23,7 @@ pub enum ToolStatus {
     /// The directory of the filter has too many files of a configuration, or too many bytes in them.
     TooLarge,
     /// A pattern was refused.
-    PatternRefused {
-        place: PatternPlace,
-        kind: ToolKind,
-    },
+    PatternRefused { place: PatternPlace, kind: ToolKind },
     NoMemory,
 }
 

@@ -37,7 +37,11 @@ const NOW: u64 = 1_709_287_210;
 fn placed(rt: &HostRuntime, place: &String, line: &[&str]) -> Result<Vec<String>, AllocError> {
     let mut words = Vec::new(rt.alloc());
     for word in line {
-        let front = if word.starts_with("/") { place.as_str() } else { "" };
+        let front = if word.starts_with("/") {
+            place.as_str()
+        } else {
+            ""
+        };
         words.push(format!(in rt.alloc(); "{front}{word}")?)?;
     }
     Ok(words)
@@ -69,7 +73,8 @@ const FOUR: &[u8] = b"2024-03-01T10:00:00Z bad from 192.0.2.7\n\
 no date from 192.0.2.9\n";
 
 /// The first line of a log of sshd.
-const SSHD: &str = "2024-03-01T10:00:00+00:00 host sshd[811]: Failed password for root from 192.0.2.7 port 4242 ssh2";
+const SSHD: &str =
+    "2024-03-01T10:00:00+00:00 host sshd[811]: Failed password for root from 192.0.2.7 port 4242 ssh2";
 
 const SSHD_CONF: &[u8] = b"[Definition]\n\
 prefregex = ^\\s*\\S+ sshd(?:-session)?\\[[0-9]+\\]: <F-CONTENT>.+</F-CONTENT>$\n\
@@ -179,10 +184,22 @@ const LOGS: &[(&[u8], &str)] = &[
     (b"", "Lines: 0 lines, 0 ignored, 0 matched, 0 missed\n"),
     (b"\n", "Lines: 1 lines, 0 ignored, 0 matched, 1 missed\n"),
     // Without LF at its end, with CR, with NUL, and not UTF-8.
-    (b"1709287200 from 192.0.2.7", "Lines: 1 lines, 0 ignored, 1 matched, 0 missed\n"),
-    (b"1709287200 from 192.0.2.7\r\n1709287200 from 192.0.2.7\r", "Lines: 2 lines, 0 ignored, 2 matched, 0 missed\n"),
-    (b"1709287200 a\0b from 192.0.2.7\n", "Lines: 1 lines, 0 ignored, 1 matched, 0 missed\n"),
-    (b"1709287200 \xff from 192.0.2.7\n", "Lines: 1 lines, 0 ignored, 1 matched, 0 missed\n"),
+    (
+        b"1709287200 from 192.0.2.7",
+        "Lines: 1 lines, 0 ignored, 1 matched, 0 missed\n",
+    ),
+    (
+        b"1709287200 from 192.0.2.7\r\n1709287200 from 192.0.2.7\r",
+        "Lines: 2 lines, 0 ignored, 2 matched, 0 missed\n",
+    ),
+    (
+        b"1709287200 a\0b from 192.0.2.7\n",
+        "Lines: 1 lines, 0 ignored, 1 matched, 0 missed\n",
+    ),
+    (
+        b"1709287200 \xff from 192.0.2.7\n",
+        "Lines: 1 lines, 0 ignored, 1 matched, 0 missed\n",
+    ),
 ];
 
 #[test]
