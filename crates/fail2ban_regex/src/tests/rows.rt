@@ -1,37 +1,11 @@
 //! Worked tests over real files, as tables of what they say.
 
+use super::hearing::{FOUR, status_and_text};
 use super::{folder, within};
 use crate::files::RealFiles;
-use f2b_base::{Bytes, NoMemory};
-use f2b_world::{Outside, Said, Sink};
-use regex_tool::regex_tool;
 use std::alloc::AllocError;
 use std::fs;
 use std::test::Fail;
-
-/// Keeps what was said, and tells no history. It has counted as many faults as it can.
-#[derive(Drop)]
-struct Heard {
-    text: Bytes,
-}
-
-impl Outside for Heard {
-    ghost use Rattle.std.specs.Prelude.{None, ◌-◌, ◌^◌};
-
-    ghost stands = { λ _. record { told = None; talk = None; shelf = None; faults = λ _. 2 ^ 64 - 1 } };
-}
-
-impl Sink for Heard {
-    fn say(&mut self, bytes: &[u8]) -> Said {
-        match self.text.push_slice(bytes) {
-            Ok(()) => Said::Done,
-            Err(NoMemory) => Said::Failed,
-        }
-    }
-}
-
-/// 2024-03-01T10:00:10Z.
-const NOW: u64 = 1_709_287_210;
 
 /// The words, with the folder before each path.
 fn placed(rt: &HostRuntime, place: &String, line: &[&str]) -> Result<Vec<String>, AllocError> {
@@ -47,17 +21,11 @@ fn placed(rt: &HostRuntime, place: &String, line: &[&str]) -> Result<Vec<String>
     Ok(words)
 }
 
-/// The number of the status, a blank, and what was said.
+/// What is told of the words over the real files.
 fn told(rt: &HostRuntime, place: &String, line: &[&str]) -> Result<String, Fail> {
     let words = placed(rt, place, line)?;
     let mut files = RealFiles::new(rt.clone()?);
-    let mut heard = Heard {
-        text: Bytes::new(rt.alloc()),
-    };
-    let status = regex_tool(rt.alloc(), words.as_slice(), NOW, &mut files, &mut heard);
-    let number = status.number();
-    let text = String::from_utf8_lossy(rt.alloc(), heard.text.as_slice())?;
-    Ok(format!(in rt.alloc(); "{number} {text}")?)
+    status_and_text(rt, words.as_slice(), &mut files)
 }
 
 /// Writes a file into the folder.
@@ -66,11 +34,6 @@ fn put(rt: &HostRuntime, place: &String, name: &str, content: &[u8]) -> Result<(
     fs::write(rt, path.as_str(), content)?;
     Ok(())
 }
-
-const FOUR: &[u8] = b"2024-03-01T10:00:00Z bad from 192.0.2.7\n\
-2024-03-01T10:00:01Z user=test from 192.0.2.8\n\
-2024-03-01T10:00:02Z fine\n\
-no date from 192.0.2.9\n";
 
 /// The first line of a log of sshd.
 const SSHD: &str =
@@ -206,9 +169,9 @@ const LOGS: &[(&[u8], &str)] = &[
 fn reads_any_bytes(rt: HostRuntime) -> Result<(), Fail> {
     let place = folder(&rt, "bytes")?;
     for (content, last) in LOGS {
-        put(&rt, &place, "log", content)?;
+        put(&rt, &place, "log", *content)?;
         let text = told(&rt, &place, &["/log", "from <HOST>$"])?;
-        assert!(rt; text.as_str().ends_with(last));
+        assert!(rt; text.as_str().ends_with(*last));
     }
     fs::remove_dir_all(&rt, place.as_str())?;
     Ok(())
