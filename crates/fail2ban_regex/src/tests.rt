@@ -1,8 +1,8 @@
 //! The program's files, and whole tests over them.
 
+mod hearing;
 mod memory;
 mod rows;
-mod hearing;
 
 use crate::files::RealFiles;
 use f2b_world::{FileAnswer, FilePiece, Files};

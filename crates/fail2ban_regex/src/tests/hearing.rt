@@ -36,7 +36,11 @@ pub const FOUR: &[u8] = b"2024-03-01T10:00:00Z bad from 192.0.2.7\n\
 no date from 192.0.2.9\n";
 
 /// The number of the status, a blank, and what was said.
-pub fn status_and_text<F: Files>(rt: &HostRuntime, words: &[String], files: &mut F) -> Result<String, Fail> {
+pub fn status_and_text<F: Files>(
+    rt: &HostRuntime,
+    words: &[String],
+    files: &mut F,
+) -> Result<String, Fail> {
     let mut heard = Heard {
         text: Bytes::new(rt.alloc()),
     };
