@@ -1,1 +1,3 @@
 pub mod ToldLemmas
+pub mod BringLemmas
+pub mod ConfigLemmas
