@@ -8,6 +8,7 @@
 mod clock;
 mod fault;
 mod look;
+mod names;
 mod real;
 mod regular;
 #[cfg(test)]

@@ -5,11 +5,12 @@
 use crate::clock;
 use crate::fault::Fault;
 use crate::look::look_at;
+use crate::names::list_names;
 use crate::tree::{TreeFault, read_tree};
 use f2b_base::{FileLook, Reading, TreeAnswer};
 use f2b_world::{
-    Configuration, Faults, Logs, Look, Made, Outside, Patterns, Said, Sink, Time, World,
-    build_pattern, raised,
+    Configuration, Directories, Faults, Logs, Look, Made, NamesAnswer, Outside, Patterns, Said,
+    Sink, Time, World, build_pattern, raised,
 };
 use std::alloc::AllocGlobal;
 use std::io::Print;
@@ -136,6 +137,23 @@ where
             Err(Fault::Failed) => {
                 self.faults.logs = raised(self.faults.logs);
                 Look::Failed
+            }
+        }
+    }
+}
+
+impl<R> Directories for RealWorld<R>
+where
+    R: Files + Clock + Print + AllocGlobal + Clone + Drop,
+{
+    fn names(&mut self, dir: &str) -> NamesAnswer {
+        match list_names(&self.rt, dir) {
+            Ok(names) => NamesAnswer::Names(names),
+            Err(Fault::Absent) => NamesAnswer::Absent,
+            Err(Fault::NoMemory) => NamesAnswer::NoMemory,
+            Err(Fault::Failed) => {
+                self.faults.logs = raised(self.faults.logs);
+                NamesAnswer::Failed
             }
         }
     }

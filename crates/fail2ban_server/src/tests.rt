@@ -1,6 +1,6 @@
 use crate::real::RealWorld;
 use f2b_base::TreeAnswer;
-use f2b_world::{Configuration, Logs, Look};
+use f2b_world::{Configuration, Directories, Logs, Look, NamesAnswer};
 use std::alloc::AllocError;
 use std::os::unix::fs::symlink;
 use std::test::Fail;
@@ -98,6 +98,31 @@ fn refuses_more_bytes_than_a_configuration_may_have(rt: HostRuntime) -> Result<(
     assert!(rt; matches!(world.config(place.as_str()), TreeAnswer::Tree(_)));
     file.set_len(16_777_217)?;
     assert_eq!(rt; world.config(place.as_str()), TreeAnswer::TooLarge);
+    fs::remove_dir_all(&rt, place.as_str())?;
+    Ok(())
+}
+
+#[test]
+fn lists_the_names_of_a_directory(rt: HostRuntime) -> Result<(), Fail> {
+    let place = folder(&rt, "names")?;
+    fs::create_dir(&rt, within(&rt, &place, "c")?.as_str())?;
+    for file in ["b", "a2", "a10"] {
+        fs::write(&rt, within(&rt, &place, file)?.as_str(), file)?;
+    }
+    let mut world = RealWorld::new(rt.clone()?);
+    let NamesAnswer::Names(names) = world.names(place.as_str()) else {
+        return Err(Fail::from("no names"));
+    };
+    let mut listed = String::new(rt.alloc());
+    for name in names.as_slice() {
+        listed.push_str(name.as_str())?;
+        listed.push(' ')?;
+    }
+    assert_eq!(rt; listed.as_str(), "a10 a2 b c ");
+    let file = within(&rt, &place, "b")?;
+    let missing = within(&rt, &place, "x")?;
+    assert_eq!(rt; world.names(file.as_str()), NamesAnswer::Absent);
+    assert_eq!(rt; world.names(missing.as_str()), NamesAnswer::Absent);
     fs::remove_dir_all(&rt, place.as_str())?;
     Ok(())
 }

@@ -12,7 +12,7 @@ pub const HELP: &str = "\
 Usage: fail2ban-server --conf DIR [--turns N]
        fail2ban-server --help | --version
 
-Follows logs and bans the addresses that fail too often.
+Follows the logs of the enabled jails and bans the addresses that fail too often.
 
   --conf DIR   read the configuration in DIR: each file in it, or in a
                directory in it, whose name ends in .conf or .local
@@ -26,9 +26,12 @@ Exit status:
    0  made its N turns
    2  the words are none of those above
    3  the configuration cannot be read
+   4  the configuration is refused
    9  standard output cannot be written
+  10  the configuration has too many files, or too many bytes
   11  a pattern is refused
-  13  the configuration is not of the form that is built so far
+  12  the serials of bans are used up
+  13  a jail has an action, and no command is run yet
   71  out of memory
 ";
 

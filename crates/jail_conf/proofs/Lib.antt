@@ -2,6 +2,7 @@ pub mod AcceptedLemmas
 pub mod ActionLemmas
 mod AddressLemmas
 mod BoundLemmas
+pub mod DatedLemmas
 pub mod DistinctLemmas
 pub mod EachLemmas
 pub mod EnabledLemmas

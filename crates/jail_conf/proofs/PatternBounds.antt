@@ -1,6 +1,6 @@
--- How long patterns are, by how their texts are read.
+-- What patterns are and how long, by how their texts are read.
 use Rattle.std.proofs.Common.{◌≡◌, ℕ, ◌+◌, ◌≤◌, ◌==◌, Bool, true, false, cond, ◌&&◌, ◌||◌, not, nat_le, nat_lt, List, [], ◌∷◌, length, drop, Option, None, Some, Ok, refl, subst, arith}
-use Rattle.std.specs.Prelude.{codes, nat_eq}
+use Rattle.std.specs.Prelude.{codes, nat_eq, IsTrue}
 use Rattle.std.specs.List.{starts_with, list_all}
 use Rattle.std.specs.Str.{bytes_eq}
 use Rattle.std.proofs.lemmas.Bool.{leb-true}
@@ -71,21 +71,33 @@ pub record AreShortLines (lines : Lines) : Type 0 where
 
 -- ---- patterns of dates
 
+-- a date pattern, not too long
+pub record IsShortDatePattern (text : List ℕ) : Type 0 where
+  pub words : IsTrue (is_date_pattern text)
+  pub short : IsShort text
+
 abbrev pub IsShortDate : DateSpec → Type 0
-IsShortDate (Pattern text) = IsShort text
-IsShortDate (AnchoredPattern text) = IsShort text
+IsShortDate (Pattern text) = IsShortDatePattern text
+IsShortDate (AnchoredPattern text) = IsShortDatePattern text
 IsShortDate _ = Unit {0}
 
-fits_is : (text : List ℕ) → pattern_fits text ≡ Ok tt → IsShort text
+fits_is : (text : List ℕ) → pattern_fits text ≡ Ok tt → IsShortDatePattern text
 fits_is text is =
     let long = then_ok (refuse_if (not (is_date_pattern text)) BadDate) _ tt is in
-    by (nat_lt 8_192 (length text)) refl long
+    record {
+      words = holds (is_date_pattern text) (was_not_refused (not (is_date_pattern text)) BadDate _ tt is);
+      short = by (nat_lt 8_192 (length text)) refl long;
+    }
   where
+    holds : (words : Bool) → not words ≡ false → IsTrue words
+    holds true is = refl
+    holds false is = absurd (cc)
+
     by : (long : Bool) → nat_lt 8_192 (length text) ≡ long → refuse_if long TooMany ≡ Ok tt → IsShort text
     by true long is = absurd (cc)
     by false long is = grind (arith, nat_tests, long)
 
-date_pattern_is : (spec : List ℕ → DateSpec) → ((text : List ℕ) → IsShort text → IsShortDate (spec text)) → (text : List ℕ) (one : DateSpec) →
+date_pattern_is : (spec : List ℕ → DateSpec) → ((text : List ℕ) → IsShortDatePattern text → IsShortDate (spec text)) → (text : List ℕ) (one : DateSpec) →
     date_pattern spec text ≡ Ok one → IsShortDate one
 date_pattern_is spec short text one is =
     let fits = first_ok (pattern_fits text) (Ok (spec text)) one is in

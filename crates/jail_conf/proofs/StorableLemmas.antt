@@ -30,8 +30,8 @@ storable_date Anchored short text = tt
 storable_date NoDate short text = tt
 storable_date Epoch short text = tt
 storable_date Iso short text = tt
-storable_date (Pattern pattern) short text = (text, short)
-storable_date (AnchoredPattern pattern) short text = (text, short)
+storable_date (Pattern pattern) short text = (text, short.short)
+storable_date (AnchoredPattern pattern) short text = (text, short.short)
 
 storable_pref : (pref : Option (List ℕ)) → IsShortPrefix pref → IsUtf8OrNone pref → IsStorablePref pref
 storable_pref None short text = tt

@@ -6,7 +6,7 @@ ghost use Rattle.f2b_model.specs.Sound.{AreFitDefs};
 ghost use Rattle.f2b_model.specs.Storable.{AreStorableDefs};
 ghost use Rattle.jail_conf.specs.Conf.{but_default, jail_names, is_enabled, patterns_in, next_jail, with_next, jails_behind, conf};
 ghost use Rattle.jail_conf.specs.Jails.{is_name_byte, is_jail_name};
-ghost use Rattle.jail_conf.specs.Laws.{AreWithinLimits};
+ghost use Rattle.jail_conf.specs.Laws.{AreDated, AreWithinLimits};
 ghost use Rattle.jail_conf.specs.Sources.{bases_of, sections_of};
 ghost use Rattle.jail_conf.specs.Then.{Gives};
 
@@ -148,7 +148,8 @@ fn jails_in(
 
 /// What the files of a configuration come to, or the first refusal.
 ///
-/// What is accepted is fit for the model, no more than a server may be given, and within all bounds of what is stored.
+/// What is accepted is fit for the model, no more than a server may be given, and within all bounds of what is stored. What a user
+/// wrote as a date pattern is one.
 ///
 /// Reads no file and builds no pattern: paths may still have wildcards, and patterns their tags.
 pub fn conf(alloc: Global, tree: &Tree) -> Result<Settings, ConfFail>
@@ -156,6 +157,7 @@ pub fn conf(alloc: Global, tree: &Tree) -> Result<Settings, ConfFail>
     ensures fit { IfOk result (λ settings. AreFitDefs settings.defs) }
     ensures limits { IfOk result (λ settings. AreWithinLimits settings.defs) }
     ensures storable { IfOk result (λ settings. AreStorableDefs settings.defs) }
+    ensures dated { IfOk result (λ settings. AreDated settings.defs) }
 {
     let files = FileTable::new(alloc, tree)?;
     let merged = sections_of(alloc, &files, "fail2ban")?;

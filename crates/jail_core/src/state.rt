@@ -235,11 +235,19 @@ impl Core {
         self.jails.next_ban() > 1 << 62 || self.actions.next_job() > 1 << 62
     }
 
+    /// Whether a stop was asked for. Takes no memory.
+    pub fn is_stopping(&self) -> bool
+        ensures { result ≡ self.now.lanes.stopping }
+    {
+        self.actions.is_stopping()
+    }
+
     /// Whether a configuration would change anything, the ends by time and the drops left aside: its definitions are others, a stop
     /// was asked for, a jail is idle, or the lanes that are up are not just its own. Takes no memory.
     pub fn config_changes(&self, defs: &Defs) -> bool
         requires { AreFitDefs defs.now }
-        ensures { IsTrue result ↔ (configured_now defs.now self.now ≢ self.now) }
+        ensures changes { IsTrue result ↔ (configured_now defs.now self.now ≢ self.now) }
+        ensures watched { AreWatched self.now.jails }
     {
         let same = self.jails.has_defs(defs);
         let stopping = self.actions.is_stopping();

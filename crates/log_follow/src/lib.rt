@@ -18,6 +18,7 @@ mod tests;
 #[cfg(test)]
 mod tests_names;
 
+pub use carry::Carry;
 pub use expand::expand_path;
 pub use follower::Follower;
 pub use glob::glob_match;

@@ -1,18 +1,23 @@
 -- What a set stands for, where one of its parts is changed.
-use Rattle.std.proofs.Common.{◌≡◌, ℕ, zero, suc, ◌+◌, ◌<◌, ◌++◌, inl, inr, Bool, true, false, List, [], ◌∷◌, length, map, drop, Option, Some, None, get_or, refl, sym, ap, ◌∙◌, subst}
+use Rattle.std.proofs.Common.{◌≡◌, ℕ, zero, suc, ◌+◌, ◌<◌, ◌++◌, inl, inr, Bool, true, false, List, [], ◌∷◌, length, map, drop, Option, Some, None, IfSome, get_or, refl, sym, ap, ◌∙◌, subst}
 use Rattle.std.specs.Prelude.{slice_get, slice_set, option_map, find, position, bytes_eq}
 use Rattle.std.specs.List.{position_from}
 use Rattle.std.proofs.lemmas.Bool.{cases_Bool}
 use Rattle.std.proofs.lemmas.List.{set-get_or}
 use Rattle.std.proofs.lemmas.Option.{same_Some}
 use Rattle.std.proofs.lemmas.Iterator.Adapters.{position_from-zero}
+use Rattle.f2b_base.specs.declared.ban.Failure.{Failure}
+use Rattle.f2b_base.specs.declared.input.What.{What}
+use Rattle.f2b_base.specs.declared.jail.Place.{Place}
 use Rattle.f2b_base.specs.declared.outside.FileLook.{FileLook}
 use Rattle.log_follow.specs.Followed.{StandsFor}
 use Rattle.log_follow.specs.Watches.{Answers, Watch, looked}
+use Rattle.log_follow.specs.declared.line.Line.{Line}
 use Rattle.log_follow.specs.declared.step.Ask.{Ask}
+use Rattle.log_follow.specs.declared.step.Step.{Step}
 use Rattle.log_set.specs.Changes.{jail_changed, search_changed, searches_changed}
 use Rattle.log_set.specs.Firsts.{at_first}
-use Rattle.log_set.specs.Logs.{Logs, LogJail, Watching, Stands, AnswersAt, AreLogs, IsAskAt, IsSetOf, MovesAt, TakesAt, after_look, finds_of, is_of, is_rotated, is_looked_at, jail_of, read_of, search_of, taken_of}
+use Rattle.log_set.specs.Logs.{Logs, LogJail, Watching, Stands, AnswersAt, AreLogs, IsAskAt, IsLogRead, IsSetOf, MovesAt, TakesAt, after_look, finds_of, is_of, is_rotated, is_looked_at, jail_of, read_of, search_of, taken_of}
 use Rattle.log_set.specs.Places.{looked_of}
 use Rattle.log_set.specs.Searches.{failures_by, failures_of, is_awake, is_log_awake, is_named}
 use Rattle.log_set.specs.declared.change.Change.{Change}
@@ -145,6 +150,17 @@ taken_at s k now look l new l_now t l_is brings jail path read rotated js ws a i
     ∙ ap (λ finds. read_of finds a.jail a.path (looked_of a.watch look)) (finds_same a.jail now js) in
     let rotated_is : t.rotated ≡ is_rotated (looked a.watch look).1 = rotated ∙ ap (λ (m : Looked). is_rotated m.step) looked_is in
     λ i. record { read = read_is i; rotated = rotated_is i }
+
+-- an input of a look is that its log was read
+reads_to : (finds : Option (List Line → List Failure)) (jail path : List ℕ) (step : Step) (moved : Option Place) → IfSome (read_of finds jail path (record { step = step; moved = moved })) IsLogRead
+reads_to None jail path step moved = tt
+reads_to (Some find) jail path step None = tt
+reads_to (Some find) jail path step (Some place) = tt
+
+pub reads : (finds : Option (List Line → List Failure)) (jail path : List ℕ) (l : Looked) (read : Option What) → read ≡ read_of finds jail path l → IfSome read IsLogRead
+reads finds jail path l read is =
+    let P : Option What → Type 0 = λ o. IfSome o IsLogRead in
+    subst P (sym is) (reads_to finds jail path l.step l.moved)
 
 -- where the set comes to
 pub moved_at : (old new : Logs) (k : ℕ) (look : FileLook) (l m : Log) → new.jails ≡ old.jails → new.logs ≡ slice_set old.logs k m → slice_get old.logs k ≡ Some l

@@ -109,6 +109,11 @@ abbrev pub read_of : Option (List Line → List Failure) → List ℕ → List �
 read_of None jail path l = None
 read_of (Some find) jail path l = read_to find jail path l.step l.moved
 
+-- what happened is that a log was read
+abbrev pub IsLogRead : What → Type 0
+IsLogRead (Read jail path place found) = Unit {0}
+IsLogRead _ = ⊥
+
 -- what finds failures now, by the definition of the first jail of a name
 abbrev pub finds_of : List ℕ → ℕ → List LogJail → Option (List Line → List Failure)
 finds_of name now js = option_map (λ (j : LogJail). failures_of j.definition now) (jail_of name js)

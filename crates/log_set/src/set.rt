@@ -1,5 +1,5 @@
 //! `LogSet` and its methods.
-ghost use Rattle.std.specs.Prelude.{◌≡◌, ◌<◌, ◌≤◌, ◌^◌, length, IfOk, OnErr, OnOk};
+ghost use Rattle.std.specs.Prelude.{◌≡◌, ◌<◌, ◌≤◌, ◌^◌, length, IfOk, IfSome, OnErr, OnOk};
 
 use crate::change::{Change, change_named};
 use crate::followers::go_on;
@@ -33,7 +33,7 @@ impl<'f> LogSet<'f> {
     ghost use Rattle.std.specs.Prelude.{[], map};
     ghost use Rattle.filter_regex.specs.Rules.{rules_of};
     ghost use Rattle.log_follow.specs.Watches.{IsPlace};
-    ghost use Rattle.log_set.specs.Logs.{AddsLog, AnswersAt, AsksAt, BelongsTo, ChangesJail, ComesNext, GoesOn, IsAskAt, IsSetOf, LiesAt, MovesAt, TakesAt, awake, counting, ignoring, resting};
+    ghost use Rattle.log_set.specs.Logs.{AddsLog, AnswersAt, AsksAt, BelongsTo, ChangesJail, ComesNext, GoesOn, IsAskAt, IsLogRead, IsSetOf, LiesAt, MovesAt, TakesAt, awake, counting, ignoring, resting};
 
     /// A set of the jails with these definitions, whose filters are borrowed. None is idle, and there are no logs yet.
     pub fn new(
@@ -91,7 +91,10 @@ impl<'f> LogSet<'f> {
     /// The place of the next log to look at, from a place on: its jail is there and not idle.
     pub fn next(&self, from: usize) -> Option<usize>
         requires { from ≤ length self.now.logs }
-        ensures { ComesNext self.now from result }
+        ensures next { ComesNext self.now from result }
+        ensures onward { IfSome result (λ place. from ≤ place) }
+        ensures within { IfSome result (λ place. place < length self.now.logs) }
+        ensures numbered { IfSome result (λ place. place < usize.MAX) }
     {
         let place = first_awake(self.jails.as_slice(), &self.logs.as_slice()[from..])?;
         Some(from + place)
@@ -135,6 +138,7 @@ impl<'f> LogSet<'f> {
         requires look { AnswersAt self.old place look.now }
         requires now { now < 2 ^ 40 }
         ensures taken { IfOk result (TakesAt self.old place now look.now) }
+        ensures input { IfOk result (λ taken. IfSome taken.read IsLogRead) }
         ensures moves { OnOk result (MovesAt self.old self.new place look.now) }
         ensures len { length self.new.logs ≡ length self.old.logs }
     {

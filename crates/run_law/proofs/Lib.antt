@@ -9,3 +9,4 @@ pub mod CauseLemmas
 pub mod ServeLemmas
 pub mod TurnLemmas
 pub mod WordLemmas
+pub mod JailLemmas

@@ -1,1 +1,5 @@
 pub mod ToldLemmas
+pub mod BringLemmas
+pub mod ConfigLemmas
+pub mod StartLemmas
+pub mod RunningLemmas

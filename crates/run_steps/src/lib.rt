@@ -1,15 +1,22 @@
-//! What the parts of a run share in code: lines as texts, and saying them.
+//! What the parts of a run share in code: lines as texts, saying them, and taking what an event brings.
 //!
-//! A part of a run gathers the lines that an event brings, those of a step among them, and says them all in one call. Each clause of a
-//! call that says something tells from where to where the law of a run goes. Nothing here makes a step, looks at a log or reads a clock.
+//! A part of a run calls the outside once, and hands what the answer brings to `bring`: lines that come first, what happened, and
+//! lines that come behind. There the step is made, and all lines are said in one call. What the code keeps of a server for that is
+//! `Clocked`, and each clause here says from where to where the law of a run goes. Nothing here looks at a log or reads a clock.
 #![tactic(auto)]
 
+mod clocked;
 mod lane_line;
 mod line;
 mod refusal;
+mod running;
 mod say;
+mod taking;
 mod told;
 
+pub use clocked::Clocked;
 pub use line::{ready_line, rotated_line, unread_line};
+pub use running::Running;
 pub use say::{refuse, say_all};
+pub use taking::bring;
 pub use told::{push_lines, push_told};

@@ -28,7 +28,7 @@ const LONG: &str =
 const OPEN: &str =
     "[web]\nenabled = true\nlogpath = /log\nignoreself = false\ndatepattern = Epoch\nfailregex = (<IP4>\nfindtime = 600\nmaxretry = 3\nbantime = 60\n";
 
-const STARTS: [Row; 6] = [
+const STARTS: [Row; 7] = [
     Row {
         words: "",
         conf: WEB,
@@ -42,10 +42,19 @@ const STARTS: [Row; 6] = [
         words: "--conf /c --turns 3",
         conf: "",
         log: &[],
+        readings: &[1000],
+        fails: &[],
+        status: 0,
+        said: "1000 INFO Server ready\n",
+    },
+    Row {
+        words: "--conf /c --turns 3",
+        conf: "[web]\nenabled = true\nlogpath = /log\nfailregex = ^ fail from <IP4>$\nbantime = 0\n",
+        log: &[],
         readings: &[],
         fails: &[],
-        status: 13,
-        said: "0 ERROR not built\n",
+        status: 4,
+        said: "0 ERROR Configuration refused: jail.conf [web] bantime: BadTime\n",
     },
     Row {
         words: "--conf /c --turns 3",
@@ -183,7 +192,7 @@ const ROTATIONS: [Row; 2] = [
         readings: &[1700000110],
         fails: &[],
         status: 0,
-        said: "1700000110 INFO Server ready\n1700000110 INFO [web] Found 192.0.2.7\n1700000110 INFO [web] Found 192.0.2.7\n1700000110 INFO [web] Found 192.0.2.7\n1700000110 NOTICE [web] Ban 192.0.2.7\n",
+        said: "1700000110 INFO Server ready\n1700000110 INFO [web] Found 192.0.2.7\n1700000110 INFO [web] Found 192.0.2.7\n1700000110 INFO [web] rotated /log\n1700000110 INFO [web] Found 192.0.2.7\n1700000110 NOTICE [web] Ban 192.0.2.7\n",
     },
     // The same log, truncated.
     Row {
@@ -197,7 +206,7 @@ const ROTATIONS: [Row; 2] = [
         readings: &[1700000110],
         fails: &[],
         status: 0,
-        said: "1700000110 INFO Server ready\n1700000110 INFO [web] Found 192.0.2.7\n1700000110 INFO [web] Found 192.0.2.7\n1700000110 INFO [web] Found 192.0.2.7\n1700000110 NOTICE [web] Ban 192.0.2.7\n",
+        said: "1700000110 INFO Server ready\n1700000110 INFO [web] Found 192.0.2.7\n1700000110 INFO [web] Found 192.0.2.7\n1700000110 INFO [web] rotated /log\n1700000110 INFO [web] Found 192.0.2.7\n1700000110 NOTICE [web] Ban 192.0.2.7\n",
     },
 ];
 

@@ -1,14 +1,7 @@
-pub mod CauseLemmas
-pub mod WalkLemmas
-pub mod ToldLemmas
-pub mod SayLemmas
-mod LineRows
-pub mod FindLemmas
-pub mod TakeLemmas
+pub mod ClockLemmas
+pub mod NumberLemmas
+pub mod PauseLemmas
+pub mod ResultLemmas
 pub mod TurnLemmas
-pub mod LookLemmas
-pub mod StartLemmas
-pub mod BuildLemmas
-pub mod FirstLemmas
-pub mod SaidLemmas
+pub mod UsageLemmas
 pub mod ServeLemmas

@@ -1,163 +1,96 @@
--- All turns of a run.
-use Rattle.std.proofs.Common.{ℕ, zero, suc, ◌≡◌, ◌+◌, ◌-◌, ◌<◌, ◌≤◌, List, [], Option, Some, None, refl, sym, ap, ◌∙◌, subst, inl, inr, arith}
+-- A run from its plan to its end.
+use Rattle.std.proofs.Common.{◌≡◌, List, [], ◌∷◌, map, refl, sym, subst}
+use Rattle.f2b_world.specs.Told.{Standing}
+use Rattle.f2b_model.specs.Lists.{AllOf}
+use Rattle.f2b_model.specs.Moves.{fresh}
+use Rattle.f2b_model.specs.State.{Jail}
 use Rattle.f2b_base.specs.declared.jail.JailDef.{JailDef}
-use Rattle.f2b_world.specs.Told.{History, Standing, Adds}
-use Rattle.f2b_world.specs.Walks.{after, Along}
-use Rattle.filter_regex.specs.declared.error.BuildKind.TheVariants.{Syntax, TooBig}
-use Rattle.server_top.specs.Law.{Following, AtClock, Run, Halts, Ends, IsOver, MayCome, Free, feed, begin, begin_with, opening, turned}
-use Rattle.server_top.specs.Served.{IsCaused, IsOfUsage, IsRun, SaysInOrder}
-use Rattle.server_top.specs.Words.{plan_of}
-use Rattle.server_top.specs.declared.words.Plan.{Plan}
-use Rattle.server_top.specs.Stages.{HasCause, IsAt, IsRefusedAs, Keeps, Moves, MoveFails, Refuses, turn_end}
-use Rattle.server_top.specs.Starts.{After, BuildFails, BuildsAll, Configures, Finishes, Starts, StartFails, Turned}
-use Rattle.server_top.specs.declared.follow.Follow.{Follow}
-use Rattle.server_top.specs.declared.status.Status.{Status}
-use Rattle.server_top.specs.declared.status.Status.TheVariants.{TurnsSpent, Usage, ConfFault, SinkFault, NotBuilt, PatternRefused, NoMemory}
-use Rattle.server_top.proofs.SaidLemmas.{says_in_order}
-use Rattle.server_top.proofs.WalkLemmas.{goes_refl, goes_trans, get_past, halts_after, halts_here}
+use Rattle.jail_conf.specs.declared.settings.Settings.{Settings}
+use Rattle.log_set.specs.Logs.{IsSetOf, Logs, Watching}
+use Rattle.run_law.specs.Law.{Goes, Halts, opening}
+use Rattle.run_law.specs.Logs.{logs_of}
+use Rattle.run_law.specs.Paths.{with_paths}
+use Rattle.run_law.specs.Patterns.{patterns_of}
+use Rattle.run_law.specs.Points.{AtFirst, AtTree, Point, Run}
+use Rattle.run_law.specs.Server.{Server, following, jails, log_jails}
+use Rattle.run_law.specs.Stages.{MoveFails}
+use Rattle.run_law.specs.Start.{to_makes}
+use Rattle.run_law.specs.declared.plan.Plan.{Plan}
+use Rattle.run_law.specs.declared.status.Status.{Status}
+use Rattle.run_law.specs.declared.status.Status.TheVariants.{NoMemory}
+use Rattle.run_law.proofs.PointLemmas.{goes_trans, halts_after, halts_here}
+use Rattle.run_steps.proofs.StartLemmas.{starts_trans}
+use Rattle.run_start.specs.First.{Begins, Begun, KeepsFirst}
+use Rattle.run_start.specs.Followed.{AreAwake, FollowsAll}
+use Rattle.run_steps.specs.Keeping.{KeepsClocked, KeepsRunning}
+use Rattle.run_steps.specs.Starting.{StartFails, Starts}
+use Rattle.run_steps.specs.declared.clocked.Clocked.{Clocked}
+use Rattle.run_steps.specs.declared.running.Running.{Running}
+use Rattle.server_top.specs.Prepared.{Prepares}
+use Rattle.server_top.specs.Ticks.{at_clock}
 
--- so many turns are left
-abbrev with_left : Following → ℕ → Following
-with_left f n = record f { left = n }
+-- ---- the start
 
-left_keeps : (f : Following) (n : ℕ) (kept : Follow) → Keeps f kept → Keeps (with_left f n) kept
-left_keeps f n kept keeps = record { definition = keeps.definition; now = keeps.now; word = keeps.word; core = keeps.core; sound = keeps.sound; watch = keeps.watch }
+-- the configuration cannot be had
+pub fails_read : (a b : Standing) (plan : Plan) (status : Status) → StartFails a b plan AtTree status → Halts a.told b.told (opening plan) status
+fails_read a b plan status fails = fails.runs (opening plan) refl (record { point = refl; paid = refl })
 
--- with turns left the run stands at the clock
-at_clock : (r : Run) (left : ℕ) (f : Following) → IsAt r (turned (suc left) f) → IsAt r (AtClock (with_left f (suc left)))
-at_clock r left f at = record { point = at.point; paid = at.paid }
+-- a part behind it fails
+pub fails_on : (a b c : Standing) (plan : Plan) (mid : Point) (status : Status) → Starts a b plan AtTree mid → StartFails b c plan mid status → Halts a.told c.told (opening plan) status
+fails_on a b c plan mid status p q =
+    let one = p.runs (opening plan) refl (record { point = refl; paid = refl }) in
+    halts_after a.told b.told c.told (opening plan) one.to status one.goes (q.runs one.to one.asked one.at)
 
-begins_at : (turns : ℕ) (f : Following) → f.left ≡ turns → 1 ≤ turns → AtClock f ≡ turned turns f
-begins_at zero f is some = absurd (omega arith)
-begins_at (suc n) f is some = ap AtClock (λ i. record f { left = is i })
+-- and one behind that
+pub fails_behind : (a b c d : Standing) (plan : Plan) (mid late : Point) (status : Status) → Starts a b plan AtTree mid → Starts b c plan mid late → StartFails c d plan late status
+    → Halts a.told d.told (opening plan) status
+fails_behind a b c d plan mid late status p q last = fails_on a c d plan late status (starts_trans a b c plan AtTree mid late p q) last
 
-pub turned_none : (s : Standing) (turns : ℕ) (before : Follow) → Turned s s turns 0 before before
-turned_none s turns before = record {
-  runs = λ r f at keeps is some.
-      let same : turns ≡ turns - 0 = omega arith in
-      let P : ℕ → Type 0 = λ n. After s s r n before in
-      subst P same (record { to = r; following = f; goes = goes_refl s.told r; at = record { point = at.point ∙ begins_at turns f is some; paid = at.paid }; keeps = keeps });
-}
-
--- one turn of those that are left
-one : (a b c : Standing) (r : Run) (left : ℕ) (x y : Follow) → After a b r (suc left) x → Moves b c AtClock turn_end x y → After a c r left y
-one a b c r left x y so_far move =
-    let f = with_left so_far.following (suc left) in
-    let next = move.runs so_far.to f (at_clock so_far.to left so_far.following so_far.at) (left_keeps so_far.following (suc left) x so_far.keeps) in
-    let fewer : next.following.left - 1 ≡ left = omega (arith, next.left_is) in
+pub prepares : (a b c d : Standing) (plan : Plan) (settings : Settings) (kept : Clocked) → Starts a b plan AtTree (to_makes settings (patterns_of settings.defs))
+    → Starts b c plan (to_makes settings (patterns_of settings.defs)) (AtFirst settings) → Begins c d plan settings kept → Prepares a d plan kept
+prepares a b c d plan settings kept p q begins =
+    let one = p.runs (opening plan) refl (record { point = refl; paid = refl }) in
+    let two = q.runs one.to one.asked one.at in
+    let begun = begins.runs two.to two.asked two.at in
     record {
-      to = next.to;
-      following = next.following;
-      goes = goes_trans a.told b.told c.told r so_far.to next.to so_far.goes next.goes;
-      at = record { point = next.at.point ∙ ap (λ n. turned n next.following) fewer; paid = next.at.paid };
-      keeps = next.keeps;
+      settings = settings;
+      to = begun.to;
+      server = begun.server;
+      goes = goes_trans a.told b.told d.told (opening plan) one.to begun.to one.goes (goes_trans b.told c.told d.told one.to two.to begun.to two.goes begun.goes);
+      at = begun.at;
+      keeps = begun.keeps;
     }
 
-one_fails : (a b c : Standing) (r : Run) (left : ℕ) (x : Follow) (status : Status) → After a b r (suc left) x → MoveFails b c AtClock x status → Halts a.told c.told r status
-one_fails a b c r left x status so_far fails =
-    halts_after a.told b.told c.told r so_far.to status so_far.goes
-    (fails.runs so_far.to (with_left so_far.following (suc left)) (at_clock so_far.to left so_far.following so_far.at) (left_keeps so_far.following (suc left) x so_far.keeps))
+-- memory ran out before the logs were followed
+pub fails_unfollowed : (a d : Standing) (plan : Plan) (kept : Clocked) → Prepares a d plan kept → Halts a.told d.told (opening plan) NoMemory
+fails_unfollowed a d plan kept prepared = halts_after a.told d.told d.told (opening plan) prepared.to NoMemory prepared.goes (halts_here d.told prepared.to)
 
-pub turned_more : (a b c : Standing) (turns done : ℕ) (before x y : Follow) → Turned a b turns done before x → done < turns → Moves b c AtClock turn_end x y → Turned a c turns (done + 1) before y
-turned_more a b c turns done before x y so_far more move = record {
-  runs = λ r f at keeps is some.
-      let left : ℕ = turns - (done + 1) in
-      let same : turns - done ≡ suc left = omega arith in
-      let P : ℕ → Type 0 = λ n. After a b r n x in
-      one a b c r left x y (subst P same (so_far.runs r f at keeps is some)) move;
-}
+-- ---- behind the start
 
-pub turned_fails : (a b c : Standing) (turns done : ℕ) (before x : Follow) (status : Status) → Turned a b turns done before x → done < turns → MoveFails b c AtClock x status → Finishes a c turns before status
-turned_fails a b c turns done before x status so_far more fails = record {
-  runs = λ r f at keeps is some.
-      let left : ℕ = turns - (done + 1) in
-      let same : turns - done ≡ suc left = omega arith in
-      let P : ℕ → Type 0 = λ n. After a b r n x in
-      one_fails a b c r left x status (subst P same (so_far.runs r f at keeps is some)) fails;
-}
+all_awake : (ds : List JailDef) → AreAwake (map fresh ds)
+all_awake [] = tt
+all_awake (d ∷ ds) = (refl, all_awake ds)
 
-spent_over : (r : Run) (f : Following) → IsAt r (turned 0 f) → IsOver TurnsSpent r
-spent_over r f at = record { point = at.point; none = rw (at.point, at.paid, get_past r.lines) refl }
+are_awake : (plan : Plan) (settings : Settings) (s : Server) (kept : Clocked) → KeepsFirst plan settings s kept → AreAwake (jails s)
+are_awake plan settings s kept keeps = subst AreAwake (sym keeps.jails) (all_awake (with_paths settings.defs keeps.found).jails)
 
-pub turned_all : (a b : Standing) (turns done : ℕ) (before x : Follow) → Turned a b turns done before x → turns ≤ done → Finishes a b turns before TurnsSpent
-turned_all a b turns done before x so_far all = record {
-  runs = λ r f at keeps is some.
-      let none : turns - done ≡ 0 = omega arith in
-      let P : ℕ → Type 0 = λ n. After a b r n x in
-      let last = subst P none (so_far.runs r f at keeps is some) in
-      record { last = last.to; goes = last.goes; ends = spent_over last.to last.following last.at };
-}
+-- what the code keeps at the first turn
+running_first : (plan : Plan) (settings : Settings) (s : Server) (kept : Clocked) (logs : Logs) → KeepsFirst plan settings s kept → FollowsAll kept logs
+    → KeepsRunning (following s) (record { clocked = kept; logs = logs; left = plan.turns })
+running_first plan settings s kept logs keeps follows =
+    let P : List Watching → Type 0 = λ old. IsSetOf logs (log_jails s) (logs_of old (jails s)) in
+    record {
+      clocked = record { core = keeps.clocked.core; sound = keeps.clocked.sound; now = keeps.clocked.now; word = keeps.clocked.word };
+      logs = subst P (sym keeps.logs) (follows.sets s keeps.clocked (are_awake plan settings s kept keeps));
+      left = sym keeps.left;
+    }
 
-pub ruleset serving = (turned_none, turned_more, turned_fails, turned_all)
+pub serves : (a d e : Standing) (plan : Plan) (kept : Clocked) (logs : Logs) (status : Status) → Prepares a d plan kept → FollowsAll kept logs
+    → MoveFails KeepsRunning d e at_clock (record { clocked = kept; logs = logs; left = plan.turns }) status → Halts a.told e.told (opening plan) status
+serves a d e plan kept logs status prepared follows fails =
+    halts_after a.told d.told e.told (opening plan) prepared.to status prepared.goes
+    (fails.runs prepared.to (following prepared.server) prepared.at (running_first plan prepared.settings prepared.server kept logs prepared.keeps follows))
 
--- A whole run.
+pub ruleset preparing = (fails_read, fails_on, fails_behind, prepares)
 
-pub run_configured : (a b c : Standing) (plan : Plan) (definition : JailDef) (status : Status) → Configures a b plan definition → BuildFails b c definition status → Halts a.told c.told (opening plan) status
-run_configured a b c plan definition status configures fails = halts_after a.told b.told c.told (opening plan) _ status configures.runs (fails.runs plan)
-
-pub run_built : (a b c d : Standing) (plan : Plan) (definition : JailDef) (status : Status) → Configures a b plan definition → BuildsAll b c definition → StartFails c d definition status
-    → Halts a.told d.told (opening plan) status
-run_built a b c d plan definition status configures builds fails =
-    halts_after a.told b.told d.told (opening plan) _ status configures.runs (halts_after b.told c.told d.told _ _ status (builds.runs plan) (fails.runs plan))
-
-pub run_started : (a b c d e : Standing) (plan : Plan) (definition : JailDef) (kept : Follow) (status : Status) → Configures a b plan definition → BuildsAll b c definition → Starts c d definition kept
-    → 1 ≤ plan.turns → Finishes d e plan.turns kept status → Halts a.told e.told (opening plan) status
-run_started a b c d e plan definition kept status configures builds starts some finishes =
-    let first = starts.runs plan in
-    halts_after a.told b.told e.told (opening plan) _ status configures.runs (
-    halts_after b.told c.told e.told _ _ status (builds.runs plan) (
-    halts_after c.told d.told e.told _ first.to status first.goes (finishes.runs first.to first.following first.at first.keeps first.left_is some)))
-
--- from where it halts to the whole run
-halted : (old new : Option History) (r : Run) (status : Status) (halts : Halts old new r status)
-    → Adds old new (λ g es. Along feed MayCome Free r g es × (after feed MayCome Free r es ≡ halts.last)) → Adds old new (λ g es. Along feed MayCome Free r g es × Ends status (after feed MayCome Free r es))
-halted old None r status halts adds = tt
-halted old (Some h) r status halts adds =
-    let P : Run → Type 0 = λ x. Ends status x in
-    (adds.0, adds.1, adds.2, adds.3, (adds.4.0, subst P (sym adds.4.1) halts.ends))
-
--- the lines of what obeys the law
-ordered : (old new : Option History) (words : List (List ℕ)) (status : Status) → Adds old new (λ g es. Along feed MayCome Free (begin words) g es × Ends status (after feed MayCome Free (begin words) es))
-    → Adds old new (λ g es. SaysInOrder words status es)
-ordered old None words status adds = tt
-ordered old (Some h) words status adds = (adds.0, adds.1, adds.2, adds.3, says_in_order words status adds.0 adds.1 adds.4.0 adds.4.1)
-
-pub run_is : (old new : Option History) (words : List (List ℕ)) (r : Run) (status : Status) → begin words ≡ r → Halts old new r status → IsRun old new words status
-run_is old new words r status is halts =
-    let P : Run → Type 0 = λ x. Adds old new (λ g es. Along feed MayCome Free x g es × Ends status (after feed MayCome Free x es)) in
-    let law = subst P (sym is) (halted old new r status halts halts.goes.events) in
-    record { law = law; lines = ordered old new words status law }
-
-pub run_planned : (old new : Option History) (words : List (List ℕ)) (plan : Plan) (status : Status) → plan_of words ≡ Some plan → Halts old new (opening plan) status → IsRun old new words status
-run_planned old new words plan status is halts = run_is old new words (opening plan) status (ap begin_with is) halts
-
-pub run_refused : (a b : Standing) (words : List (List ℕ)) (status : Status) → plan_of words ≡ None → Refuses a b Usage status → IsRun a.told b.told words status
-run_refused a b words status is refuses = run_is a.told b.told words (begin_with None) status (ap begin_with is) (refuses.runs (opening (record { root = []; turns = 0 })) refl)
-
-pub run_memory : (s : Standing) (words : List (List ℕ)) → IsRun s.told s.told words NoMemory
-run_memory s words = run_is s.told s.told words (begin words) NoMemory refl (halts_here s.told (begin words))
-
--- the causes
-pub caused : (words : List (List ℕ)) (old new : Standing) (status : Status) → HasCause old new status → IsCaused words old new status
-caused words old new TurnsSpent cause = tt
-caused words old new Usage cause = absurd cause
-caused words old new ConfFault cause = cause
-caused words old new SinkFault cause = cause
-caused words old new NotBuilt cause = tt
-caused words old new (PatternRefused jail place Syntax) cause = cause
-caused words old new (PatternRefused jail place TooBig) cause = cause
-caused words old new NoMemory cause = tt
-
-pub usage_caused : (words : List (List ℕ)) (old new : Standing) (status : Status) → plan_of words ≡ None → IsRefusedAs old new Usage status → IsCaused words old new status × IsOfUsage status
-usage_caused words old new status none seen =
-    let P : Status → Type 0 = λ s. IsCaused words old new s × IsOfUsage s in
-    elim seen.same [
-      | inl same ↦ subst P (sym same) (none, tt)
-      | inr other ↦ elim other [ inl memory ↦ subst P (sym memory) (tt, tt) | inr sink ↦ subst P (sym sink.0) (sink.1, tt) ]
-    ]
-
-pub not_none : (plan : Plan) (o : Option Plan) → o ≡ Some plan → o ≡ None → ⊥
-not_none plan None some none = absurd (cc)
-not_none plan (Some other) some none = absurd (cc)
-
-pub ruleset running = (run_memory)
+pub ruleset serving = (fails_unfollowed, serves)

@@ -1,8 +1,3 @@
-pub mod Words
-pub mod Said
-pub mod Refusals
-pub mod Exits
-pub mod Law
-pub mod Stages
-pub mod Starts
-pub mod Served
+pub mod Prepared
+pub mod Ticks
+pub mod Usage

@@ -1,24 +1,14 @@
 //! The words of the command line.
-ghost use Rattle.std.specs.Prelude.{◌≡◌, ◌≤◌, IfOk, IfSome, string_bytes, map};
-ghost use Rattle.server_top.specs.Words.{plan_of, plan_in, plan_with};
+ghost use Rattle.std.specs.Prelude.{◌≡◌, ◌≤◌, IfOk, map, string_bytes};
+ghost use Rattle.run_law.specs.Words.{plan_of, plan_in, plan_with};
 
+use crate::number::number;
 use f2b_base::{NoMemory, Text};
-use flat_form::number;
+use run_law::Plan;
 use std::alloc::Global;
 
-/// What a run is asked to do.
-#[derive(Clone, Debug, Drop, PartialEq, Eq)]
-pub struct Plan {
-    /// The directory of the configuration.
-    pub root: Text,
-    /// After how many turns it ends, at least 1.
-    pub turns: u64,
-}
-
 fn plan_in(alloc: Global, root: &str, turns: u64) -> Result<Option<Plan>, NoMemory>
-    requires { 1 ≤ turns }
-    ensures value { IfOk result (λ plan. plan ≡ plan_in root.now turns) }
-    ensures some { IfOk result (λ plan. IfSome plan (λ p. 1 ≤ p.turns)) }
+    ensures { IfOk result (λ plan. plan ≡ plan_in root.now turns) }
 {
     if root.is_empty() {
         return Ok(None);
@@ -28,8 +18,7 @@ fn plan_in(alloc: Global, root: &str, turns: u64) -> Result<Option<Plan>, NoMemo
 }
 
 fn plan_with(alloc: Global, root: &str, turns: u64) -> Result<Option<Plan>, NoMemory>
-    ensures value { IfOk result (λ plan. plan ≡ plan_with root.now turns) }
-    ensures some { IfOk result (λ plan. IfSome plan (λ p. 1 ≤ p.turns)) }
+    ensures { IfOk result (λ plan. plan ≡ plan_with root.now turns) }
 {
     if turns == 0 {
         return Ok(None);
@@ -39,8 +28,7 @@ fn plan_with(alloc: Global, root: &str, turns: u64) -> Result<Option<Plan>, NoMe
 
 /// The plan that the words ask for, or none where they are not in the table: `--conf DIR`, or `--conf DIR --turns N`.
 pub fn read_words(alloc: Global, words: &[String]) -> Result<Option<Plan>, NoMemory>
-    ensures value { IfOk result (λ plan. plan ≡ plan_of (map string_bytes words.now)) }
-    ensures some { IfOk result (λ plan. IfSome plan (λ p. 1 ≤ p.turns)) }
+    ensures { IfOk result (λ plan. plan ≡ plan_of (map string_bytes words.now)) }
 {
     match words {
         [conf, root] => {
@@ -53,7 +41,7 @@ pub fn read_words(alloc: Global, words: &[String]) -> Result<Option<Plan>, NoMem
             if conf.as_str() != "--conf" || turns.as_str() != "--turns" {
                 return Ok(None);
             }
-            match number(alloc, count.as_bytes())? {
+            match number(alloc, count.as_str())? {
                 Some(count) => plan_with(alloc, root.as_str(), count),
                 None => Ok(None),
             }

@@ -7,6 +7,7 @@ use Rattle.jail_conf.specs.Sources.{bases_of, sections_of, of_server, own}
 use Rattle.jail_conf.specs.Table as table
 use Rattle.jail_conf.specs.Then.{Gives}
 use Rattle.jail_conf.proofs.AcceptedLemmas.{conf_is_fit, conf_is_within}
+use Rattle.jail_conf.proofs.DatedLemmas.{conf_is_dated}
 use Rattle.jail_conf.proofs.SettingsLemmas.{ServerIs, server_fails, socket_fails, purge_fails, sections_fail, jails_fail, settings_are}
 use Rattle.jail_conf.proofs.StorableLemmas.{conf_is_storable}
 use Rattle.jail_conf.proofs.configuration.conf.Goals as goal
@@ -107,3 +108,7 @@ pub returns-clause-storable : goal.returns-clause-storable
 returns-clause-storable c =
     conf_is_storable c.args.tree.now (record { defs = record { purge = c.in_ok-purge.purge; jails = c.in_ok-jails.jails }; socket = c.in_ok-socket.socket }) (returns-clause-defined c)
     c.see.ensures
+
+pub returns-clause-dated : goal.returns-clause-dated
+returns-clause-dated c =
+    conf_is_dated c.args.tree.now (record { defs = record { purge = c.in_ok-purge.purge; jails = c.in_ok-jails.jails }; socket = c.in_ok-socket.socket }) (returns-clause-defined c)

@@ -1,15 +1,20 @@
 use Rattle.std.proofs.Common.{◌≡◌, ◌∙◌, sym, subst, refl, List, ℕ, map, string_bytes, Some, None, Option, IsSome}
-use Rattle.server_top.specs.Words.{plan_of}
-use Rattle.server_top.specs.declared.status.Status.TheVariants.{TurnsSpent}
-use Rattle.server_top.specs.declared.words.Plan.{Plan}
-use Rattle.server_top.proofs.CauseLemmas.{on_ok_more, if_err_more, on_ok_always, if_err_always}
-use Rattle.server_top.proofs.ServeLemmas.{run_planned, run_refused, caused, usage_caused, not_none}
+use Rattle.run_law.specs.Words.{plan_of}
+use Rattle.run_law.specs.declared.plan.Plan.{Plan}
+use Rattle.run_law.specs.declared.status.Status.TheVariants.{TurnsSpent}
+use Rattle.run_law.proofs.ServeLemmas.{run_planned, run_refused, caused}
+use Rattle.run_law.proofs.WordLemmas.{plan_turns}
+use Rattle.server_top.proofs.ResultLemmas.{on_ok_more, if_err_more, on_ok_always, if_err_always}
+use Rattle.server_top.proofs.UsageLemmas.{usage_caused, not_none}
 use Rattle.server_top.proofs.run.run.Goals as goal
+
+pub serve-requires : goal.serve-requires
+serve-requires g c = plan_turns (map string_bytes c.args.words.now) c.in-Some.plan (sym c.in_ok-plan.ensures ∙ c.in-Some.is)
 
 pub returns-in_default : goal.returns-in_default
 returns-in_default g c =
     let words : List (List ℕ) = map string_bytes c.args.words.now in
-    let none : plan_of words ≡ None = sym c.in_ok-plan.ensures.value ∙ c.in_default.is in
+    let none : plan_of words ≡ None = sym c.in_ok-plan.ensures ∙ c.in_default.is in
     let both = usage_caused words (g.W.Outside.stands c.args.world.now) (g.W.Outside.stands c.refuse.new.world) c.refuse.result none c.refuse.ensures.cause in
     record {
       ok = tt;
@@ -22,7 +27,7 @@ returns-in_default g c =
 pub returns : goal.returns
 returns g c =
     let words : List (List ℕ) = map string_bytes c.args.words.now in
-    let is : plan_of words ≡ Some c.in-Some.plan = sym c.in_ok-plan.ensures.value ∙ c.in-Some.is in
+    let is : plan_of words ≡ Some c.in-Some.plan = sym c.in_ok-plan.ensures ∙ c.in-Some.is in
     let a = g.W.Outside.stands c.args.world.now in
     let b = g.W.Outside.stands c.serve.new.world in
     record {

@@ -3,7 +3,7 @@ use Rattle.std.specs.Prelude.{slice_get, slice_set, find, option_map}
 use Rattle.std.specs.Vec.{with_items}
 use Rattle.std.proofs.lemmas.List.{get_or-set_same, with_items_is}
 use Rattle.std.proofs.lemmas.Option.{slice_get_read}
-use Rattle.log_set.proofs.SetLemmas.{moved_at, taken_at}
+use Rattle.log_set.proofs.SetLemmas.{moved_at, reads, taken_at}
 use Rattle.log_set.specs.Logs.{Logs, read_of}
 use Rattle.log_set.specs.Searches.{failures_by, is_named}
 use Rattle.log_set.specs.declared.jail_search.JailSearch.{JailSearch}
@@ -43,3 +43,6 @@ returns-clause-moves c =
     rw (← c.self.view_is)
     (moved_at old new c.args.place c.args.look.now c.index_mut.result.now c.take.new.self (kept ∙ c.in_ok-read.ensures.same ∙ c.deref_mut.ensures.value) refl at
     c.in_ok-looked.ensures.jail c.in_ok-looked.ensures.path c.in_ok-looked.ensures.stands)
+
+pub returns-clause-input : goal.returns-clause-input
+returns-clause-input c = reads _ _ _ c.in_ok-looked.looked c.in_ok-read.read c.in_ok-read.ensures.read

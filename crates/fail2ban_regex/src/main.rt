@@ -1,0 +1,66 @@
+//! The program `fail2ban-regex`: tests a pattern or a filter on a log.
+//!
+//! What a test is, is in the crates below, over traits of the outside. Here stand these traits over the operating system, and the
+//! words that the program is called with. That files, the clock and standard output are what the system says they are is trusted.
+#![tactic(auto)]
+
+mod fault;
+mod files;
+mod output;
+mod regular;
+mod tree;
+mod words;
+
+use files::RealFiles;
+use output::Output;
+use regex_tool::regex_tool;
+use std::alloc::{AllocError, AllocGlobal};
+use std::io::Print;
+use std::process::ExitCode;
+use std::time::{Clock, SystemTime, UNIX_EPOCH};
+use words::Call;
+
+/// The status where standard output cannot be written.
+const SINK_FAULT: u8 = 9;
+
+/// The status where memory ran out.
+const NO_MEMORY: u8 = 71;
+
+fn main(rt: HostRuntime) -> ExitCode {
+    ExitCode::from(match words::read_call(&rt) {
+        Ok(Call::Help) => print(&rt, words::HELP),
+        Ok(Call::Version) => print(&rt, words::VERSION),
+        Ok(Call::Test(words)) => match test(rt, words.as_slice()) {
+            Ok(number) => number,
+            Err(_) => NO_MEMORY,
+        },
+        Err(_) => NO_MEMORY,
+    })
+}
+
+/// Makes the test of these words, and gives its exit status.
+fn test(rt: HostRuntime, words: &[String]) -> Result<u8, AllocError> {
+    let now = seconds(&rt);
+    let alloc = rt.alloc();
+    let mut output = Output::new(rt.clone()?);
+    let mut files = RealFiles::new(rt);
+    Ok(regex_tool(alloc, words, now, &mut files, &mut output).number())
+}
+
+/// Seconds since 1970, or 0 where the clock cannot be read.
+fn seconds(rt: &impl Clock) -> u64 {
+    let Ok(now) = SystemTime::now(rt) else {
+        return 0;
+    };
+    match now.duration_since(UNIX_EPOCH) {
+        Ok(since) => since.as_secs(),
+        Err(_) => 0,
+    }
+}
+
+fn print(rt: &impl Print, text: &str) -> u8 {
+    match rt.write_all(text.as_bytes()) {
+        Ok(()) => 0,
+        Err(_) => SINK_FAULT,
+    }
+}

@@ -1,0 +1,69 @@
+//! What the program is called with.
+//!
+//! `--help` and `--version` are answered here. All other words are the tester's own.
+
+use std::alloc::AllocGlobal;
+use std::io::ErrorKind;
+use std::rt::Env;
+use std::{env, io};
+
+/// The text of `--help`.
+pub const HELP: &str = "\
+Usage: fail2ban-regex [-d PATTERN] LOG REGEX [IGNOREREGEX]
+       fail2ban-regex --help | --version
+
+Tells which lines of a log a pattern or a filter finds.
+
+  LOG          the path of a log; where there is no such file it is the
+               one line that is tested
+  REGEX        a pattern with one of <HOST>, <ADDR>, <IP4>, <IP6>, <DNS>;
+               or a filter, by its file: DIR/filter.d/NAME.conf
+  IGNOREREGEX  a pattern of lines that are ignored, in place of the filter's
+  -d PATTERN   how a line is dated, in place of the filter's datepattern
+  --help       print this help
+  --version    print the version
+
+A pattern that begins with - stands behind the word --.
+
+Exit status:
+   0  the report was printed
+   2  the words are none of those above
+   3  a file or a directory cannot be read
+   4  the files of the filter are refused
+   9  standard output cannot be written
+  10  the directory of the filter has too many files, or too large ones
+  11  a pattern is refused
+  71  out of memory
+";
+
+/// The text of `--version`.
+pub const VERSION: &str = "fail2ban-regex 0.1.0\n";
+
+/// What the program was asked for.
+#[derive(Debug, Drop)]
+pub enum Call {
+    Help,
+    Version,
+    /// The tester, with its words. There are none where a word was not text.
+    Test(Vec<String>),
+}
+
+/// Reads what the program was called with.
+pub fn read_call<R: Env + AllocGlobal>(rt: &R) -> io::Result<Call> {
+    let words = match read_words(rt) {
+        Ok(words) => words,
+        Err(e) if e.kind() == ErrorKind::InvalidData => Vec::new(rt.alloc()),
+        Err(e) => return Err(e),
+    };
+    Ok(match words.first() {
+        Some(word) if word.as_str() == "--help" => Call::Help,
+        Some(word) if word.as_str() == "--version" => Call::Version,
+        _ => Call::Test(words),
+    })
+}
+
+fn read_words<R: Env + AllocGlobal>(rt: &R) -> io::Result<Vec<String>> {
+    let mut args = env::args(rt)?;
+    let _program = args.next();
+    Ok(args.collect(rt.alloc())?)
+}

@@ -1,4 +1,0 @@
-pub mod Numbers
-pub mod Flat
-pub mod FlatText
-pub mod Seen

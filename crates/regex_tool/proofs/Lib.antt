@@ -1,0 +1,10 @@
+pub mod AsksLemmas
+pub mod BuildLemmas
+pub mod CountsLemmas
+pub mod DefinitionLemmas
+pub mod FileLemmas
+pub mod RaisedLemmas
+pub mod ReadLemmas
+pub mod RunLemmas
+pub mod TargetLemmas
+pub mod TreeLemmas

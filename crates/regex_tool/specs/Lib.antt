@@ -1,0 +1,11 @@
+pub mod Asks
+pub mod Builds
+pub mod Checks
+pub mod Counts
+pub mod Definitions
+pub mod Logs
+pub mod Readings
+pub mod Refusals
+pub mod Report
+pub mod Runs
+pub mod Targets

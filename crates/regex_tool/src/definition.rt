@@ -1,0 +1,215 @@
+//! The jail that is tested.
+ghost use Rattle.std.specs.Prelude.{◌≡◌, ◌<◌, ◌^◌, length, Some, option_copied, IfErr, IfOk};
+ghost use Rattle.regex_tool.specs.Asks.{shown};
+ghost use Rattle.regex_tool.specs.Definitions.{pattern_jail, jail_text, jail_file, is_of_filters, filter_tree, first_of, date_spec, date_or, lines_or, with_words, IsBase, IsDefined, IsJailOf};
+ghost use Rattle.regex_tool.specs.Checks.{IsFew, IsTestable};
+ghost use Rattle.regex_tool.specs.Readings.{IsOpened};
+ghost use Rattle.regex_tool.specs.Runs.{HasTreeCause, IsConfFail, IsJailFail};
+ghost use Rattle.regex_tool.specs.Targets.{target_of, shown as shown_target};
+
+use crate::status::ToolStatus;
+use crate::target::{Target, target_of};
+use crate::words::Asked;
+use f2b_base::{
+    BanRule, Bytes, DateSpec, JailDef, NoMemory, Plain, Seq, Text, Tree, TreeAnswer, TreeFile,
+};
+use f2b_world::Files;
+use jail_conf::{ConfFail, Fail, Settings, conf};
+use std::alloc::Global;
+
+/// A jail with this one pattern of failures.
+fn pattern_jail(alloc: Global, regex: &str) -> Result<JailDef, NoMemory>
+    ensures { IfOk result (λ jail. jail ≡ pattern_jail regex.now) }
+{
+    let mut fail = Seq::new(alloc);
+    fail.push(Text::from_str(alloc, regex)?)?;
+    Ok(JailDef {
+        name: Text::from_str(alloc, "regex")?,
+        watches: Seq::new(alloc),
+        zone: 0,
+        date: DateSpec::Default,
+        pref: None,
+        fail,
+        ignore_lines: Seq::new(alloc),
+        ignore: Seq::new(alloc),
+        findtime: 1,
+        maxretry: 1,
+        maxmatches: 0,
+        rule: BanRule {
+            base: 1,
+            increment: false,
+            factor: 1_000,
+            multipliers: Seq::new(alloc),
+            maxtime: 1,
+            rndtime: 0,
+        },
+        actions: Seq::new(alloc),
+    })
+}
+
+/// The jail of a filter, in four lines of a file.
+fn jail_text(alloc: Global, name: &str) -> Result<Bytes, NoMemory>
+    ensures { IfOk result (λ text. text ≡ jail_text name.now) }
+{
+    let mut text = Bytes::from_slice(alloc, b"[")?;
+    text.push_slice(name.as_bytes())?;
+    text.push_slice(b"]\nenabled = true\nignoreself = false\nfilter = ")?;
+    text.push_slice(name.as_bytes())?;
+    text.push_slice(b"\n")?;
+    Ok(text)
+}
+
+fn jail_file(alloc: Global, name: &str) -> Result<TreeFile, NoMemory>
+    ensures { IfOk result (λ file. file ≡ jail_file name.now) }
+{
+    Ok(TreeFile {
+        path: Text::from_str(alloc, "jail.conf")?,
+        content: jail_text(alloc, name)?,
+    })
+}
+
+fn is_of_filters(file: &TreeFile) -> bool
+    ensures { result ≡ is_of_filters file.now }
+{
+    file.path.as_str().starts_with("filter.d/")
+}
+
+/// The files of filters, and the jail of one of them.
+#[tactic(auto, unfolding(crate::specs::Definitions::filter_tree))]
+fn filter_tree(alloc: Global, name: &str, tree: &Tree) -> Result<Tree, NoMemory>
+    ensures { IfOk result (λ own. own ≡ filter_tree name.now tree.now) }
+{
+    let mut files = Seq::new(alloc);
+    for file in tree.files.as_slice() {
+        if is_of_filters(file) {
+            files.push(file.copy()?)?;
+        }
+    }
+    files.push(jail_file(alloc, name)?)?;
+    Ok(Tree { files })
+}
+
+/// The first jail of a configuration. That there is none is never so, and told as want of memory.
+#[tactic(auto, using(crate::proofs::DefinitionLemmas::first_at))]
+fn only_jail(settings: &Settings) -> Result<JailDef, NoMemory>
+    ensures { IfOk result (λ jail. first_of settings.now.defs.jails ≡ Some jail) }
+{
+    match settings.defs.jails.as_slice().first() {
+        Some(jail) => jail.copy(),
+        None => Err(NoMemory),
+    }
+}
+
+/// How a date pattern of the words is read.
+fn date_spec(alloc: Global, text: &str) -> Result<DateSpec, NoMemory>
+    ensures { IfOk result (λ date. date ≡ date_spec text.now) }
+{
+    match text {
+        "{^LN-BEG}" => return Ok(DateSpec::Anchored),
+        "{NONE}" => return Ok(DateSpec::NoDate),
+        "Epoch" => return Ok(DateSpec::Epoch),
+        "ISO8601" => return Ok(DateSpec::Iso),
+        _ => (),
+    }
+    if let Some(pattern) = text.strip_prefix("{^LN-BEG}") {
+        return Ok(DateSpec::AnchoredPattern(Text::from_str(alloc, pattern)?));
+    }
+    Ok(DateSpec::Pattern(Text::from_str(alloc, text)?))
+}
+
+fn date_or(alloc: Global, given: Option<&str>, date: DateSpec) -> Result<DateSpec, NoMemory>
+    ensures { IfOk result (λ spec. spec ≡ date_or (option_copied given.entry) date) }
+{
+    match given {
+        Some(text) => date_spec(alloc, text),
+        None => Ok(date),
+    }
+}
+
+fn lines_or(alloc: Global, given: Option<&str>, lines: Seq<Text>) -> Result<Seq<Text>, NoMemory>
+    ensures { IfOk result (λ own. own ≡ lines_or (option_copied given.entry) lines) }
+{
+    let Some(text) = given else {
+        return Ok(lines);
+    };
+    let mut own = Seq::new(alloc);
+    own.push(Text::from_str(alloc, text)?)?;
+    Ok(own)
+}
+
+/// The jail with patterns of the words in place of its own. Dates without a zone are those of UTC, and no address is left out.
+fn with_words(alloc: Global, asked: &Asked<'_>, jail: JailDef) -> Result<JailDef, NoMemory>
+    ensures { IfOk result (λ own. own ≡ with_words (shown asked.now) jail) }
+{
+    Ok(JailDef {
+        name: jail.name,
+        watches: jail.watches,
+        zone: 0,
+        date: date_or(alloc, asked.date, jail.date)?,
+        pref: jail.pref,
+        fail: jail.fail,
+        ignore_lines: lines_or(alloc, asked.ignore, jail.ignore_lines)?,
+        ignore: Seq::new(alloc),
+        findtime: jail.findtime,
+        maxretry: jail.maxretry,
+        maxmatches: jail.maxmatches,
+        rule: jail.rule,
+        actions: jail.actions,
+    })
+}
+
+/// A configuration that comes to nothing.
+fn conf_fail(fail: ConfFail) -> ToolStatus
+    ensures { IsConfFail fail result }
+{
+    match fail {
+        Fail::Refused(error) => ToolStatus::ConfRefused(error),
+        Fail::NoMemory => ToolStatus::NoMemory,
+    }
+}
+
+/// The jail of a filter, by the files of its configuration.
+fn filter_jail(alloc: Global, target: Target<'_>, tree: &Tree) -> Result<JailDef, ToolStatus>
+    ensures jail { IfOk result (IsJailOf (shown_target target.entry) tree.now) }
+    ensures few { IfOk result IsFew }
+    ensures err { IfErr result (IsJailFail (shown_target target.entry) tree.now) }
+{
+    let own = filter_tree(alloc, target.name, tree)?;
+    match conf(alloc, &own) {
+        Ok(settings) => Ok(only_jail(&settings)?),
+        Err(fail) => Err(conf_fail(fail)),
+    }
+}
+
+/// The jail of a pattern, or of the filter that its path names.
+fn base_jail<F: Files>(alloc: Global, regex: &str, files: &mut F) -> Result<JailDef, ToolStatus>
+    ensures base { IfOk result (IsBase (F.stands files.old).shelf regex.now (target_of regex.now)) }
+    ensures few { IfOk result IsFew }
+    ensures cause { IfErr result (HasTreeCause regex.now (F.stands files.old) (F.stands files.new)) }
+    ensures opened { IsOpened (F.stands files.old) (F.stands files.new) }
+{
+    let Some(target) = target_of(regex) else {
+        return Ok(pattern_jail(alloc, regex)?);
+    };
+    match files.tree(target.dir) {
+        TreeAnswer::Tree(tree) => filter_jail(alloc, target, &tree),
+        TreeAnswer::TooLarge => Err(ToolStatus::TooLarge),
+        TreeAnswer::Failed => Err(ToolStatus::FileFault),
+        TreeAnswer::NoMemory => Err(ToolStatus::NoMemory),
+    }
+}
+
+/// The jail that the words ask to test.
+pub(crate) fn definition<F: Files>(
+    alloc: Global,
+    asked: &Asked<'_>,
+    files: &mut F,
+) -> Result<JailDef, ToolStatus>
+    ensures defined { IfOk result (IsDefined (F.stands files.old).shelf (shown asked.now)) }
+    ensures testable { IfOk result IsTestable }
+    ensures cause { IfErr result (HasTreeCause asked.now.regex.now (F.stands files.old) (F.stands files.new)) }
+    ensures opened { IsOpened (F.stands files.old) (F.stands files.new) }
+{
+    let base = base_jail(alloc, asked.regex, files)?;
+    Ok(with_words(alloc, asked, base)?)
+}

@@ -1,0 +1,26 @@
+//! The pattern tester: which lines of a log a pattern or a filter finds.
+//!
+//! A caller hands in words, the time, files and a sink. One text is said: the report of a test, or why there is none. A line counts as it
+//! does in the server, by the same filter. A log is read piece by piece, so a test takes as little memory as its longest line. Nothing here
+//! writes a file, and nothing knows where standard output is.
+#![tactic(auto)]
+
+mod build;
+mod checks;
+mod counts;
+mod decided;
+mod definition;
+mod kind;
+mod log;
+mod log_file;
+mod log_test;
+mod refusal;
+mod report;
+mod status;
+mod target;
+mod tool;
+mod words;
+
+pub use kind::ToolKind;
+pub use status::ToolStatus;
+pub use tool::regex_tool;

@@ -1,0 +1,24 @@
+//! `LogTest`, which stands for what was read of a log.
+ghost use Rattle.std.specs.Prelude.{◌≡◌, ◌<◌, ◌^◌, []};
+
+use crate::counts::Counts;
+use filter_regex::Searcher;
+use ignore_set::IgnoreSet;
+use log_follow::Carry;
+use std::alloc::Global;
+
+/// A filter that is tried on the lines of a log.
+#[derive(Drop)]
+pub(crate) struct LogTest<'f> {
+    pub alloc: Global,
+    pub searcher: Searcher<'f>,
+    /// Nobody is left out.
+    pub nobody: IgnoreSet,
+    /// In seconds since 1970.
+    pub now: u64,
+    /// What came after the last LF.
+    pub carry: Carry,
+    pub counts: Counts,
+    ghost nobody_is: { nobody ≡ [] },
+    ghost now_fits: { now < 2 ^ 40 },
+}

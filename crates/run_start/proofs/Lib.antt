@@ -1,0 +1,9 @@
+pub mod OrderLemmas
+pub mod PathLemmas
+pub mod FoundLemmas
+pub mod ListingLemmas
+pub mod JailLemmas
+pub mod WalkLemmas
+pub mod BeginLemmas
+pub mod FollowLemmas
+pub mod DirectoryLemmas

@@ -1,0 +1,34 @@
+-- The first turn of a run: its server has the jails of the configuration, with the paths that were found.
+use Rattle.std.specs.Prelude.{◌≡◌, List, [], map}
+use Rattle.f2b_model.specs.Moves.{fresh}
+use Rattle.f2b_world.specs.Told.{Standing}
+use Rattle.jail_conf.specs.declared.settings.Settings.{Settings}
+use Rattle.run_law.specs.Law.{Goes}
+use Rattle.run_law.specs.Paths.{Path, with_paths}
+use Rattle.run_law.specs.Points.{AtFirst, Run}
+use Rattle.run_law.specs.Server.{Server, jails}
+use Rattle.run_law.specs.Stages.{IsAt}
+use Rattle.run_law.specs.Start.{first_turn}
+use Rattle.run_law.specs.declared.plan.Plan.{Plan}
+use Rattle.run_steps.specs.Keeping.{KeepsClocked}
+use Rattle.run_steps.specs.declared.clocked.Clocked.{Clocked}
+
+-- what the code keeps of a server whose jails are as the configuration adds them, before its first turn
+pub record KeepsFirst (plan : Plan) (settings : Settings) (s : Server) (kept : Clocked) : Type 0 where
+  pub clocked : KeepsClocked s kept
+  pub found : List Path
+  pub jails : jails s ≡ map fresh (with_paths settings.defs found).jails
+  pub logs : s.logs ≡ []
+  pub left : s.left ≡ plan.turns
+
+-- the run comes to the first turn of a server that the code keeps
+pub record Begun (old new : Standing) (plan : Plan) (settings : Settings) (r : Run) (kept : Clocked) : Type 0 where
+  pub to : Run
+  pub server : Server
+  pub goes : Goes old.told new.told r to
+  pub at : IsAt to (first_turn server)
+  pub keeps : KeepsFirst plan settings server kept
+
+-- from the first reading of the clock to the first turn
+pub record Begins (old new : Standing) (plan : Plan) (settings : Settings) (kept : Clocked) : Type 0 where
+  pub runs : (r : Run) → r.plan ≡ plan → IsAt r (AtFirst settings) → Begun old new plan settings r kept

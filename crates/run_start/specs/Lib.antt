@@ -1,0 +1,7 @@
+pub mod Configured
+pub mod First
+pub mod Followed
+pub mod Found
+pub mod Listings
+pub mod Read
+pub mod Walks

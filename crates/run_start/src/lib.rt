@@ -1,0 +1,17 @@
+//! The start of a run, from the first reading of the clock to the first turn.
+//!
+//! `first_turn` reads the clock, lists the directory of each path with a wildcard, and takes the configuration with the paths that were
+//! found as the first input. `follow` then follows the logs of its jails, each from the place that the core keeps of it. Nothing here
+//! reads a configuration, builds a pattern or looks at a log.
+#![tactic(auto)]
+
+mod begin;
+mod found;
+mod listing;
+mod logs;
+mod naming;
+mod path;
+mod paths;
+
+pub use begin::first_turn;
+pub use logs::follow;

@@ -1,0 +1,70 @@
+-- What the code keeps of a server to take inputs.
+use Rattle.std.specs.Prelude.{ℕ, ◌≡◌, Bool, true, false, List, Option, Some, None}
+use Rattle.f2b_base.specs.declared.input.Input.{Input}
+use Rattle.f2b_base.specs.declared.input.What.{What}
+use Rattle.f2b_base.specs.declared.jail.Defs.{Defs}
+use Rattle.f2b_model.specs.Lanes.{books_now}
+use Rattle.f2b_model.specs.Sound.{IsSound}
+use Rattle.f2b_model.specs.Steps.{moves_now}
+use Rattle.f2b_model.specs.Whole.{is_whole_spent, now_of, step_now, told_now}
+use Rattle.f2b_model.specs.declared.told.Told.{Told}
+use Rattle.f2b_world.specs.Told.{Standing}
+use Rattle.log_set.specs.Logs.{IsSetOf}
+use Rattle.run_law.specs.Changes.{config_changes}
+use Rattle.run_law.specs.News.{News}
+use Rattle.run_law.specs.Server.{Server, log_jails}
+use Rattle.run_law.specs.Stages.{IsUnsaid}
+use Rattle.run_law.specs.declared.status.Status.{Status}
+use Rattle.run_law.specs.declared.status.Status.TheVariants.{NumbersSpent}
+use Rattle.run_steps.specs.declared.clocked.Clocked.{Clocked}
+use Rattle.run_steps.specs.declared.running.Running.{Running}
+
+-- the middle state of a sound state, and the time
+pub record KeepsClocked (s : Server) (kept : Clocked) : Type 0 where
+  pub core : kept.core ≡ now_of s.state
+  pub sound : IsSound s.state
+  pub now : kept.now ≡ s.now
+  pub word : kept.word ≡ s.word
+
+-- besides, the followed logs of its jails, and the turns that are left
+pub record KeepsRunning (s : Server) (kept : Running) : Type 0 where
+  pub clocked : KeepsClocked s kept.clocked
+  pub logs : IsSetOf kept.logs (log_jails s) s.logs
+  pub left : kept.left ≡ s.left
+
+-- these news, whatever the server is
+abbrev pub news_of : List (List ℕ) → Option What → List (List ℕ) → Server → News
+news_of before what behind s = record { before = before; what = what; behind = behind }
+
+-- what happened, at the last reading
+abbrev pub input_of : Clocked → What → Input
+input_of kept what = record { secs = kept.now; word = kept.word; what = what }
+
+-- the time is the same
+pub record IsTimedAlike (before after : Clocked) : Type 0 where
+  pub now : after.now ≡ before.now
+  pub word : after.word ≡ before.word
+
+-- the step of an input, and what it tells
+pub record StepsTo (before : Clocked) (what : What) (after : Clocked) (told : Told) : Type 0 where
+  pub core : after.core ≡ step_now before.core (input_of before what)
+  pub tells : told ≡ told_now before.core (input_of before what)
+  pub time : IsTimedAlike before after
+
+-- serials and ids are not used up
+abbrev pub IsLive : Clocked → Type 0
+IsLive kept = is_whole_spent moves_now books_now kept.core ≡ false
+
+-- what the code keeps has made the step of what happened, if that is an input
+abbrev pub Makes : Clocked → Option What → Clocked → Type 0
+Makes before None after = after.core ≡ before.core
+Makes before (Some what) after = (after.core ≡ step_now before.core (input_of before what)) × IsLive before
+
+-- What was brought was not taken: no number was left for what happened, or lines could not be said.
+abbrev pub IsUnbrought : Clocked → Option What → Standing → Standing → Status → Type 0
+IsUnbrought kept (Some what) old new NumbersSpent = is_whole_spent moves_now books_now kept.core ≡ true
+IsUnbrought kept what old new status = IsUnsaid old new status
+
+-- a configuration is told to change the state of any server that is kept so exactly where it does
+abbrev pub TellsChange : Clocked → Defs → Bool → Type 0
+TellsChange kept defs changes = (s : Server) → KeepsClocked s kept → changes ≡ config_changes s.state defs

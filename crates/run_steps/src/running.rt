@@ -1,0 +1,13 @@
+//! `Running`, what a run keeps over its turns.
+
+use crate::clocked::Clocked;
+use log_set::LogSet;
+
+/// What a run keeps of a server over its turns. The filters of the logs are borrowed.
+#[derive(Drop)]
+pub struct Running<'f> {
+    pub clocked: Clocked,
+    pub logs: LogSet<'f>,
+    /// The turns that are left, this one among them.
+    pub left: u64,
+}

@@ -1,0 +1,4 @@
+pub mod TreeLemmas
+pub mod SupportLemmas
+pub mod BuildLemmas
+pub mod JailLemmas

@@ -1,0 +1,237 @@
+//! Runs of configurations of several files, jails and logs.
+use f2b_base::{Bytes, Reading, Seq, Text, Tree, TreeAnswer, TreeFile};
+use f2b_mem::{FileChange, Image, MemWorld, Script};
+use f2b_world::{Event, Said};
+use server_top::server;
+use std::alloc::Global;
+use std::test::Fail;
+
+/// A file, by its path and its content.
+type File = (&'static str, &'static str);
+
+/// One run of three turns: what it is given, and how it ends and what it says.
+struct Row {
+    /// The files of the configuration, in byte order of their paths.
+    conf: &'static [File],
+    /// What becomes of other files after so many pauses: their content, or that they go.
+    changes: &'static [(u64, &'static str, Option<&'static str>)],
+    /// The places of the calls that fail.
+    fails: &'static [u64],
+    status: u8,
+    said: &'static str,
+}
+
+/// A filter for dates in seconds since 1970.
+const FAIL: File = (
+    "filter.d/fail.conf",
+    "[Definition]\ndatepattern = Epoch\nfailregex = ^ fail from <IP4>$\n",
+);
+
+const TWO_JAILS: &str =
+    "[DEFAULT]\nenabled = true\nfilter = fail\n[web]\nlogpath = /log/web\nmaxretry = 2\n[mail]\nlogpath = /log/mail\nmaxretry = 1\n[ftp]\nenabled = false\nlogpath = /log/web\nmaxretry = 1\n";
+
+const WILD: &str =
+    "[web]\nenabled = true\nfilter = fail\nlogpath = /log/a*\n  /log/b\nmaxretry = 9\n";
+
+const ROWS: [Row; 8] = [
+    // Each jail its own log, in the order of the jails; a jail that is not enabled is none.
+    Row {
+        conf: &[FAIL, ("jail.conf", TWO_JAILS)],
+        changes: &[
+            (
+                0,
+                "/log/web",
+                Some("1700000990 fail from 192.0.2.7\n1700000991 fail from 192.0.2.7\n"),
+            ),
+            (0, "/log/mail", Some("1700000992 fail from 192.0.2.8\n")),
+        ],
+        fails: &[],
+        status: 0,
+        said: "1700001000 INFO Server ready\n1700001000 INFO [web] Found 192.0.2.7\n1700001000 INFO [web] Found 192.0.2.7\n1700001000 NOTICE [web] Ban 192.0.2.7\n1700001000 INFO [mail] Found 192.0.2.8\n1700001000 NOTICE [mail] Ban 192.0.2.8\n",
+    },
+    // The names that fit, in byte order; what comes into the directory later is no log of the jail.
+    Row {
+        conf: &[FAIL, ("jail.conf", WILD)],
+        changes: &[
+            (0, "/log/a2", Some("1700000990 fail from 192.0.2.2\n")),
+            (0, "/log/a10", Some("1700000990 fail from 192.0.2.10\n")),
+            (0, "/log/b", Some("1700000990 fail from 192.0.2.11\n")),
+            (0, "/log/c", Some("1700000990 fail from 192.0.2.12\n")),
+            (1, "/log/a3", Some("1700000990 fail from 192.0.2.3\n")),
+        ],
+        fails: &[],
+        status: 0,
+        said: "1700001000 INFO Server ready\n1700001000 INFO [web] Found 192.0.2.10\n1700001000 INFO [web] Found 192.0.2.2\n1700001000 INFO [web] Found 192.0.2.11\n",
+    },
+    // A directory that cannot be listed gives no log, and is said; the other log is followed.
+    Row {
+        conf: &[FAIL, ("jail.conf", WILD)],
+        changes: &[
+            (0, "/log/a2", Some("1700000990 fail from 192.0.2.2\n")),
+            (0, "/log/b", Some("1700000990 fail from 192.0.2.11\n")),
+        ],
+        fails: &[4],
+        status: 0,
+        said: "1700001000 WARNING [web] cannot read /log/a*\n1700001000 INFO Server ready\n1700001000 INFO [web] Found 192.0.2.11\n",
+    },
+    // One log in two jails.
+    Row {
+        conf: &[
+            FAIL,
+            ("jail.conf", TWO_JAILS),
+            ("jail.local", "[mail]\nlogpath = /log/web\nmaxretry = 5\n"),
+        ],
+        changes: &[(0, "/log/web", Some("1700000990 fail from 192.0.2.7\n"))],
+        fails: &[],
+        status: 0,
+        said: "1700001000 INFO Server ready\n1700001000 INFO [web] Found 192.0.2.7\n1700001000 INFO [mail] Found 192.0.2.7\n",
+    },
+    // A log that is another one, and one that is gone.
+    Row {
+        conf: &[FAIL, ("jail.conf", TWO_JAILS)],
+        changes: &[
+            (0, "/log/web", Some("1700000990 fail from 192.0.2.7\n")),
+            (0, "/log/mail", Some("1700000991 no failure\n")),
+            (1, "/log/web", Some("1700000992 fail from 192.0.2.9\n")),
+            (1, "/log/mail", None),
+        ],
+        fails: &[],
+        status: 0,
+        said: "1700001000 INFO Server ready\n1700001000 INFO [web] Found 192.0.2.7\n1700001000 INFO [web] rotated /log/web\n1700001000 INFO [web] Found 192.0.2.9\n",
+    },
+    // No command is run yet.
+    Row {
+        conf: &[
+            (
+                "action.d/note.conf",
+                "[Definition]\nactionban = echo <ip>\n",
+            ),
+            FAIL,
+            (
+                "jail.conf",
+                "[web]\nenabled = true\nfilter = fail\nlogpath = /log/web\naction = note\n",
+            ),
+        ],
+        changes: &[],
+        fails: &[],
+        status: 13,
+        said: "0 ERROR not built\n",
+    },
+    // The first fault of a tree is told, and the file that has it.
+    Row {
+        conf: &[(
+            "jail.conf",
+            "[web]\nenabled = true\nfilter = none\nbantime = x\n",
+        )],
+        changes: &[],
+        fails: &[],
+        status: 4,
+        said: "0 ERROR Configuration refused: filter.d/none.conf [web] filter: MissingFile\n",
+    },
+    // The second pattern of the second jail is none.
+    Row {
+        conf: &[
+            FAIL,
+            (
+                "filter.d/other.conf",
+                "[Definition]\nfailregex = ^ from <HOST>$\n  (<HOST>\n",
+            ),
+            ("jail.conf", TWO_JAILS),
+            ("jail.local", "[mail]\nfilter = other\n"),
+        ],
+        changes: &[],
+        fails: &[],
+        status: 11,
+        said: "0 ERROR Pattern refused: mail failregex 2 Syntax\n",
+    },
+];
+
+fn tree(alloc: Global, conf: &[File]) -> Result<TreeAnswer, Fail> {
+    let mut files = Seq::new(alloc);
+    for (path, content) in conf {
+        files.push(TreeFile {
+            path: Text::from_str(alloc, path)?,
+            content: Bytes::from_slice(alloc, content.as_bytes())?,
+        })?;
+    }
+    Ok(TreeAnswer::Tree(Tree { files }))
+}
+
+fn changes(alloc: Global, row: &Row) -> Result<Seq<FileChange>, Fail> {
+    let mut changes = Seq::new(alloc);
+    for (pauses, path, content) in row.changes {
+        let content = match content {
+            Some(content) => Some(Bytes::from_slice(alloc, content.as_bytes())?),
+            None => None,
+        };
+        changes.push(FileChange {
+            pauses: *pauses,
+            path: Text::from_str(alloc, path)?,
+            content,
+        })?;
+    }
+    Ok(changes)
+}
+
+fn world(alloc: Global, row: &Row) -> Result<MemWorld, Fail> {
+    let mut readings = Seq::new(alloc);
+    readings.push(Reading {
+        secs: 1_700_001_000,
+        word: 0,
+    })?;
+    let mut trees = Seq::new(alloc);
+    trees.push(tree(alloc, row.conf)?)?;
+    let script = Script {
+        readings,
+        trees,
+        changes: changes(alloc, row)?,
+        children: Seq::new(alloc),
+        clients: Seq::new(alloc),
+        fails: Seq::from(row.fails.to_vec(alloc)?),
+        image: Image {
+            slot0: Bytes::new(alloc),
+            slot1: Bytes::new(alloc),
+        },
+    };
+    Ok(MemWorld::new(alloc, script)?)
+}
+
+/// What was said without a fault.
+fn said(alloc: Global, events: &[Event]) -> Result<Bytes, Fail> {
+    let mut said = Bytes::new(alloc);
+    for event in events {
+        if let Event::Say {
+            bytes,
+            answer: Said::Done,
+        } = event
+        {
+            said.push_slice(bytes.as_slice())?;
+        }
+    }
+    Ok(said)
+}
+
+/// The status of a row's run, what it said, and whether its world is still told.
+fn run(alloc: Global, row: &Row) -> Result<(u8, Bytes, bool), Fail> {
+    let mut words = Vec::new(alloc);
+    for word in "--conf /c --turns 3".split_whitespace() {
+        words.push(String::from_str(alloc, word)?)?;
+    }
+    let mut world = world(alloc, row)?;
+    let status = server(alloc, words.as_slice(), &mut world);
+    let said = said(alloc, world.events())?;
+    Ok((status.number(), said, world.is_told()))
+}
+
+fn is_as_wanted(alloc: Global, row: &Row) -> Result<bool, Fail> {
+    let (status, said, told) = run(alloc, row)?;
+    Ok(told && status == row.status && said.as_slice() == row.said.as_bytes())
+}
+
+#[test]
+fn follows_the_jails_of_a_tree(rt: HostRuntime) -> Result<(), Fail> {
+    for row in &ROWS {
+        assert!(rt; is_as_wanted(rt.alloc(), row)?, "at {}", row.said);
+    }
+    Ok(())
+}

@@ -1,0 +1,24 @@
+-- What a reading of the clock changes of what a run keeps.
+use Rattle.std.specs.Prelude.{ℕ, ◌≡◌, max, min, Option, Some, None, if◌then◌else◌}
+use Rattle.f2b_base.specs.Limits.{latest_reading}
+use Rattle.f2b_base.specs.declared.input.What.{What}
+use Rattle.f2b_base.specs.declared.input.What.TheVariants.{Tick}
+use Rattle.f2b_base.specs.declared.outside.Reading.{Reading}
+use Rattle.f2b_model.specs.Steps.{is_ban_due, moves_now}
+use Rattle.run_law.specs.Points.{Point, AtTurn, AtClock}
+use Rattle.run_law.specs.Server.{Server}
+use Rattle.run_steps.specs.declared.clocked.Clocked.{Clocked}
+
+-- the beginning of a turn
+abbrev pub at_clock : Server → Point
+at_clock s = AtTurn AtClock s
+
+-- now never goes back, and a reading above the latest counts as it
+pub record ReadsAt (before : Clocked) (answer : Reading) (after : Clocked) : Type 0 where
+  pub core : after.core ≡ before.core
+  pub now : after.now ≡ max before.now (min answer.secs latest_reading)
+  pub word : after.word ≡ answer.word
+
+-- a tick, where a ban is due
+abbrev pub tick_of : Clocked → Option What
+tick_of kept = if is_ban_due moves_now kept.now kept.core.jails then Some Tick else None

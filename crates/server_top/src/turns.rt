@@ -1,0 +1,80 @@
+//! The turns of a run.
+ghost use Rattle.std.specs.Prelude.{◌≡◌, ◌≤◌, ◌<◌, ◌+◌, IfErr, IfOk, OnOk};
+ghost use Rattle.run_law.specs.Stages.{HasCause, IsSteady, Moves, MoveFails};
+ghost use Rattle.run_law.specs.Turn.{to_end};
+ghost use Rattle.run_law.specs.declared.status.Status.TheVariants.{TurnsSpent as AllTurns};
+ghost use Rattle.run_steps.specs.Keeping.{KeepsRunning};
+ghost use Rattle.server_top.specs.Ticks.{at_clock};
+
+use crate::clock::read_clock;
+use crate::pause::{last_pause, pause};
+use f2b_world::World;
+use run_law::Status;
+use run_steps::Running;
+use std::alloc::Global;
+use turn_logs::look_at_logs;
+
+// What a turn does before its pause: the clock, and the logs.
+#[tactic(auto, using(crate::proofs::TurnLemmas::turning, run_law::proofs::CauseLemmas::counting))]
+fn work<'f, W: World>(
+    alloc: Global,
+    world: &mut W,
+    running: Running<'f>,
+) -> Result<Running<'f>, Status>
+    ensures ok { IfOk result (Moves KeepsRunning (W.stands world.old) (W.stands world.new) at_clock to_end running.entry) }
+    ensures err { IfErr result (MoveFails KeepsRunning (W.stands world.old) (W.stands world.new) at_clock running.entry) }
+    ensures cause { IfErr result (HasCause (W.stands world.old) (W.stands world.new)) }
+    ensures steady { IsSteady (W.stands world.old) (W.stands world.new) }
+    ensures left { IfOk result (λ after. after.left ≡ running.entry.left) }
+{
+    let running = read_clock(alloc, world, running)?;
+    let running = look_at_logs(alloc, world, running)?;
+    Ok(running)
+}
+
+// A turn that is not the last.
+#[tactic(auto, using(crate::proofs::TurnLemmas::turning, run_law::proofs::CauseLemmas::counting))]
+fn turn<'f, W: World>(
+    alloc: Global,
+    world: &mut W,
+    running: Running<'f>,
+) -> Result<Running<'f>, Status>
+    requires { 1 < running.left }
+    ensures ok { IfOk result (Moves KeepsRunning (W.stands world.old) (W.stands world.new) at_clock at_clock running.entry) }
+    ensures err { IfErr result (MoveFails KeepsRunning (W.stands world.old) (W.stands world.new) at_clock running.entry) }
+    ensures cause { IfErr result (HasCause (W.stands world.old) (W.stands world.new)) }
+    ensures steady { IsSteady (W.stands world.old) (W.stands world.new) }
+    ensures left { IfOk result (λ after. after.left + 1 ≡ running.entry.left) }
+{
+    let running = work(alloc, world, running)?;
+    Ok(pause(world, running))
+}
+
+// The last turn.
+#[tactic(auto, using(crate::proofs::TurnLemmas::turning))]
+fn last_turn<W: World>(alloc: Global, world: &mut W, running: Running<'_>) -> Result<(), Status>
+    requires { running.left ≡ 1 }
+    ensures ok { OnOk result (MoveFails KeepsRunning (W.stands world.old) (W.stands world.new) at_clock running.entry AllTurns) }
+    ensures err { IfErr result (MoveFails KeepsRunning (W.stands world.old) (W.stands world.new) at_clock running.entry) }
+    ensures cause { IfErr result (HasCause (W.stands world.old) (W.stands world.new)) }
+{
+    let running = work(alloc, world, running)?;
+    last_pause(world, running);
+    Ok(())
+}
+
+/// Makes the turns that are left, and ends the run.
+#[tactic(auto, using(crate::proofs::TurnLemmas::turning, run_law::proofs::CauseLemmas::counting))]
+pub fn make_turns<W: World>(alloc: Global, world: &mut W, first: Running<'_>) -> Result<(), Status>
+    requires { 1 ≤ first.left }
+    ensures ok { OnOk result (MoveFails KeepsRunning (W.stands world.old) (W.stands world.new) at_clock first.entry AllTurns) }
+    ensures err { IfErr result (MoveFails KeepsRunning (W.stands world.old) (W.stands world.new) at_clock first.entry) }
+    ensures cause { IfErr result (HasCause (W.stands world.old) (W.stands world.new)) }
+{
+    let mut running = first;
+    while running.left > 1 {
+        running = turn(alloc, world, running)?;
+    }
+    last_turn(alloc, world, running)?;
+    Ok(())
+}
