@@ -47,18 +47,30 @@ def ban_ends_in_time(room):
         want(3 <= lasted, f"lasted {lasted} s")
 
 
+def idle_turns(room, turns):
+    """How long a server took for so many turns, and how much processor time it used."""
+    begin = time.monotonic()
+    process = subprocess.Popen(room.words("--turns", str(turns)), stdin=subprocess.DEVNULL, stdout=subprocess.DEVNULL)
+    _pid, status, usage = os.wait4(process.pid, 0)
+    process.returncode = os.waitstatus_to_exitcode(status)
+    same(process.returncode, 0, "status")
+    return time.monotonic() - begin, usage.ru_utime + usage.ru_stime
+
+
 def pauses_are_made(room):
     """ten turns of an idle server take two seconds and a quarter at least, and little processor time"""
     write(room.log, failures("192.0.2.7"))
-    begin = time.monotonic()
-    process = subprocess.Popen(room.words("--turns", "10"), stdin=subprocess.DEVNULL, stdout=subprocess.DEVNULL)
-    _pid, status, usage = os.wait4(process.pid, 0)
-    process.returncode = os.waitstatus_to_exitcode(status)
-    took = time.monotonic() - begin
-    used = usage.ru_utime + usage.ru_stime
-    same(process.returncode, 0, "status")
+    took, used = idle_turns(room, 10)
     want(2.25 <= took, f"took {took:.2f} s")
     want(used <= 1, f"used {used:.2f} s of processor time")
+
+
+def pauses_are_made_again(room):
+    """a server that has read a long log pauses as any other"""
+    write(room.log, "nothing\n" * 32_768)
+    looks = os.path.getsize(room.log) // 65_536
+    took, _used = idle_turns(room, looks + 10)
+    want(2.25 <= took, f"took {took:.2f} s")
 
 
 def traced(room, *more, turns):
@@ -106,6 +118,7 @@ CHECKS = [
     dates_of_the_log_count,
     ban_ends_in_time,
     pauses_are_made,
+    pauses_are_made_again,
     idle_server_calls_little,
     long_log_is_read_at_once,
 ]

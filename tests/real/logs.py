@@ -168,6 +168,18 @@ def long_log(room):
         want(said[1:] == [found(address) for address in addresses], "the lines are not in the log's order")
 
 
+def log_is_large(room):
+    """a log of more than four GiB is followed at its end"""
+    room.configure(log=room.log + " tail")
+    write(room.log, "nothing\n")
+    os.truncate(room.log, 5 << 30)
+    with room.server() as server:
+        server.turn()
+        write(room.log, "\n" + failures("192.0.2.7"), "a")
+        server.wait_said(found("192.0.2.7"))
+        same(server.said(), [READY, found("192.0.2.7")], "said")
+
+
 def line_is_long(room):
     """a line of more than 65,536 bytes is missed, and the next one found"""
     line = failures("192.0.2.1")
@@ -211,6 +223,7 @@ CHECKS = [
     log_is_a_link,
     tail_begins_at_the_end,
     long_log,
+    log_is_large,
     line_is_long,
     bytes_are_no_text,
     bans_begin_and_end,
