@@ -39,8 +39,9 @@ def made(program, check):
             return "FAILED", str(why)
         except Skipped as why:
             return "skipped", str(why)
-        except Exception:
-            return "FAILED", traceback.format_exc()
+        except Exception as why:
+            traceback.print_exc()
+            return "FAILED", repr(why)
     return "ok", ""
 
 

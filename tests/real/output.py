@@ -2,6 +2,7 @@
 
 import fcntl
 import os
+import resource
 import subprocess
 import time
 
@@ -17,6 +18,20 @@ def output_is_full(room):
         with open("/dev/full", "wb") as full:
             status, _said, errors = room.run(*words, stdout=full)
         same((status, errors), (9, ""), f"{words}")
+
+
+def output_becomes_full(room):
+    """where the disk of standard output becomes full in the middle of some lines the server ends with status 9"""
+    write(room.log, failures(*[f"192.0.2.{number}" for number in range(1, 101)]))
+
+    def limit():
+        resource.setrlimit(resource.RLIMIT_FSIZE, (200, 200))
+
+    # The signal of that limit stays ignored, as it is here, so that writes end as on a full disk.
+    with open(room.path("said"), "wb") as said:
+        status, _said, errors = room.run(*room.words()[1:], stdout=said, preexec_fn=limit, restore_signals=False)
+    same((status, errors), (9, ""), "end")
+    same(os.path.getsize(room.path("said")), 200, "bytes that were written")
 
 
 def output_is_closed(room):
@@ -80,4 +95,4 @@ def input_is_closed(room):
     same(lines, ["INFO Server ready", "INFO [web] Found 192.0.2.7"], "said")
 
 
-CHECKS = [output_is_full, output_is_closed, reader_has_gone, reader_is_slow, input_is_closed]
+CHECKS = [output_is_full, output_becomes_full, output_is_closed, reader_has_gone, reader_is_slow, input_is_closed]

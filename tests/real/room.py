@@ -110,7 +110,10 @@ class Room:
         """Runs the program with these words to its end, and gives its status, what it said and its errors."""
         with tempfile.TemporaryFile() as errors:
             how = {"stdin": subprocess.DEVNULL, "stdout": subprocess.PIPE, "stderr": errors, **how}
-            ended = subprocess.run([self.program, *words], timeout=PATIENCE, check=False, **how)
+            try:
+                ended = subprocess.run([self.program, *words], timeout=PATIENCE, check=False, **how)
+            except subprocess.TimeoutExpired as late:
+                raise Failed(f"did not end within {PATIENCE} s") from late
             errors.seek(0)
             said = (ended.stdout or b"").decode()
             return ended.returncode, said, errors.read().decode()
