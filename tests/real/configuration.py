@@ -26,9 +26,10 @@ def most_files(room):
 def most_bytes(room):
     """16,777,216 bytes are a configuration, one more is too large"""
     left = 16_777_216 - os.path.getsize(room.path("conf/jail.conf"))
-    write(room.path("conf/jail.local"), b"#" * left)
+    # It is read and counted, and then passed over: no jail names it.
+    write(room.path("conf/other.conf"), b"#" * left)
     room.ends(0, READY, "--conf", room.conf, "--turns", "1")
-    write(room.path("conf/jail.local"), b"#" * (left + 1))
+    write(room.path("conf/other.conf"), b"#" * (left + 1))
     room.ends(10, TOO_LARGE, "--conf", room.conf)
 
 

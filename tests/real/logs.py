@@ -193,7 +193,7 @@ def line_is_long(room):
 
 def bytes_are_no_text(room):
     """an address is found among bytes that are no UTF-8, a NUL and a CR"""
-    room.configure(more="    ^. name \\S+ from <ADDR> .\n")
+    room.configure(more="    ^ name \\S+ from <ADDR> \\S+$\n")
     now = failures("x").split(" ", 1)[0].encode()
     with room.server() as server:
         write(room.log, now + b" name \xff\xfe\x80 from 192.0.2.1 \xc3\r\n", "a")
