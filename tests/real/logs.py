@@ -100,12 +100,14 @@ def log_may_not_be_read(room):
     with room.server(**as_nobody()) as server:
         server.wait_said(found("192.0.2.1"))
         os.chmod(room.log, 0)
-        write(room.log, failures("192.0.2.2"), "a") if os.geteuid() == 0 else None
         server.wait_said(unread(room))
         server.wait_said(unread(room), 3)
+        if os.geteuid() == 0:
+            write(room.log, failures("192.0.2.2"), "a")
         os.chmod(room.log, 0o644)
         write(room.log, failures("192.0.2.3"), "a")
         server.wait_said(found("192.0.2.3"))
+        same(server.count(found("192.0.2.2")), 1 if os.geteuid() == 0 else 0, "failures meanwhile")
         same(server.count(found("192.0.2.1")), 1, "failures before")
 
 
