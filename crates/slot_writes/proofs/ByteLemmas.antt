@@ -1,5 +1,5 @@
 -- What a stop may leave of a slot, in bytes.
-use Rattle.std.proofs.Common.{ℕ, ◌≡◌, ◌+◌, ◌<◌, ◌≤◌, inl, inr, List, [], ◌∷◌, ◌++◌, length, drop, get_or, length-append, refl, sym, ap, ◌∙◌, append_assoc, append-nil, arith, add-one, suc}
+use Rattle.std.proofs.Common.{ℕ, ◌≡◌, ◌+◌, ◌<◌, inl, inr, List, [], ◌∷◌, ◌++◌, length, drop, get_or, length-append, refl, sym, ap, ◌∙◌, append_assoc, append-nil, arith, add-one, suc}
 use Rattle.std.proofs.lemmas.List.{get_or-append-add, drop_all}
 use Rattle.std.proofs.Math.ListN.{get_or-append}
 use Rattle.std.proofs.Math.Seq.{drop-append-add, drop-cons, take-append_seam}

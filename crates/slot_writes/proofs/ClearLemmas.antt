@@ -1,13 +1,13 @@
 -- How a slot is cleared before it is written anew.
-use Rattle.std.proofs.Common.{ℕ, ◌≡◌, ◌+◌, ◌<◌, ◌≤◌, ◌^◌, List, [], ◌∷◌, ◌++◌, length, drop, replicate, length-append, refl, sym, ap, ◌∙◌, append-nil, subst, arith, lit<}
+use Rattle.std.proofs.Common.{ℕ, ◌≡◌, ◌≤◌, List, [], ◌∷◌, ◌++◌, length, drop, replicate, refl, sym, ap, ◌∙◌, subst, arith, lit<}
 use Rattle.std.proofs.lemmas.List.{drop_all}
-use Rattle.f2b_world.specs.Slots.{Slot, Permits, settled, write_to, synced_now}
+use Rattle.f2b_world.specs.Slots.{Permits, settled, write_to}
 use Rattle.journal_slots.specs.declared.head.Head.{Head}
 use Rattle.journal_slots.specs.declared.head.Head.TheVariants.{Short, Ajar, Shut}
 use Rattle.journal_slots.specs.Starts.{IsHead}
-use Rattle.slot_writes.specs.Writes.{Write, Put, Sync, AreOn}
-use Rattle.slot_writes.specs.Points.{after_call, after_calls, AllPoints, AreShort}
-use Rattle.slot_writes.specs.Stages.{Leaves, Making, IsMaking}
+use Rattle.slot_writes.specs.Writes.{AreOn}
+use Rattle.slot_writes.specs.Points.{after_calls, AllPoints, AreShort}
+use Rattle.slot_writes.specs.Stages.{Making, IsMaking}
 use Rattle.slot_writes.specs.Entries.{clearing}
 use Rattle.slot_writes.proofs.ByteLemmas.{settled_image, one_byte, written_at}
 
@@ -37,7 +37,7 @@ module _ (slot : ℕ) (body entry : List ℕ) where
     (
       (λ image permits. Making.Short (omega (arith, is, permits.no_longer))),
       subst (IsMaking bytes body entry) (sym (short_end bytes is))
-      (λ image permits. Making.Short (let e : length image ≡ 16 = ap length (settled_image zeros image permits) in omega (arith, e))),
+          (λ image permits. Making.Short (let e : length image ≡ 16 = ap length (settled_image zeros image permits) in omega (arith, e))),
     ),
   )
   clear_points Ajar bytes is =
@@ -45,11 +45,11 @@ module _ (slot : ℕ) (body entry : List ℕ) where
         kept_settled bytes,
         (
           (λ image permits.
-            let P : List ℕ → Type 0 = λ r. Permits (write_to (settled r) 0 (0 ∷ [])) image in
-            let q = one_byte [] is.1.1 image (0 ∷ []) 0 is.1.0 refl (subst P is.1.3 permits) refl in
-            Making.Shut q.0 is.1.0 is.1.1 is.1.2 is.1.3 q.1),
+              let P : List ℕ → Type 0 = λ r. Permits (write_to (settled r) 0 (0 ∷ [])) image in
+              let q = one_byte [] is.1.1 image (0 ∷ []) 0 is.1.0 refl (subst P is.1.3 permits) refl in
+              Making.Shut q.0 is.1.0 is.1.1 is.1.2 is.1.3 q.1),
           subst (IsMaking bytes body entry) (sym there.1)
-          (λ image permits. Making.Shut 0 is.1.0 is.1.1 is.1.2 is.1.3 (settled_image (0 ∷ there.0) image permits)),
+              (λ image permits. Making.Shut 0 is.1.0 is.1.1 is.1.2 is.1.3 (settled_image (0 ∷ there.0) image permits)),
         ),
       )
   clear_points Shut bytes is = kept_settled bytes

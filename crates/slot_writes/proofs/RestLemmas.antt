@@ -1,5 +1,5 @@
 -- An append and a change of slots, as both slots mean them.
-use Rattle.std.proofs.Common.{ℕ, zero, suc, ◌≡◌, ◌≢◌, ◌==◌, ◌+◌, ◌-◌, ◌≤◌, ◌<◌, ◌^◌, ◌&&◌, ◌⊎◌, inl, inr, nat_le, Bool, true, false, Option, Some, List, [], ◌∷◌, ◌++◌, length, drop, length-append, refl, sym, ap, ap₂, ◌∙◌, append_assoc, append-nil, subst, arith}
+use Rattle.std.proofs.Common.{ℕ, zero, suc, ◌≡◌, ◌≢◌, ◌+◌, ◌-◌, ◌≤◌, ◌<◌, ◌^◌, ◌⊎◌, inl, inr, nat_le, true, Some, List, [], ◌∷◌, ◌++◌, length, drop, length-append, refl, sym, ap, ◌∙◌, append_assoc, subst, arith}
 use Rattle.std.proofs.lemmas.Bool.{leb-true, le-leb}
 use Rattle.f2b_base.specs.declared.input.Input.{Input}
 use Rattle.f2b_base.specs.declared.view.View.{View}
@@ -9,10 +9,9 @@ use Rattle.f2b_world.specs.Slots.{Slot, Permits, settled}
 use Rattle.f2b_world.specs.Told.{History, grown, slot_of}
 use Rattle.journal_slots.specs.declared.head.Head.{Head}
 use Rattle.journal_slots.specs.declared.head.Head.TheVariants.{Short, Ajar, Shut}
-use Rattle.journal_slots.specs.Fronts.{IsFront}
-use Rattle.journal_slots.specs.Grammar.{Opened, Parsed, Empty, Open, Bad, parse_slot}
+use Rattle.journal_slots.specs.Grammar.{Parsed, Empty, Open, Bad, parse_slot}
 use Rattle.journal_slots.specs.Starts.{last_generation, is_generation, generation, version, Start, start, IsHead}
-use Rattle.journal_slots.specs.Tops.{Top, Stored, stored_in, meaning, IsOlder}
+use Rattle.journal_slots.specs.Tops.{Stored, stored_in, meaning, IsOlder}
 use Rattle.journal_slots.proofs.SlotLemmas.{front_parses, more_parses, front_more, fresh_front, front_head, own_gate, short_empty, closed_empty}
 use Rattle.journal_slots.proofs.StartLemmas.{length-eight, view_whole, what_whole}
 use Rattle.journal_slots.proofs.TopLemmas.{newest, none_open, older_none}
@@ -27,9 +26,9 @@ use Rattle.record_fields.proofs.NumberLemmas.{both_of}
 use Rattle.slot_writes.specs.declared.position.Position.{Position}
 use Rattle.slot_writes.specs.Writes.{Write, AreOn, done_events, IsPart}
 use Rattle.slot_writes.specs.Points.{AllPoints, IsWithin, AreShort}
-use Rattle.slot_writes.specs.Stages.{EndsAt, HasGate, IsAdding, Making, IsMaking}
-use Rattle.slot_writes.specs.Entries.{fresh_slot, input_bytes, entry, behind_gate, fits, append_writes, appended, fresh_start, body, turn_calls, turn_writes, turned, need}
-use Rattle.slot_writes.specs.Rests.{PermitsBoth, nothing_stored, and_input, just_view, IsTop, IsOpenAt, IsAtRest, MeansEither, Means, MeansOneOf}
+use Rattle.slot_writes.specs.Stages.{IsAdding, Making, IsMaking}
+use Rattle.slot_writes.specs.Entries.{fresh_slot, input_bytes, entry, fits, append_writes, appended, fresh_start, body, turn_writes, turned, need}
+use Rattle.slot_writes.specs.Rests.{PermitsBoth, and_input, just_view, IsTop, IsOpenAt, IsAtRest, MeansEither, Means, MeansOneOf}
 use Rattle.slot_writes.proofs.ByteLemmas.{settled_image}
 use Rattle.slot_writes.proofs.RunLemmas.{points_both, at_point, at_end, at_other, all_is_part, points_within, settled_within, image_held}
 use Rattle.slot_writes.proofs.StageLemmas.{adding_points, behind_end, behind_on, behind_short}
@@ -176,8 +175,8 @@ module _ (p : Position) (stored : Stored) (g : History) (i : Input) (limited : p
       let front = at.front ++ 1 ∷ (input at.start.version).spell i in
       let text : at.front ++ 1 ∷ (entry i ++ tail) ≡ front ++ 0 ∷ tail = more_text 1 tail ∙ sym (append_assoc at.front (1 ∷ (input at.start.version).spell i) (0 ∷ tail)) in
       let end : slot_of (grown g es) p.slot ≡ settled (front ++ 0 ∷ tail) =
-          at_end p.slot g (settled (at.front ++ 0 ∷ at.rest)) (append_writes p i) es holds (behind_on p.slot p.gate (entry i)) done
-          ∙ behind_end p.slot p.gate at.front at.rest (entry i) at.gate_is ∙ ap settled text in
+      at_end p.slot g (settled (at.front ++ 0 ∷ at.rest)) (append_writes p i) es holds (behind_on p.slot p.gate (entry i)) done
+      ∙ behind_end p.slot p.gate at.front at.rest (entry i) at.gate_is ∙ ap settled text in
       let spelt = front_more at.start stored.inputs at.front i 1 at.spelt (omega arith) fits_here in
       let now_held : IsHeld (front ++ 0 ∷ tail) = (subst IsWithin end (safe es part).1).now in
       record {
@@ -327,7 +326,7 @@ module _ (p : Position) (stored : Stored) (g : History) (v : View) (i : Input) (
       let front = (1 ∷ start.spell first) ++ 1 ∷ input_bytes i in
       let text : (1 ∷ start.spell first) ++ 1 ∷ (entry i ++ at.0) ≡ front ++ 0 ∷ at.0 = entry_text 1 at.0 ∙ sym (append_assoc (1 ∷ start.spell first) (1 ∷ input_bytes i) (0 ∷ at.0)) in
       let end : slot_of (grown g es) new_slot ≡ settled (front ++ 0 ∷ at.0) =
-          at_end new_slot g (settled rests.past) calls es rests.beside on_new done ∙ at.1 ∙ ap settled text in
+      at_end new_slot g (settled rests.past) calls es rests.beside on_new done ∙ at.1 ∙ ap settled text in
       let spelt = front_more first [] (1 ∷ start.spell first) i 1 (fresh_front first 1 (omega arith) first_fits) (omega arith) (input_fits i storable) in
       let now_held : IsHeld (front ++ 0 ∷ at.0) = (subst IsWithin end (made es part).1).now in
       let back : 1 - (1 - p.slot) ≡ p.slot = omega (arith, rests.slot) in

@@ -1,12 +1,11 @@
 -- Worked rows of what is written, computed.
-use Rattle.std.proofs.Common.{◌≡◌, ℕ, ◌⊎◌, inl, inr, true, false, List, [], ◌∷◌, ◌++◌, replicate, refl}
+use Rattle.std.proofs.Common.{◌≡◌, ℕ, true, false, List, [], ◌∷◌, ◌++◌, replicate, refl}
 use Rattle.f2b_base.specs.declared.input.Input.{Input}
 use Rattle.f2b_base.specs.declared.input.What.TheVariants.{Tick}
 use Rattle.f2b_model.specs.Views.{empty_view}
-use Rattle.f2b_world.specs.Slots.{settled, written}
-use Rattle.journal_slots.specs.declared.head.Head.TheVariants.{Short, Ajar, Shut}
+use Rattle.f2b_world.specs.Slots.{settled}
+use Rattle.journal_slots.specs.declared.head.Head.TheVariants.{Short, Ajar}
 use Rattle.journal_slots.specs.Starts.{generation, version, start}
-use Rattle.record_codec.specs.declared.version.Version.TheVariants.{Two}
 use Rattle.record_codec.specs.Definitions.{defs}
 use Rattle.record_codec.specs.Inputs.{input, what}
 use Rattle.record_codec.specs.Views.{view}
@@ -16,7 +15,7 @@ use Rattle.record_fields.specs.Numbers.{digits}
 use Rattle.slot_writes.specs.declared.position.Position.{Position}
 use Rattle.slot_writes.specs.Writes.{Write, Put, Sync}
 use Rattle.slot_writes.specs.Points.{after_calls}
-use Rattle.slot_writes.specs.Entries.{Entry, Written, Full, Spent, entry_of, fits, need}
+use Rattle.slot_writes.specs.Entries.{Written, Full, Spent, entry_of}
 
 abbrev tick : ℕ → Input
 tick secs = record { secs = secs; word = 0; what = Tick }

@@ -1,10 +1,10 @@
 -- How runs of calls go on, and what a slot is at each point of one.
-use Rattle.std.proofs.Common.{ℕ, zero, suc, ◌≡◌, ◌≢◌, ◌==◌, ◌+◌, ◌<◌, ◌≤◌, ◌^◌, ◌⊎◌, inl, inr, max, if◌then◌else◌, Bool, Option, Some, None, List, [], ◌∷◌, ◌++◌, length, take, drop, length-append, refl, sym, ap, ◌∙◌, subst, append_assoc, append-nil, arith, eq-eqb}
+use Rattle.std.proofs.Common.{ℕ, ◌≡◌, ◌≢◌, ◌+◌, ◌<◌, ◌≤◌, ◌^◌, inl, inr, Option, List, [], ◌∷◌, ◌++◌, length, take, drop, length-append, refl, sym, ap, ◌∙◌, subst, append_assoc, append-nil, arith, eq-eqb}
 use Rattle.std.proofs.lemmas.Bool.{ne_eqb}
 use Rattle.std.proofs.lemmas.List.{length-take, length-drop}
 use Rattle.f2b_world.specs.declared.event.Event.{Event}
-use Rattle.f2b_world.specs.Slots.{Slot, slot_step, slot_after, settled, write_to, synced_now, greatest_end, Permits}
-use Rattle.f2b_world.specs.Told.{History, Adds, grown, slot_of}
+use Rattle.f2b_world.specs.Slots.{Slot, slot_step, slot_after, settled, write_to, synced_now, Permits}
+use Rattle.f2b_world.specs.Told.{History, grown, slot_of}
 use Rattle.f2b_world.proofs.AddsLemmas.{adds_then, adds_weaker, adds_none}
 use Rattle.record_fields.specs.Codec.{IsHeld}
 use Rattle.slot_writes.specs.Writes.{Write, Put, Sync, slot_in, AreOn, done_event, failed_event, done_events, IsFirstPart, IsBroken, IsPart, Performs, Breaks, StopsShort}
@@ -155,8 +155,8 @@ part_point P slot s ws es on h (inr is) =
     let there = point_of P s is.first (is.one ∷ is.left) (subst (AllPoints P s) is.parts h) in
     let here = failed_point P slot (after_calls s is.first) is.one is.left on_all.1.0 there in
     let e : slot_after slot s es ≡ slot_step slot (after_calls s is.first) (failed_event is.one) =
-        ap (slot_after slot s) is.done ∙ slot_after-append slot s (done_events is.first) (failed_event is.one ∷ [])
-        ∙ ap (λ (r : Slot). slot_step slot r (failed_event is.one)) (after_done slot s is.first on_all.0) in
+    ap (slot_after slot s) is.done ∙ slot_after-append slot s (done_events is.first) (failed_event is.one ∷ [])
+    ∙ ap (λ (r : Slot). slot_step slot r (failed_event is.one)) (after_done slot s is.first on_all.0) in
     subst P (sym e) here
 
 part_beside : (slot other : ℕ) (s : Slot) (ws : List Write) (es : List Event) → slot ≢ other → AreOn slot ws → IsPart ws es → slot_after other s es ≡ s
@@ -194,7 +194,7 @@ write_within s at bytes within short =
     let front : length (take at s.now) ≤ at = omega (arith, length-take at s.now) in
     let back : length (drop (at + length bytes) s.now) + (at + length bytes) < 2 ^ 64 = omega (arith, length-drop (at + length bytes) s.now, within.now, short) in
     let long : length (take at s.now ++ bytes ++ drop (at + length bytes) s.now) ≡ length (take at s.now) + length bytes + length (drop (at + length bytes) s.now) =
-        length-append (take at s.now ++ bytes) (drop (at + length bytes) s.now) ∙ ap (λ (n : ℕ). n + length (drop (at + length bytes) s.now)) (length-append (take at s.now) bytes) in
+    length-append (take at s.now ++ bytes) (drop (at + length bytes) s.now) ∙ ap (λ (n : ℕ). n + length (drop (at + length bytes) s.now)) (length-append (take at s.now) bytes) in
     record {
       now = omega (arith, long, front, back);
       synced = within.synced;

@@ -1,9 +1,9 @@
 -- Bytes behind a closed gate, and then the gate.
-use Rattle.std.proofs.Common.{ℕ, ◌≡◌, ◌+◌, ◌<◌, ◌≤◌, ◌^◌, ◌⊎◌, inl, inr, List, [], ◌∷◌, ◌++◌, length, drop, length-append, refl, sym, ap, ◌∙◌, append_assoc, subst, arith}
-use Rattle.f2b_world.specs.Slots.{Slot, Permits, IsOutside, settled, write_to, written, synced_now}
+use Rattle.std.proofs.Common.{ℕ, ◌≡◌, ◌+◌, ◌<◌, ◌^◌, inl, inr, List, [], ◌∷◌, ◌++◌, length, drop, length-append, refl, sym, ap, ◌∙◌, append_assoc, subst, arith}
+use Rattle.f2b_world.specs.Slots.{Slot, IsOutside, settled, write_to, written}
 use Rattle.slot_writes.specs.Writes.{Write, Put, Sync, AreOn}
-use Rattle.slot_writes.specs.Points.{after_call, after_calls, AllPoints, AreShort}
-use Rattle.slot_writes.specs.Stages.{EndsAt, HasGate, Leaves, IsBehind, IsOpening, IsAdding}
+use Rattle.slot_writes.specs.Points.{after_calls, AllPoints, AreShort}
+use Rattle.slot_writes.specs.Stages.{IsBehind, IsOpening, IsAdding}
 use Rattle.slot_writes.specs.Entries.{behind_gate}
 use Rattle.slot_writes.proofs.ByteLemmas.{front_stays, settled_image, one_byte, written_at}
 use Rattle.slot_writes.proofs.RunLemmas.{points_weaker, points_append, after_calls-append}

@@ -1,9 +1,9 @@
 -- A slot that is written anew, and an input in it.
-use Rattle.std.proofs.Common.{ℕ, ◌≡◌, ◌+◌, ◌<◌, ◌≤◌, ◌^◌, ◌⊎◌, inl, inr, List, [], ◌∷◌, ◌++◌, length, drop, length-append, refl, sym, ap, ◌∙◌, append_assoc, subst, arith}
-use Rattle.f2b_world.specs.Slots.{Slot, Permits, settled}
+use Rattle.std.proofs.Common.{ℕ, ◌≡◌, ◌+◌, ◌<◌, ◌^◌, inl, inr, List, [], ◌∷◌, ◌++◌, length, drop, length-append, refl, sym, ap, ◌∙◌, append_assoc, subst, arith}
+use Rattle.f2b_world.specs.Slots.{Slot, settled}
 use Rattle.journal_slots.specs.declared.head.Head.{Head}
 use Rattle.journal_slots.specs.Starts.{IsHead}
-use Rattle.slot_writes.specs.Writes.{Write, AreOn}
+use Rattle.slot_writes.specs.Writes.{AreOn}
 use Rattle.slot_writes.specs.Points.{after_calls, AllPoints, AreShort}
 use Rattle.slot_writes.specs.Stages.{IsBehind, IsOpening, IsAdding, Making, IsMaking}
 use Rattle.slot_writes.specs.Entries.{behind_gate, clearing, turn_calls}
@@ -38,8 +38,8 @@ module _ (slot : ℕ) (bytes body entry : List ℕ) where
   fresh_end rest = (
     drop (length entry) (drop (length whole) rest),
     after_calls-append (settled (0 ∷ rest)) (behind_gate slot 0 whole) (behind_gate slot (length whole) entry)
-    ∙ ap (λ (s : Slot). after_calls s (behind_gate slot (length whole) entry)) (body_end rest)
-    ∙ behind_end slot (length whole) (1 ∷ body) (drop (length whole) rest) entry place_is,
+        ∙ ap (λ (s : Slot). after_calls s (behind_gate slot (length whole) entry)) (body_end rest)
+        ∙ behind_end slot (length whole) (1 ∷ body) (drop (length whole) rest) entry place_is,
   )
 
   fresh_points : (rest : List ℕ) → AllPoints (IsMaking bytes body entry) (settled (0 ∷ rest)) (behind_gate slot 0 whole ++ behind_gate slot (length whole) entry)
@@ -63,7 +63,7 @@ module _ (slot : ℕ) (bytes body entry : List ℕ) where
       let end = fresh_end cleared.0 in (
         end.0,
         after_calls-append (settled bytes) (clearing slot head) (behind_gate slot 0 whole ++ behind_gate slot (length whole) entry)
-        ∙ ap (λ (s : Slot). after_calls s (behind_gate slot 0 whole ++ behind_gate slot (length whole) entry)) cleared.1 ∙ end.1,
+            ∙ ap (λ (s : Slot). after_calls s (behind_gate slot 0 whole ++ behind_gate slot (length whole) entry)) cleared.1 ∙ end.1,
       )
 
   pub turn_on : (head : Head) → AreOn slot (turn_calls slot head whole entry)

@@ -1,5 +1,5 @@
 -- What a slot is at each point of a run of calls on it.
-use Rattle.std.specs.Prelude.{ℕ, ◌<◌, ◌+◌, ◌^◌, List, [], ◌∷◌, length}
+use Rattle.std.specs.Prelude.{◌<◌, ◌+◌, ◌^◌, List, [], ◌∷◌, length}
 use Rattle.f2b_world.specs.Slots.{Slot, write_to, synced_now, greatest_end}
 use Rattle.slot_writes.specs.Writes.{Write, Put, Sync}
 

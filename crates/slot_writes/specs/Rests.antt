@@ -1,9 +1,9 @@
 -- When a journal is at rest, and what both slots mean then, whatever a stop leaves of each of them.
-use Rattle.std.specs.Prelude.{ℕ, ◌≡◌, ◌<◌, ◌^◌, ◌⊎◌, true, List, [], ◌∷◌, ◌++◌, length, Option, Some}
+use Rattle.std.specs.Prelude.{ℕ, ◌≡◌, ◌<◌, ◌⊎◌, true, List, [], ◌∷◌, ◌++◌, length, Option, Some}
 use Rattle.f2b_base.specs.declared.input.Input.{Input}
 use Rattle.f2b_base.specs.declared.view.View.{View}
 use Rattle.f2b_model.specs.Views.{empty_view}
-use Rattle.f2b_world.specs.Slots.{Slot, Permits, settled}
+use Rattle.f2b_world.specs.Slots.{Permits, settled}
 use Rattle.f2b_world.specs.Told.{History, slot_of}
 use Rattle.journal_slots.specs.Fronts.{IsFront}
 use Rattle.journal_slots.specs.Grammar.{Parsed, Empty, Open, Bad, parse_slot}

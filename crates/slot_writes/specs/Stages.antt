@@ -1,5 +1,5 @@
 -- What a stop leaves of the bytes of a slot while it is written.
-use Rattle.std.specs.Prelude.{ℕ, ◌≡◌, ◌<◌, ◌≤◌, ◌⊎◌, List, [], ◌∷◌, ◌++◌, length}
+use Rattle.std.specs.Prelude.{ℕ, ◌≡◌, ◌<◌, ◌≤◌, ◌⊎◌, List, ◌∷◌, ◌++◌, length}
 use Rattle.f2b_world.specs.Slots.{Slot, Permits}
 
 -- it ends at the closed gate behind the front
