@@ -7,7 +7,7 @@ import shutil
 import subprocess
 import time
 
-from room import PATIENCE, Skipped, failures, same, wait_for, want, write
+from room import PATIENCE, Skipped, failures, same, want, write
 
 
 def moment_is_that_of_the_machine(room):
@@ -86,8 +86,14 @@ def traced(room, *more, turns):
         return [line.split(None, 1)[1] for line in lines]
 
 
+def slept(call):
+    """How many seconds a call that sleeps asked for."""
+    asked = re.search(r"\{tv_sec=(\d+), tv_nsec=(\d+)\}", call)
+    return int(asked[1]) + int(asked[2]) / 1e9 if asked else 0
+
+
 def idle_server_calls_little(room):
-    """an idle server opens each log once a turn, writes nothing, and makes few calls"""
+    """an idle server opens each log once a turn, writes nothing, makes few calls, and asks for pauses of a quarter of a second a turn"""
     write(room.log, failures("192.0.2.7"))
     calls = traced(room, turns=12)
     opened = sum(f'"{room.log}"' in call and call.startswith("open") for call in calls)
@@ -99,6 +105,9 @@ def idle_server_calls_little(room):
     writes = [call for call in idle if re.match(r"write|pwrite|send", call)]
     same(writes, [], "writes of an idle server")
     want(len(idle) <= 12 * 100, f"{len(idle)} calls in 12 turns")
+    # What it asks for, and not how long that took: a busy machine wakes it late.
+    asked = sum(slept(calls[at]) for at in pauses)
+    want(2.9 <= asked <= 3.1, f"asked for {asked} s of pauses in 12 turns")
 
 
 def long_log_is_read_at_once(room):

@@ -7,8 +7,8 @@ import subprocess
 import tempfile
 import time
 
-# How many seconds a check waits for what has to come, on a machine that is busy with other work.
-PATIENCE = 90
+# How many seconds a check waits for what has to come while nothing else comes, on a machine that is busy with other work.
+PATIENCE = 180
 
 # A user that may read only what all may.
 NOBODY = 65534
@@ -54,14 +54,14 @@ def same(saw, wanted, what):
     want(saw == wanted, f"{what}: {saw!r} and not {wanted!r}")
 
 
-def wait_for(holds, what):
-    """Waits until the condition holds, and gives what it gave."""
-    end = time.monotonic() + PATIENCE
-    while True:
-        found = holds()
-        if found:
-            return found
-        want(time.monotonic() < end, f"{what}: not within {PATIENCE} s")
+def wait_for(holds, what, so_far=lambda: None):
+    """Waits until the condition holds, for as long as something comes. `so_far` tells what has come."""
+    last, end = so_far(), time.monotonic() + PATIENCE
+    while not holds():
+        now = so_far()
+        if now != last:
+            last, end = now, time.monotonic() + PATIENCE
+        want(time.monotonic() < end, f"{what}: nothing within {PATIENCE} s, behind {last!r}")
         time.sleep(0.02)
 
 
@@ -189,7 +189,7 @@ class Server:
             want(ended is None, f"ended with {ended}, behind {self.text()[-2000:]!r} {self.errors()[:2000]!r}")
             return False
 
-        wait_for(is_there, f"{line!r} {times} times in {self.text()[-500:]!r}")
+        wait_for(is_there, f"{line!r} {times} times", lambda: self.text()[-500:])
 
     def wait_ended(self, status):
         """Waits until the server ended by itself, and wants this status."""
