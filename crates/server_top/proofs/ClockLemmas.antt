@@ -51,41 +51,33 @@ news_are kept s keeps =
     due_now s.now s.state ∙ sym (ap₂ (λ at (n : Now). is_ban_due moves_now at n.jails) keeps.now keeps.core) in
     ap (λ (b : Bool). cond b (only Tick) nothing) due ∙ either_news (is_ban_due moves_now kept.now kept.core.jails) s
 
+-- a tick is taken beside the logs
+pub tick_beside : (a b : Standing) (kept : Running) (after : Clocked) → Brings KeepsClocked a b (news_of [] (Some Tick) []) kept.clocked after → Brings KeepsRunning a b (news_of [] (Some Tick) []) kept (clocked_as kept after)
+tick_beside a b kept after brought = bring_beside kept after a b [] [] (Some Tick) tick_jails brought
+
+pub ruleset ticking = (tick_beside, bring_fails_beside)
+
 module _ (kept : Running) where
-  -- these are the news where a ban is due, or none is
+  -- these are the news where a ban is due, or where none is
   news_if : (what : Option What) → tick_of kept.clocked ≡ what → (s : Server) → KeepsRunning s kept → news_of [] (tick_of kept.clocked) [] s ≡ news_of [] what [] s
   news_if what is s keeps = ap (λ (o : Option What). news_of [] o [] s) is
 
-  due_ticks : is_ban_due moves_now kept.clocked.now kept.clocked.core.jails ≡ true → tick_of kept.clocked ≡ Some Tick
-  due_ticks due = ap (λ (b : Bool). cond b (Some Tick) None) due
+  module _ (due : is_ban_due moves_now kept.clocked.now kept.clocked.core.jails ≡ true) where
+    pub due_ticks : tick_of kept.clocked ≡ Some Tick
+    due_ticks = ap (λ (b : Bool). cond b (Some Tick) None) due
 
-  calm_ticks : is_ban_due moves_now kept.clocked.now kept.clocked.core.jails ≡ false → tick_of kept.clocked ≡ None
-  calm_ticks calm = ap (λ (b : Bool). cond b (Some Tick) None) calm
+    pub due_brings : (a b : Standing) (after : Running) → Brings KeepsRunning a b (news_of [] (Some Tick) []) kept after → Brings KeepsRunning a b (news_of [] (tick_of kept.clocked) []) kept after
+    due_brings a b after brought = brings_same KeepsRunning a b (news_of [] (tick_of kept.clocked) []) (news_of [] (Some Tick) []) kept after (news_if (Some Tick) due_ticks) brought
 
-  -- a tick was taken
-  pub tick_brings : (a b : Standing) (after : Clocked) → is_ban_due moves_now kept.clocked.now kept.clocked.core.jails ≡ true → Brings KeepsClocked a b (news_of [] (Some Tick) []) kept.clocked after
-      → Brings KeepsRunning a b (news_of [] (tick_of kept.clocked) []) kept (clocked_as kept after)
-  tick_brings a b after due brought =
-      brings_same KeepsRunning a b (news_of [] (tick_of kept.clocked) []) (news_of [] (Some Tick) []) kept (clocked_as kept after) (news_if (Some Tick) (due_ticks due))
-      (bring_beside kept after a b [] [] (Some Tick) tick_jails brought)
+    pub due_fails : (a b : Standing) (status : Status) → BringFails KeepsRunning a b (news_of [] (Some Tick) []) kept status → BringFails KeepsRunning a b (news_of [] (tick_of kept.clocked) []) kept status
+    due_fails a b status fails = fails_same KeepsRunning a b (news_of [] (tick_of kept.clocked) []) (news_of [] (Some Tick) []) kept status (news_if (Some Tick) due_ticks) fails
 
-  pub tick_fails : (a b : Standing) (status : Status) → is_ban_due moves_now kept.clocked.now kept.clocked.core.jails ≡ true → BringFails KeepsClocked a b (news_of [] (Some Tick) []) kept.clocked status
-      → BringFails KeepsRunning a b (news_of [] (tick_of kept.clocked) []) kept status
-  tick_fails a b status due fails =
-      fails_same KeepsRunning a b (news_of [] (tick_of kept.clocked) []) (news_of [] (Some Tick) []) kept status (news_if (Some Tick) (due_ticks due))
-      (bring_fails_beside a b kept [] [] (Some Tick) status fails)
-
-  -- no ban is due
-  pub calm_brings : (a : Standing) → is_ban_due moves_now kept.clocked.now kept.clocked.core.jails ≡ false → Brings KeepsRunning a a (news_of [] (tick_of kept.clocked) []) kept kept
-  calm_brings a calm =
-      brings_same KeepsRunning a a (news_of [] (tick_of kept.clocked) []) (news_of [] None []) kept kept (news_if None (calm_ticks calm))
+  pub none_brings : (a : Standing) → is_ban_due moves_now kept.clocked.now kept.clocked.core.jails ≡ false → Brings KeepsRunning a a (news_of [] (tick_of kept.clocked) []) kept kept
+  none_brings a none =
+      brings_same KeepsRunning a a (news_of [] (tick_of kept.clocked) []) (news_of [] None []) kept kept (news_if None (ap (λ (b : Bool). cond b (Some Tick) None) none))
       (record { runs = λ r at next s saying is_at keeps. brings_told KeepsRunning a a (news_of [] None [] s) r at next s kept saying is_at refl (says_none a) keeps })
 
-  -- where no tick is taken none is due
-  pub no_tick : is_ban_due moves_now kept.clocked.now kept.clocked.core.jails ≡ true → tick_of kept.clocked ≡ None → ⊥
-  no_tick due none = let both : Some Tick ≡ None = sym (due_ticks due) ∙ none in cc
-
-pub ruleset ticking = (tick_brings, tick_fails, calm_brings, no_tick)
+pub ruleset ending = (due_ticks, due_brings, due_fails, none_brings)
 
 -- ---- the reading
 

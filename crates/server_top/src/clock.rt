@@ -1,5 +1,5 @@
 //! The clock of a turn.
-ghost use Rattle.std.specs.Prelude.{◌≡◌, [], IfErr, IfOk, IsOk};
+ghost use Rattle.std.specs.Prelude.{◌≡◌, [], IfErr, IfOk};
 ghost use Rattle.run_law.specs.Stages.{Brings, BringFails, HasCause, IsSteady, Moves, MoveFails};
 ghost use Rattle.run_law.specs.Turn.{to_logs};
 ghost use Rattle.run_steps.specs.Keeping.{KeepsRunning, news_of};
@@ -48,23 +48,19 @@ fn read<'f, W: Time>(world: &mut W, running: Running<'f>) -> Running<'f>
     }
 }
 
-// Ends the bans that are due by one tick. Where none is due no memory is asked for.
+// Takes a tick, which ends the bans that are due.
 #[tactic(auto, using(crate::proofs::ClockLemmas::ticking, run_steps::proofs::BringLemmas::unbrought_cause, run_law::proofs::CauseLemmas::counting))]
-fn end_due<'f, W: World>(
+fn tick<'f, W: World>(
     alloc: Global,
     world: &mut W,
     running: Running<'f>,
 ) -> Result<Running<'f>, Status>
-    ensures ok { IfOk result (Brings KeepsRunning (W.stands world.old) (W.stands world.new) (news_of [] (tick_of running.entry.clocked) []) running.entry) }
-    ensures err { IfErr result (BringFails KeepsRunning (W.stands world.old) (W.stands world.new) (news_of [] (tick_of running.entry.clocked) []) running.entry) }
-    ensures quiet { tick_of running.entry.clocked ≡ Option.None → IsOk result }
+    ensures ok { IfOk result (Brings KeepsRunning (W.stands world.old) (W.stands world.new) (news_of [] (Option.Some What.Tick) []) running.entry) }
+    ensures err { IfErr result (BringFails KeepsRunning (W.stands world.old) (W.stands world.new) (news_of [] (Option.Some What.Tick) []) running.entry) }
     ensures cause { IfErr result (HasCause (W.stands world.old) (W.stands world.new)) }
     ensures steady { IsSteady (W.stands world.old) (W.stands world.new) }
     ensures left { IfOk result (λ after. after.left ≡ running.entry.left) }
 {
-    if !running.clocked.core.ban_due(running.clocked.now) {
-        return Ok(running);
-    }
     let Running {
         clocked,
         logs,
@@ -76,6 +72,26 @@ fn end_due<'f, W: World>(
         logs,
         left,
     })
+}
+
+// Takes a tick where a ban is due. Where none is due no memory is asked for.
+#[tactic(auto, using(crate::proofs::ClockLemmas::ending, run_law::proofs::CauseLemmas::counting))]
+fn end_due<'f, W: World>(
+    alloc: Global,
+    world: &mut W,
+    running: Running<'f>,
+) -> Result<Running<'f>, Status>
+    ensures ok { IfOk result (Brings KeepsRunning (W.stands world.old) (W.stands world.new) (news_of [] (tick_of running.entry.clocked) []) running.entry) }
+    ensures err { IfErr result (BringFails KeepsRunning (W.stands world.old) (W.stands world.new) (news_of [] (tick_of running.entry.clocked) []) running.entry) }
+    ensures due { IfErr result (λ status. tick_of running.entry.clocked ≡ Option.Some What.Tick) }
+    ensures cause { IfErr result (HasCause (W.stands world.old) (W.stands world.new)) }
+    ensures steady { IsSteady (W.stands world.old) (W.stands world.new) }
+    ensures left { IfOk result (λ after. after.left ≡ running.entry.left) }
+{
+    if running.clocked.core.ban_due(running.clocked.now) {
+        return tick(alloc, world, running);
+    }
+    Ok(running)
 }
 
 /// Reads the clock, and ends the bans that are due.
