@@ -30,7 +30,7 @@ use crate::equality::are_definitions;
 use crate::jail::Jail;
 use crate::shown::jail_of;
 use crate::stored::{active_bans, definitions, jails_of, views};
-use crate::sweep::sweep_all;
+use crate::sweep::{rest_after, sweep_all};
 use f2b_base::{
     Addr, Ban, DEFAULT_PURGE, Defs, JailDef, JailView, NoMemory, Seq, Text, View, What,
 };
@@ -38,9 +38,6 @@ use f2b_model::{Happening, JailBans};
 use jail_moves::Totals;
 use std::alloc::Global;
 use std::marker::Model;
-
-/// For how many seconds sweeps rest, once one left nothing to forget.
-const SWEEP_REST: u64 = 16;
 
 /// The jails of the server.
 #[derive(Drop)]
@@ -225,9 +222,7 @@ impl Jails {
             return 0;
         }
         let forgotten = sweep_all(self.jails.as_mut_slice(), most);
-        if forgotten < most {
-            self.next_sweep = self.at + SWEEP_REST;
-        }
+        self.next_sweep = rest_after(forgotten, most, self.at, self.next_sweep);
         forgotten
     }
 
