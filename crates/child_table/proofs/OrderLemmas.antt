@@ -5,12 +5,12 @@ use Rattle.std.proofs.lemmas.Bool.Decides.{nat_tests}
 use Rattle.std.proofs.lemmas.List.Edits.{length-remove}
 use Rattle.std.specs.List.{insert, remove}
 use Rattle.std.specs.Prelude.{◌==◌}
-use Rattle.f2b_model.proofs.ListLemmas.{by_test, length_placed}
+use Rattle.f2b_model.proofs.ListLemmas.{by_test}
 use Rattle.f2b_model.specs.Lists.{placed}
 use Rattle.child_table.specs.declared.child.Child.{Child}
 use Rattle.child_table.specs.Children.{AreChildren, ByJob, comes_before, has, jobs_of, most_children}
 use Rattle.child_table.specs.Places.{place_for}
-use Rattle.child_table.proofs.PlaceLemmas.{insert-place}
+use Rattle.child_table.proofs.PlaceLemmas.{placed_there}
 
 -- from a lower number on too
 by_job_from : (from more : ℕ) (cs : List Child) → from ≤ more → ByJob more cs → ByJob from cs
@@ -33,12 +33,16 @@ by_job_removed from [] (suc place) h = tt
 by_job_removed from (c ∷ cs) zero h = by_job_from from (c.job + 1) cs (omega (arith, h.0)) h.1
 by_job_removed from (c ∷ cs) (suc place) h = (h.0, by_job_removed (c.job + 1) cs place h.1)
 
+length-placed : (c : Child) (cs : List Child) → length (placed comes_before c cs) ≡ length cs + 1
+length-placed c [] = omega arith
+length-placed c (d ∷ ds) = by_test (nat_lt c.job d.job) _ (λ before. rw before (omega arith)) (λ behind. rw behind (omega (arith, length-placed c ds)))
+
 -- one child more, where there is room and none runs for its job
 pub children_more : (cs : List Child) (place : ℕ) (c : Child) → place ≡ place_for c.job cs → length cs < most_children → has c.job (jobs_of cs) ≡ false
     → AreChildren cs → AreChildren (insert cs place c)
 children_more cs place c is room apart h =
-    rw (insert-place cs place c is) record {
-      few = omega (arith, length_placed comes_before c cs);
+    rw (placed_there cs place c is) record {
+      few = omega (arith, length-placed c cs);
       by_job = by_job_placed 0 c cs (omega arith) apart h.by_job;
     }
 

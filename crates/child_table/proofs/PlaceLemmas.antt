@@ -2,11 +2,12 @@
 use Rattle.std.proofs.Common.{ℕ, suc, zero, ◌≡◌, ◌+◌, ◌<◌, ◌≤◌, Bool, true, false, nat_lt, List, [], ◌∷◌, ◌++◌, length, take, get_or, refl, sym, ap, ◌∙◌, Option, Some, None, arith}
 use Rattle.std.proofs.lemmas.Bool.{ltb-false}
 use Rattle.std.proofs.lemmas.List.{take_more, map-append}
-use Rattle.std.specs.List.{insert, position, position_or_len}
+use Rattle.std.specs.List.{insert, list_any, position, position_or_len}
+use Rattle.std.specs.Prelude.{◌==◌}
 use Rattle.f2b_model.proofs.ListLemmas.{by_test}
 use Rattle.f2b_model.specs.Lists.{placed}
 use Rattle.child_table.specs.declared.child.Child.{Child}
-use Rattle.child_table.specs.Children.{comes_before, jobs_of}
+use Rattle.child_table.specs.Children.{comes_before, has, jobs_of}
 use Rattle.child_table.specs.Places.{place_for}
 
 insert-cons : {A : Type 0} (x y : A) (ys : List A) (k n : ℕ) → n ≡ suc k → insert (y ∷ ys) n x ≡ y ∷ insert ys k x
@@ -33,8 +34,16 @@ place_none p xs none =
     (λ end. omega (arith, ltb-false _ _ end, place_within p xs))
 
 -- a child that is put at its place stands by the number of its job
-pub insert-place : (cs : List Child) (place : ℕ) (c : Child) → place ≡ place_for c.job cs → insert cs place c ≡ placed comes_before c cs
-insert-place cs place c is = rw is (insert_first comes_before c cs)
+pub placed_there : (cs : List Child) (place : ℕ) (c : Child) → place ≡ place_for c.job cs → insert cs place c ≡ placed comes_before c cs
+placed_there cs place c is = rw is (insert_first comes_before c cs)
+
+list_any-jobs_of : (job : ℕ) (cs : List Child) → list_any (λ (c : Child). c.job == job) cs ≡ has job (jobs_of cs)
+list_any-jobs_of job [] = refl
+list_any-jobs_of job (c ∷ cs) = by_test (c.job == job) _ (λ same. rw same refl) (λ other. rw other (list_any-jobs_of job cs))
+
+-- a child for a job is one whose job has that number
+pub has_job : (job : ℕ) (cs : List Child) (b : Bool) → b ≡ list_any (λ (c : Child). c.job == job) cs → b ≡ has job (jobs_of cs)
+has_job job cs b is = is ∙ list_any-jobs_of job cs
 
 -- one number more
 pub jobs_more : (cs : List Child) (i : ℕ) (c : Child) → i < length cs → c ≡ get_or cs i c → jobs_of (take (i + 1) cs) ≡ jobs_of (take i cs) ++ c.job ∷ []

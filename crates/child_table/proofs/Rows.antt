@@ -2,18 +2,18 @@
 use Rattle.std.proofs.Common.{ℕ, ◌≡◌, true, false, List, [], ◌∷◌, refl}
 use Rattle.child_table.specs.declared.child.Child.{Child}
 use Rattle.child_table.specs.declared.child.Task.TheVariants.{Check, Command}
-use Rattle.child_table.specs.Children.{Children, ended, has_passed, jobs_of, nobody, passed_by, runs, started, used_up}
+use Rattle.child_table.specs.Children.{Children, ended, has_passed, jobs_of, nobody, not_started, passed_by, runs, started}
 use Rattle.child_table.specs.Late.{is_late}
 
 -- a command and a check that were started at 1000 and may run for 60 seconds
-command : ℕ → Child
+abbrev command : ℕ → Child
 command job = record { job = job; task = Command; since = 1000; timeout = 60 }
 
-check : ℕ → Child
+abbrev check : ℕ → Child
 check job = record { job = job; task = Check; since = 1000; timeout = 60 }
 
 -- 5, 2 and 9 are started, in this order
-three : Children
+abbrev three : Children
 three = started (check 9) (started (command 2) (started (check 5) nobody))
 
 by_number : three.running ≡ command 2 ∷ check 5 ∷ check 9 ∷ []
@@ -40,7 +40,7 @@ back_in_time : is_late 0 (command 2) ≡ false
 back_in_time = refl
 
 -- the checks of 5 and 9 have passed
-two_passed : Children
+abbrev two_passed : Children
 two_passed = passed_by 9 (passed_by 5 (ended 1 (ended 1 three)))
 
 still_runs : jobs_of two_passed.running ≡ 2 ∷ []
@@ -58,5 +58,5 @@ checked_again : has_passed 5 (ended 1 (started (command 5) two_passed)) ≡ fals
 checked_again = refl
 
 -- also where the command could not be started
-by_failed_start : used_up 5 two_passed ≡ record { running = command 2 ∷ []; passed = 9 ∷ [] }
+by_failed_start : not_started 5 two_passed ≡ record { running = command 2 ∷ []; passed = 9 ∷ [] }
 by_failed_start = refl

@@ -53,22 +53,18 @@ comes_before a b = nat_lt a.job b.job
 abbrev pub without : ℕ → List ℕ → List ℕ
 without job jobs = filter (λ other. not (other == job)) jobs
 
--- the job's command was started, or could not be: no check of it has passed since
-abbrev pub used_up : ℕ → Children → Children
-used_up job t = record t { passed = without job t.passed }
-
 -- a check passes for one try of the command alone
-abbrev pub used_by : Task → ℕ → Children → Children
-used_by Check job t = t
-used_by Command job t = used_up job t
+abbrev pub used_by : Task → ℕ → List ℕ → List ℕ
+used_by Check job passed = passed
+used_by Command job passed = without job passed
 
--- the child runs, in its place by the number of its job
-abbrev pub with_child : Child → Children → Children
-with_child c t = record t { running = placed comes_before c t.running }
-
--- a child was started
+-- a child was started: it runs, in its place by the number of its job
 abbrev pub started : Child → Children → Children
-started c t = with_child c (used_by c.task c.job t)
+started c t = record { running = placed comes_before c t.running; passed = used_by c.task c.job t.passed }
+
+-- the job's command could not be started: that was a try too
+abbrev pub not_started : ℕ → Children → Children
+not_started job t = record t { passed = without job t.passed }
 
 -- the child at that place has ended
 abbrev pub ended : ℕ → Children → Children

@@ -1,7 +1,6 @@
 //! The place of a child among others.
-ghost use Rattle.std.specs.Prelude.{◌≡◌, ◌≤◌, length, nat_lt, position};
+ghost use Rattle.std.specs.Prelude.{◌≡◌, ◌==◌, ◌≤◌, length, nat_lt, position};
 ghost use Rattle.std.specs.List.{list_any};
-ghost use Rattle.child_table.specs.Children.{has, jobs_of};
 ghost use Rattle.child_table.specs.Places.{place_for};
 ghost use Rattle.child_table.specs.declared.child.Child.{Child};
 
@@ -15,6 +14,7 @@ fn first_above(children: &[Child], job: u64) -> Option<usize>
 }
 
 /// The place behind all that have no greater number.
+#[tactic(auto, using(crate::proofs::PlaceLemmas::place_none, crate::proofs::PlaceLemmas::place_within))]
 pub(crate) fn place_for(children: &[Child], job: u64) -> usize
     ensures place { result ≡ place_for job children.now }
     ensures within { result ≤ length children.now }
@@ -27,7 +27,7 @@ pub(crate) fn place_for(children: &[Child], job: u64) -> usize
 
 /// Whether one runs for the job.
 pub(crate) fn runs(children: &[Child], job: u64) -> bool
-    ensures { result ≡ has job (jobs_of children.now) }
+    ensures { result ≡ list_any (λ (other : Child). other.job == job) children.now }
 {
     children.iter().any(|other| other.job == job)
 }

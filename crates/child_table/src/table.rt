@@ -1,10 +1,10 @@
 //! `ChildTable` and its methods. The children stand in one list by the numbers of their jobs, and beside it the numbers of the jobs whose
 //! check has passed.
 ghost use Rattle.std.specs.Prelude.{◌≡◌, ◌<◌, ◌≤◌, ◌↔◌, false, length, remove, slice_get, Some, IsTrue, IfOk, OnOk, OnErr};
-ghost use Rattle.child_table.specs.Children.{ByJob, ended, has_passed, jobs_of, most_children, nobody, passed_by, runs, started, used_up};
+ghost use Rattle.child_table.specs.Children.{ByJob, ended, has_passed, jobs_of, most_children, nobody, not_started, passed_by, runs, started};
 
-use crate::child::{Child, MOST_CHILDREN, Task};
-use crate::numbers::{has, jobs_of, take_out};
+use crate::child::{Child, MOST_CHILDREN};
+use crate::numbers::{has, jobs_of, take_out, use_by};
 use crate::place::{place_for, runs};
 use f2b_base::{NoMemory, Seq};
 use std::alloc::Global;
@@ -43,7 +43,10 @@ impl ChildTable {
     /// How many run.
     pub fn count(&self) -> usize
         ensures count { result ≡ length self.now.running }
+
+        // What always holds: there are few, and none runs for a job that has one already.
         ensures few { result ≤ most_children }
+        ensures by_job { ByJob 0 self.now.running }
     {
         self.running.len()
     }
@@ -65,6 +68,7 @@ impl ChildTable {
     }
 
     /// Whether the job's command or its check runs. Ask it before `start`.
+    #[tactic(auto, using(crate::proofs::PlaceLemmas::has_job))]
     pub fn runs(&self, job: u64) -> bool
         ensures { result ≡ runs job self.now }
     {
@@ -73,13 +77,13 @@ impl ChildTable {
 
     /// The numbers of the jobs for which something runs, rising.
     pub fn jobs(&self) -> Result<Seq<u64>, NoMemory>
-        ensures jobs { IfOk result (λ jobs. jobs ≡ jobs_of self.now.running) }
-        ensures by_job { IfOk result (λ jobs. ByJob 0 self.now.running) }
+        ensures { IfOk result (λ jobs. jobs ≡ jobs_of self.now.running) }
     {
         jobs_of(self.alloc, self.running.as_slice())
     }
 
-    /// Adds a child that was started. The command of a job uses up the check that passed before it. An error changes nothing.
+    /// Adds a child that was started, where there is room and nothing runs for its job. The command of a job uses up the check that passed before it. An error changes nothing.
+    #[tactic(auto, using(crate::proofs::OrderLemmas::children_more, crate::proofs::PlaceLemmas::placed_there))]
     pub fn start(&mut self, child: Child) -> Result<(), NoMemory>
         requires room { length self.old.running < most_children }
         requires apart { runs child.job self.old ≡ false }
@@ -88,13 +92,12 @@ impl ChildTable {
     {
         let place = place_for(self.running.as_slice(), child.job);
         self.running.insert(place, child)?;
-        if child.task == Task::Command {
-            take_out(&mut self.passed, child.job);
-        }
+        use_by(&mut self.passed, child);
         Ok(())
     }
 
     /// Takes out the child at a place, which has ended: the next one stands there then.
+    #[tactic(auto, using(crate::proofs::OrderLemmas::children_less))]
     pub fn end(&mut self, place: usize)
         requires { place < length self.old.running }
         ensures { self.new ≡ ended place self.old }
@@ -117,9 +120,9 @@ impl ChildTable {
         self.passed.push(job)
     }
 
-    /// Notes that the command of a job could not be started: that was a try, and the check that passed before it is used up.
-    pub fn use_up(&mut self, job: u64)
-        ensures { self.new ≡ used_up job self.old }
+    /// Notes that the command of a job could not be started: that was a try, and it uses up the check that passed before it.
+    pub fn fail_start(&mut self, job: u64)
+        ensures { self.new ≡ not_started job self.old }
     {
         take_out(&mut self.passed, job);
     }
