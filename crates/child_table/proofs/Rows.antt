@@ -1,5 +1,5 @@
 -- Worked rows: children that start, end and pass.
-use Rattle.std.proofs.Common.{ℕ, ◌≡◌, true, false, List, [], ◌∷◌, refl}
+use Rattle.std.proofs.Common.{ℕ, ◌≡◌, true, false, [], ◌∷◌, refl}
 use Rattle.child_table.specs.declared.child.Child.{Child}
 use Rattle.child_table.specs.declared.child.Task.TheVariants.{Check, Command}
 use Rattle.child_table.specs.Children.{Children, ended, has_passed, jobs_of, nobody, not_started, passed_by, runs, started}
