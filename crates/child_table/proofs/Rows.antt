@@ -58,5 +58,5 @@ checked_again : has_passed 5 (ended 1 (started (command 5) two_passed)) ≡ fals
 checked_again = refl
 
 -- also where the command could not be started
-by_failed_start : not_started 5 two_passed ≡ record { running = command 2 ∷ []; passed = 9 ∷ [] }
+by_failed_start : not_started (command 5) two_passed ≡ record { running = command 2 ∷ []; passed = 9 ∷ [] }
 by_failed_start = refl

@@ -62,9 +62,9 @@ used_by Command job passed = without job passed
 abbrev pub started : Child → Children → Children
 started c t = record { running = placed comes_before c t.running; passed = used_by c.task c.job t.passed }
 
--- the job's command could not be started: that was a try too
-abbrev pub not_started : ℕ → Children → Children
-not_started job t = record t { passed = without job t.passed }
+-- a child could not be started: where it is the job's command that was a try too
+abbrev pub not_started : Child → Children → Children
+not_started c t = record t { passed = used_by c.task c.job t.passed }
 
 -- the child at that place has ended
 abbrev pub ended : ℕ → Children → Children

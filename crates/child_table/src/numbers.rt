@@ -14,7 +14,7 @@ pub(crate) fn has(jobs: &[u64], job: u64) -> bool
 }
 
 /// Takes a number out.
-pub(crate) fn take_out(jobs: &mut Seq<u64>, job: u64)
+fn take_out(jobs: &mut Seq<u64>, job: u64)
     ensures { jobs.new ≡ without job jobs.old }
 {
     jobs.retain(|other| *other != job);

@@ -4,7 +4,7 @@ ghost use Rattle.std.specs.Prelude.{◌≡◌, ◌<◌, ◌≤◌, ◌↔◌, fa
 ghost use Rattle.child_table.specs.Children.{ByJob, ended, has_passed, jobs_of, most_children, nobody, not_started, passed_by, runs, started};
 
 use crate::child::{Child, MOST_CHILDREN};
-use crate::numbers::{has, jobs_of, take_out, use_by};
+use crate::numbers::{has, jobs_of, use_by};
 use crate::place::{place_for, runs};
 use f2b_base::{NoMemory, Seq};
 use std::alloc::Global;
@@ -120,10 +120,10 @@ impl ChildTable {
         self.passed.push(job)
     }
 
-    /// Notes that the command of a job could not be started: that was a try, and it uses up the check that passed before it.
-    pub fn fail_start(&mut self, job: u64)
-        ensures { self.new ≡ not_started job self.old }
+    /// Notes that a child could not be started. The command of a job uses up the check that passed before it then too: it was a try.
+    pub fn fail_start(&mut self, child: Child)
+        ensures { self.new ≡ not_started child self.old }
     {
-        take_out(&mut self.passed, job);
+        use_by(&mut self.passed, child);
     }
 }

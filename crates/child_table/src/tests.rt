@@ -61,7 +61,7 @@ fn one_try_for_a_check(rt: HostRuntime) -> Result<(), Fail> {
     table.pass(9)?;
     start(&rt, &mut table, child_of(5, Task::Check))?;
     assert!(rt; table.has_passed(5));
-    table.fail_start(5);
+    table.fail_start(child_of(5, Task::Command));
     assert!(rt; !table.has_passed(5) && table.has_passed(9));
     start(&rt, &mut table, child_of(9, Task::Command))?;
     assert!(rt; !table.has_passed(9));
