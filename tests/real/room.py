@@ -90,10 +90,11 @@ def as_nobody():
 
 
 class Room:
-    """A folder with a configuration and a log, both readable by all, and the program to be run over them."""
+    """A folder with a configuration and a log, both readable by all, and the programs to be run over them."""
 
-    def __init__(self, program, place):
+    def __init__(self, program, tester, place):
         self.program = program
+        self.tester = tester
         self.place = place
         self.conf = os.path.join(place, "conf")
         self.log = os.path.join(place, "web.log")
@@ -112,12 +113,12 @@ class Room:
     def words(self, *more):
         return [self.program, "--conf", self.conf, *more]
 
-    def run(self, *words, **how):
-        """Runs the program with these words to its end, and gives its status, what it said and its errors."""
+    def run(self, *words, program=None, **how):
+        """Runs the server, or another program, with these words to its end, and gives its status, what it said and its errors."""
         with tempfile.TemporaryFile() as errors:
             how = {"stdin": subprocess.DEVNULL, "stdout": subprocess.PIPE, "stderr": errors, **how}
             try:
-                ended = subprocess.run([self.program, *words], timeout=PATIENCE, check=False, **how)
+                ended = subprocess.run([program or self.program, *words], timeout=PATIENCE, check=False, **how)
             except subprocess.TimeoutExpired as late:
                 raise Failed(f"did not end within {PATIENCE} s") from late
             errors.seek(0)
