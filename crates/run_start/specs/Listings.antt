@@ -2,7 +2,7 @@
 use Rattle.std.specs.Prelude.{ℕ, ◌≡◌, ◌∷◌, []}
 use Rattle.f2b_world.specs.Told.{Asked, Called, Standing, names_event}
 use Rattle.f2b_world.specs.declared.answer.NamesAnswer.{NamesAnswer}
-use Rattle.f2b_world.specs.declared.answer.NamesAnswer.TheVariants.{NoMemory as NamesNoMemory}
+use Rattle.f2b_world.specs.declared.answer.NamesAnswer.TheVariants.{Failed as NamesFailed, NoMemory as NamesNoMemory}
 use Rattle.f2b_world.specs.declared.event.Event.TheVariants.{Names}
 use Rattle.run_law.specs.Paths.{Path, directory}
 use Rattle.run_law.specs.Start.{names_in, unread_by}
@@ -18,6 +18,12 @@ pub record IsListed (now : ℕ) (p : Path) (answer : NamesAnswer) (listing : Lis
   pub given : answer ≡ NamesNoMemory → ⊥
   pub names : listing.names ≡ names_in answer
   pub unread : listing.unread ≡ unread_by answer now (p ∷ [])
+
+-- the answer has no names, since the directory could not be listed
+abbrev pub IsUnlisted : NamesAnswer → Type 0
+IsUnlisted NamesFailed = Unit {0}
+IsUnlisted NamesNoMemory = Unit {0}
+IsUnlisted _ = ⊥
 
 -- the directory of the path was listed
 pub record Lists (old new : Standing) (now : ℕ) (p : Path) (listing : Listing) : Type 0 where

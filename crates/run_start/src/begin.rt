@@ -1,5 +1,5 @@
 //! The first reading of the clock, and the configuration as an input.
-ghost use Rattle.std.specs.Prelude.{◌≡◌, ◌∷◌, [], IfErr, IfOk, IfSome, map};
+ghost use Rattle.std.specs.Prelude.{◌≡◌, ◌≤◌, ◌∷◌, [], IfErr, IfOk, IfSome, length, map};
 ghost use Rattle.f2b_model.specs.Bounds.{IsBounded, IsBoundedWhat};
 ghost use Rattle.f2b_model.specs.Lists.{AllOf};
 ghost use Rattle.f2b_model.specs.Sound.{AreFitDefs, IsFitWhat};
@@ -49,6 +49,7 @@ fn first_walk<'p>(
     requires { paths.now ≡ paths_of settings.now.defs }
     ensures walk { IfOk result (IsFirstWalk settings.now reading) }
     ensures wild { IfOk result (λ walk. IsWild walk.left.now) }
+    ensures some { IfErr result (λ lost. 1 ≤ length paths.now) }
 {
     let mut found = Seq::new(alloc);
     let left = settle(&mut found, paths)?;

@@ -1,8 +1,8 @@
 //! The directories of paths with wildcards.
-ghost use Rattle.std.specs.Prelude.{◌≡◌, IfOk};
+ghost use Rattle.std.specs.Prelude.{◌≡◌, IfErr, IfOk};
 ghost use Rattle.run_law.specs.Paths.{directory};
 ghost use Rattle.run_law.specs.Stages.{IsSteady};
-ghost use Rattle.run_start.specs.Listings.{AsksNames, IsListed, Lists};
+ghost use Rattle.run_start.specs.Listings.{AsksNames, IsListed, IsUnlisted, Lists};
 
 use crate::path::JailPath;
 use f2b_base::{Bytes, NoMemory, Seq, Text};
@@ -31,13 +31,15 @@ fn directory(path: &str) -> &str
     }
 }
 
+// What an answer brought. Memory is asked for nothing but the line of a directory that could not be listed.
 fn listed(
     alloc: Global,
     now: u64,
     path: &JailPath,
     answer: NamesAnswer,
 ) -> Result<Listing, NoMemory>
-    ensures { IfOk result (IsListed now path.now answer) }
+    ensures ok { IfOk result (IsListed now path.now answer) }
+    ensures lost { IfErr result (λ lost. IsUnlisted answer) }
 {
     let mut unread = Seq::new(alloc);
     match answer {

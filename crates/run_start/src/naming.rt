@@ -1,9 +1,9 @@
 //! Names in the place of wildcards.
 ghost use Rattle.std.specs.Prelude.{◌≡◌, ◌<◌, ◌≤◌, ◌++◌, ◌∷◌, [], IfErr, IfOk, OnOk, length};
 ghost use Rattle.log_follow.specs.Globs.{has_wildcard};
-ghost use Rattle.run_law.specs.Paths.{expanded_path, named};
+ghost use Rattle.run_law.specs.Paths.{expanded_path};
 ghost use Rattle.run_law.specs.Stages.{HasCause, IsSteady};
-ghost use Rattle.run_start.specs.Walks.{IsWild, WalkFails, WalksTo, naming_of};
+ghost use Rattle.run_start.specs.Walks.{IsWild, WalkFails, WalksTo};
 ghost use Rattle.std.specs.Prelude.{true};
 
 use crate::listing::{Listing, list};
@@ -89,7 +89,7 @@ fn name_next<'p, W: World + Directories>(
     })
 }
 
-/// Names all paths that are left, one after the other.
+/// Names all paths that are left, one after the other. Where none is left there is nothing that can fail.
 #[tactic(auto, using(crate::proofs::WalkLemmas::walking_on, run_law::proofs::CauseLemmas::counting))]
 pub fn name_all<'p, W: World + Directories>(
     alloc: Global,
@@ -100,6 +100,7 @@ pub fn name_all<'p, W: World + Directories>(
     requires { IsWild walk.left.now }
     ensures ok { IfOk result (WalksTo (W.stands world.old) (W.stands world.new) settings.now walk.entry) }
     ensures err { IfErr result (WalkFails (W.stands world.old) (W.stands world.new) settings.now walk.entry) }
+    ensures some { IfErr result (λ status. 1 ≤ length walk.entry.left.now) }
     ensures cause { IfErr result (HasCause (W.stands world.old) (W.stands world.new)) }
     ensures steady { IsSteady (W.stands world.old) (W.stands world.new) }
     ensures whole { IfOk result (λ after. after.left.now ≡ []) }

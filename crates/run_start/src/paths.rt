@@ -1,5 +1,5 @@
 //! The paths of jails, and those that stand for themselves.
-ghost use Rattle.std.specs.Prelude.{◌≡◌, ◌++◌, IfOk, OnOk, flat_map, map};
+ghost use Rattle.std.specs.Prelude.{◌≡◌, ◌≤◌, ◌++◌, IfErr, IfOk, OnOk, flat_map, length, map};
 ghost use Rattle.log_follow.specs.Globs.{has_wildcard};
 ghost use Rattle.run_law.specs.Paths.{paths_of_jail, settled};
 ghost use Rattle.run_start.specs.Walks.{IsWild, path_at};
@@ -50,6 +50,7 @@ pub fn settle<'p>(
 ) -> Result<&'p [JailPath], NoMemory>
     ensures settled { IfOk result (λ left. settled found.old paths.now ≡ record { found = found.new; left = left.now }) }
     ensures wild { IfOk result (λ left. IsWild left.now) }
+    ensures some { IfErr result (λ lost. 1 ≤ length paths.now) }
 {
     for index in 0..paths.len() {
         let path = &paths[index];

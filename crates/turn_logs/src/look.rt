@@ -1,5 +1,5 @@
 //! The look at one log.
-ghost use Rattle.std.specs.Prelude.{◌≡◌, ◌<◌, ◌+◌, length, IfErr, IfOk};
+ghost use Rattle.std.specs.Prelude.{◌≡◌, ◌<◌, ◌+◌, length, IfErr, IfOk, IsOk};
 ghost use Rattle.run_law.specs.Stages.{HasCause, IsSteady, Moves, MoveFails};
 ghost use Rattle.run_law.specs.Turn.{to_looks};
 ghost use Rattle.run_steps.specs.Keeping.{KeepsRunning};
@@ -11,7 +11,7 @@ use run_law::Status;
 use run_steps::Running;
 use std::alloc::Global;
 
-// Takes the answer of a look at the log at a place. Of a log that is not there nothing is said.
+// Takes the answer of a look at the log at a place. Of a log that is not there nothing is said, and no memory is asked for.
 #[tactic(auto, using(crate::proofs::LookLemmas::looking, run_law::proofs::CauseLemmas::counting))]
 fn take_answer<'f, W: World>(
     alloc: Global,
@@ -24,6 +24,7 @@ fn take_answer<'f, W: World>(
     requires look { IsAnswerAt running place answer }
     ensures ok { IfOk result (LookBrings (W.stands world.old) (W.stands world.new) place answer running.entry) }
     ensures err { IfErr result (LookFails (W.stands world.old) (W.stands world.new) place answer running.entry) }
+    ensures absent { answer ≡ Look.Absent → IsOk result }
     ensures cause { IfErr result (HasCause (W.stands world.old) (W.stands world.new)) }
     ensures steady { IsSteady (W.stands world.old) (W.stands world.new) }
     ensures many { IfOk result (λ after. length after.logs.logs ≡ length running.entry.logs.logs) }

@@ -1,4 +1,4 @@
-use Rattle.std.proofs.Common.{length}
+use Rattle.std.proofs.Common.{◌≤◌, length}
 use Rattle.run_law.specs.Stages.{IsSteady}
 use Rattle.run_start.specs.Walks.{IsWild, WalksTo}
 use Rattle.run_start.proofs.naming.name_all.Given as goal
@@ -8,6 +8,7 @@ invariant-paths g l = record {
   steady : IsSteady (g.W.Outside.stands l.initial.world) (g.W.Outside.stands l.world);
   walks : WalksTo (g.W.Outside.stands l.initial.world) (g.W.Outside.stands l.world) l.settings l.initial.walk l.walk;
   wild : IsWild l.walk.left.now;
+  fewer : length l.walk.left.now ≤ length l.initial.walk.left.now;
 }
 
 abbrev pub decreases-paths : goal.decreases-paths
