@@ -4,6 +4,10 @@
 #![tactic(auto)]
 
 #[cfg(test)]
+mod limits;
+#[cfg(test)]
+mod play;
+#[cfg(test)]
 mod tests;
 #[cfg(test)]
 mod trees;
