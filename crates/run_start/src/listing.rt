@@ -1,5 +1,5 @@
 //! The directories of paths with wildcards.
-ghost use Rattle.std.specs.Prelude.{◌≡◌, IfOk};
+ghost use Rattle.std.specs.Prelude.{◌≡◌, IfErr, IfOk};
 ghost use Rattle.run_law.specs.Paths.{directory};
 ghost use Rattle.run_law.specs.Stages.{IsSteady};
 ghost use Rattle.run_start.specs.Listings.{AsksNames, IsListed, IsUnlisted, Lists};
