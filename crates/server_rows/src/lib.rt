@@ -4,10 +4,6 @@
 #![tactic(auto)]
 
 #[cfg(test)]
-mod limits;
-#[cfg(test)]
-mod play;
-#[cfg(test)]
 mod tests;
 #[cfg(test)]
 mod trees;

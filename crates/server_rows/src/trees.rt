@@ -1,15 +1,18 @@
 //! Runs of configurations of several files, jails and logs.
-use crate::play;
-use crate::play::{File, Given, change, tree};
-use f2b_base::Seq;
-use f2b_mem::FileChange;
+use f2b_base::{Bytes, Reading, Seq, Text, Tree, TreeAnswer, TreeFile};
+use f2b_mem::{FileChange, Image, MemWorld, Script};
+use f2b_world::{Event, Said};
+use server_top::server;
 use std::alloc::Global;
 use std::test::Fail;
+
+/// A file, by its path and its content.
+type File = (&'static str, &'static str);
 
 /// One run of three turns: what it is given, and how it ends and what it says.
 struct Row {
     /// The files of the configuration, in byte order of their paths.
-    conf: &'static [File<'static>],
+    conf: &'static [File],
     /// What becomes of other files after so many pauses: their content, or that they go.
     changes: &'static [(u64, &'static str, Option<&'static str>)],
     /// The places of the calls that fail.
@@ -143,23 +146,86 @@ const ROWS: [Row; 8] = [
     },
 ];
 
+fn tree(alloc: Global, conf: &[File]) -> Result<TreeAnswer, Fail> {
+    let mut files = Seq::new(alloc);
+    for (path, content) in conf {
+        files.push(TreeFile {
+            path: Text::from_str(alloc, path)?,
+            content: Bytes::from_slice(alloc, content.as_bytes())?,
+        })?;
+    }
+    Ok(TreeAnswer::Tree(Tree { files }))
+}
+
 fn changes(alloc: Global, row: &Row) -> Result<Seq<FileChange>, Fail> {
     let mut changes = Seq::new(alloc);
     for (pauses, path, content) in row.changes {
-        changes.push(change(alloc, *pauses, path, *content)?)?;
+        let content = match content {
+            Some(content) => Some(Bytes::from_slice(alloc, content.as_bytes())?),
+            None => None,
+        };
+        changes.push(FileChange {
+            pauses: *pauses,
+            path: Text::from_str(alloc, path)?,
+            content,
+        })?;
     }
     Ok(changes)
 }
 
-fn is_as_wanted(alloc: Global, row: &Row) -> Result<bool, Fail> {
-    let given = Given {
-        words: "--conf /c --turns 3",
-        tree: tree(alloc, row.conf)?,
-        readings: &[1_700_001_000],
+fn world(alloc: Global, row: &Row) -> Result<MemWorld, Fail> {
+    let mut readings = Seq::new(alloc);
+    readings.push(Reading {
+        secs: 1_700_001_000,
+        word: 0,
+    })?;
+    let mut trees = Seq::new(alloc);
+    trees.push(tree(alloc, row.conf)?)?;
+    let script = Script {
+        readings,
+        trees,
         changes: changes(alloc, row)?,
-        fails: row.fails,
+        children: Seq::new(alloc),
+        clients: Seq::new(alloc),
+        fails: Seq::from(row.fails.to_vec(alloc)?),
+        image: Image {
+            slot0: Bytes::new(alloc),
+            slot1: Bytes::new(alloc),
+        },
     };
-    play::is_as_wanted(alloc, given, row.status, row.said)
+    Ok(MemWorld::new(alloc, script)?)
+}
+
+/// What was said without a fault.
+fn said(alloc: Global, events: &[Event]) -> Result<Bytes, Fail> {
+    let mut said = Bytes::new(alloc);
+    for event in events {
+        if let Event::Say {
+            bytes,
+            answer: Said::Done,
+        } = event
+        {
+            said.push_slice(bytes.as_slice())?;
+        }
+    }
+    Ok(said)
+}
+
+/// The status of a row's run, what it said, and whether its world is still told.
+fn run(alloc: Global, row: &Row) -> Result<(u8, Bytes, bool), Fail> {
+    let mut words = Vec::new(alloc);
+    for word in "--conf /c --turns 3".split_whitespace() {
+        words.push(String::from_str(alloc, word)?)?;
+    }
+    let mut world = world(alloc, row)?;
+    let status = server(alloc, words.as_slice(), &mut world);
+    let said = said(alloc, world.events())?;
+    Ok((status.number(), said, world.is_told()))
+}
+
+fn is_as_wanted(alloc: Global, row: &Row) -> Result<bool, Fail> {
+    let (status, said, told) = run(alloc, row)?;
+    Ok(told && status == row.status && said.as_slice() == row.said.as_bytes())
 }
 
 #[test]
