@@ -1,0 +1,5 @@
+pub mod CallLemmas
+pub mod EntryLemmas
+pub mod RoomLemmas
+pub mod PartLemmas
+pub mod JournalLemmas
