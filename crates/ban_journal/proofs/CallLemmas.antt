@@ -177,7 +177,7 @@ pub ruleset behind_exits = (behind_done, behind_fails, behind_breaks, long_after
 
 -- ---- a slot that is cleared
 
-zero_within : (slot : ℕ) (told : Option History) → HasLength told slot 0
+pub zero_within : (slot : ℕ) (told : Option History) → HasLength told slot 0
 zero_within slot told h is = omega arith
 
 pub ruleset clear_exits = (zero_within, wrote_none, less_long)

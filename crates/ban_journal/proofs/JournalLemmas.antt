@@ -1,5 +1,5 @@
 -- What the journal's calls did, and what whatever a stop leaves means meanwhile.
-use Rattle.std.proofs.Common.{ℕ, zero, suc, ◌≡◌, ◌+◌, ◌-◌, ◌≤◌, ◌<◌, ◌^◌, ◌⊎◌, inl, inr, Bool, true, false, nat_lt, nat_le, Option, Some, None, Result, Ok, Err, IfOk, List, [], ◌∷◌, ◌++◌, length, take, length-append, refl, sym, ap, subst, ◌∙◌, arith}
+use Rattle.std.proofs.Common.{ℕ, zero, suc, ◌≡◌, ◌+◌, ◌-◌, ◌≤◌, ◌<◌, ◌^◌, ◌⊎◌, inl, inr, Bool, true, false, nat_lt, nat_le, min, Option, Some, None, Result, Ok, Err, IfOk, List, [], ◌∷◌, ◌++◌, length, take, length-append, refl, sym, ap, ap₂, subst, ◌∙◌, arith}
 use Rattle.std.proofs.lemmas.Bool.{cases_Bool, leb-true, lt-ltb, le-ltb, le-leb}
 use Rattle.std.proofs.lemmas.List.{take_all}
 use Rattle.f2b_base.specs.declared.input.Input.{Input}
@@ -11,7 +11,10 @@ use Rattle.f2b_world.proofs.AddsLemmas.{adds_weaker, adds_none, grown_none}
 use Rattle.journal_slots.specs.declared.head.Head.TheVariants.{Short, Ajar, Shut}
 use Rattle.journal_slots.specs.Starts.{last_generation}
 use Rattle.journal_slots.specs.Tops.{Stored}
-use Rattle.record_codec.specs.Views.{IsRecordedView}
+use Rattle.record_codec.specs.declared.version.Version.TheVariants.{Two}
+use Rattle.record_codec.specs.Inputs.{input}
+use Rattle.record_codec.specs.Views.{view, IsRecordedView}
+use Rattle.record_fields.specs.Codec.{capped}
 use Rattle.ban_journal.specs.declared.append_error.AppendError.{AppendError}
 use Rattle.ban_journal.specs.declared.append_error.AppendError.TheVariants.{DiskFault, Full, Spent, NoMemory}
 use Rattle.ban_journal.specs.declared.fault.Fault.{Fault}
@@ -21,9 +24,9 @@ use Rattle.ban_journal.specs.Kept.{KeepsEither, KeepsOneOf, Appends, TurnsOver, 
 use Rattle.ban_journal.specs.Places.{IsPlaced, IsNoShorter, least_bytes}
 use Rattle.ban_journal.proofs.CallLemmas.{stopped_at_once}
 use Rattle.ban_journal.proofs.PartLemmas.{none_taken, part_take}
-use Rattle.ban_journal.proofs.RoomLemmas.{room_of, grows_of}
+use Rattle.ban_journal.proofs.RoomLemmas.{room_of, grows_of, above_need, within_need, said_is}
 use Rattle.slot_writes.specs.declared.position.Position.{Position}
-use Rattle.slot_writes.specs.Entries.{Entry, Written, Full as EntryFull, Spent as EntrySpent, fresh_slot, entry, body, fits, append_writes, appended, fresh_start, need, turn_entry, turn_writes, turned, input_bytes}
+use Rattle.slot_writes.specs.Entries.{Entry, Written, Full as EntryFull, Spent as EntrySpent, fresh_slot, entry, body, behind_gate, turn_calls, fits, append_writes, appended, fresh_start, need, turn_entry, turn_writes, turned, input_bytes}
 use Rattle.slot_writes.specs.Rests.{PermitsBoth, Rests, IsAtRest, MeansEither, MeansOneOf, Means, and_input, just_view}
 use Rattle.slot_writes.specs.Writes.{Write, done_events, failed_event, IsFirstPart, IsBroken, IsPart, Performs}
 use Rattle.slot_writes.proofs.RestLemmas.{rest_means, append_means, append_rests, turn_means, turn_rests}
@@ -100,8 +103,8 @@ append_placed_if p i a b (Err e) placed is long = tt
 
 not_last : (n : ℕ) → n < last_generation → nat_le last_generation n ≡ false
 not_last n below = elim (cases_Bool (nat_le last_generation n)) [
-  | inl yes ↦ absurd (omega (arith, leb-true last_generation n yes, below))
-  | inr no ↦ no
+  | inl is ↦ absurd (omega (arith, leb-true last_generation n is, below))
+  | inr not ↦ not
 ]
 
 nothing_came : (g : History) (es : List Event) (k : ℕ) → es ≡ [] → (image : ℕ → List ℕ) → PermitsBoth (grown g (take k es)) image → PermitsBoth g image
@@ -171,3 +174,54 @@ module _ (p : Position) (v : View) (i : Input) where
       → LongAt (fresh_slot p) (length (body (fresh_start p v)) + 1 + length (entry i)) b answer → IfOk answer (λ after. IsPlaced after b.told)
   turn_placed_if a b (Ok after) small placed is long = turned_placed a b after small placed is long
   turn_placed_if a b (Err e) small placed is long = tt
+
+-- ---- how the calls end
+
+module _ (p : Position) (i : Input) (bytes : List ℕ) (a b : Standing) (is : bytes ≡ entry i) where
+  pub append_done : (q : Position) → q ≡ record p { gate = p.gate + length bytes } → Wrote (behind_gate p.slot p.gate bytes) a b → Writes (appended p i) (append_writes p i) a b (Ok q)
+  append_done q at wrote =
+      let long : p.gate + length bytes ≡ p.gate + length (input_bytes i) + 1 = omega (arith, ap length is, length-append (input_bytes i) (0 ∷ [])) in
+      (at ∙ ap (λ (n : ℕ). record p { gate = n }) long, subst (λ (r : List ℕ). Wrote (behind_gate p.slot p.gate r) a b) is wrote)
+
+  pub append_fails : (fault : Fault) → Stops (behind_gate p.slot p.gate bytes) a b fault → Fails (append_writes p i) a b (error_of fault)
+  append_fails fault stops = fails_of (append_writes p i) a b fault (subst (λ (r : List ℕ). Stops (behind_gate p.slot p.gate r) a b fault) is stops)
+
+  pub append_long : HasLength b.told p.slot (p.gate + 1 + length bytes) → HasLength b.told p.slot (p.gate + 1 + length (entry i))
+  append_long long = subst (λ (r : List ℕ). HasLength b.told p.slot (p.gate + 1 + length r)) is long
+
+module _ (p : Position) (v : View) (i : Input) (whole bytes : List ℕ) (a b : Standing) (is_whole : whole ≡ body (fresh_start p v)) (is : bytes ≡ entry i) where
+  turn_text : turn_calls (fresh_slot p) p.other whole bytes ≡ turn_writes p v i
+  turn_text = ap₂ (λ (x y : List ℕ). turn_calls (fresh_slot p) p.other x y) is_whole is
+
+  pub turn_done : (gate : ℕ) → gate ≡ length whole + length bytes → Wrote (turn_calls (fresh_slot p) p.other whole bytes) a b
+      → Writes (turned p v i) (turn_writes p v i) a b (Ok (record { limit = p.limit; slot = fresh_slot p; generation = p.generation + 1; grows = true; gate = gate; head = Ajar; other = p.head }))
+  turn_done gate at wrote =
+      let long : gate ≡ length (body (fresh_start p v)) + length (input_bytes i) + 1 = omega (arith, at, ap length is_whole, ap length is, length-append (input_bytes i) (0 ∷ [])) in
+      (ap (λ (n : ℕ). let q : Position = record { limit = p.limit; slot = fresh_slot p; generation = p.generation + 1; grows = true; gate = n; head = Ajar; other = p.head } in q) long,
+       subst (λ (ws : List Write). Wrote ws a b) turn_text wrote)
+
+  pub turn_fails : (fault : Fault) → Stops (turn_calls (fresh_slot p) p.other whole bytes) a b fault → Fails (turn_writes p v i) a b (error_of fault)
+  turn_fails fault stops = fails_of (turn_writes p v i) a b fault (subst (λ (ws : List Write). Stops ws a b fault) turn_text stops)
+
+  pub turn_long : HasLength b.told (fresh_slot p) (length whole + 1 + length bytes) → HasLength b.told (fresh_slot p) (length (body (fresh_start p v)) + 1 + length (entry i))
+  turn_long long = subst (λ (n : ℕ). HasLength b.told (fresh_slot p) n) (ap₂ (λ (x y : List ℕ). length x + 1 + length y) is_whole is) long
+
+-- ---- refusals
+
+module _ (p : Position) (v : View) (i : Input) (view_len input_len bytes : ℕ) (small : p.limit < 2 ^ 64) (is_view : view_len ≡ capped ((view Two).spell v)) (is_input : input_len ≡ capped ((input Two).spell i))
+    (total : bytes ≡ view_len + input_len + 12) where
+  pub full_said : (a : Standing) (number : ℕ) → p.limit < bytes → number ≡ min bytes (2 ^ 64 - 1) → IsAnswer p.limit (turn_entry p v i) a a (Err (Full number p.limit))
+  full_said a number above is =
+      full_answer p v i a (Err (Full number p.limit)) (above_need v i p.limit view_len input_len bytes small is_view is_input total above)
+      (ap (λ (n : ℕ). let e : AppendError = Full n p.limit in let r : Result Position AppendError = Err e in r) (is ∙ said_is v i p.limit view_len input_len bytes small is_view is_input total))
+
+  pub room_left : bytes ≤ p.limit → need v i ≤ p.limit
+  room_left le = within_need v i p.limit view_len input_len bytes small is_view is_input total le
+
+  pub spent_said : (a : Standing) → bytes ≤ p.limit → last_generation ≤ p.generation → IsAnswer p.limit (turn_entry p v i) a a (Err Spent)
+  spent_said a le last = spent_answer p v i a (Err Spent) (room_left le) last refl
+
+pub ruleset append_exits = (stopped_at_once, append_done, append_fails, append_long)
+pub ruleset append_laws = (grows_of, room_of, append_keeps, append_rests_if, append_placed_if)
+pub ruleset turn_exits = (stopped_at_once, turn_done, turn_fails, turn_long)
+pub ruleset turn_laws = (written_answer, full_said, spent_said, room_left, turn_keeps, turn_waits, turn_rests_if, turn_placed_if)

@@ -15,10 +15,10 @@ use Rattle.slot_writes.specs.Entries.{fits, need, input_bytes, entry}
 
 same_le : (a b c : ℕ) → (a ≤ c → b ≤ c) → (b ≤ c → a ≤ c) → nat_le a c ≡ nat_le b c
 same_le a b c f g = elim (cases_Bool (nat_le a c)) [
-  | inl yes ↦ yes ∙ sym (le-leb b c (f (leb-true a c yes)))
-  | inr no ↦ elim (cases_Bool (nat_le b c)) [
-    | inl yes ↦ absurd (true≢false (sym (le-leb a c (g (leb-true b c yes))) ∙ no))
-    | inr other ↦ no ∙ sym other
+  | inl is ↦ is ∙ sym (le-leb b c (f (leb-true a c is)))
+  | inr not ↦ elim (cases_Bool (nat_le b c)) [
+    | inl is ↦ absurd (true≢false (sym (le-leb a c (g (leb-true b c is))) ∙ not))
+    | inr other ↦ not ∙ sym other
   ]
 ]
 
@@ -43,11 +43,11 @@ grows_of p i has = (both_of p.grows (nat_le (p.gate + 1 + length (input_bytes i)
 -- what is needed, by lengths that are capped
 module _ (v : View) (i : Input) (limit view_len input_len bytes : ℕ) (small : limit < 2 ^ 64) (is_view : view_len ≡ capped ((view Two).spell v)) (is_input : input_len ≡ capped (input_bytes i))
     (total : bytes ≡ view_len + input_len + 12) where
-  pub above : limit < bytes → limit < need v i
-  above lt = omega (arith, lt, total, is_view, is_input, capped_is ((view Two).spell v), capped_is (input_bytes i))
+  pub above_need : limit < bytes → limit < need v i
+  above_need lt = omega (arith, lt, total, is_view, is_input, capped_is ((view Two).spell v), capped_is (input_bytes i))
 
-  pub within : bytes ≤ limit → need v i ≤ limit
-  within le = omega (arith, le, total, is_view, is_input, capped_is ((view Two).spell v), capped_is (input_bytes i), small)
+  pub within_need : bytes ≤ limit → need v i ≤ limit
+  within_need le = omega (arith, le, total, is_view, is_input, capped_is ((view Two).spell v), capped_is (input_bytes i), small)
 
   pub said_is : min bytes (2 ^ 64 - 1) ≡ said (need v i)
   said_is = omega (arith, total, is_view, is_input, capped_is ((view Two).spell v), capped_is (input_bytes i))

@@ -29,6 +29,7 @@ pub struct Journal {
 }
 
 impl Model for Journal {
+    ghost use Rattle.std.specs.Prelude.{◌<◌};
     ghost use Rattle.slot_writes.specs.declared.position.Position.{Position as Standpoint};
 
     ghost Value = { Standpoint };
@@ -39,6 +40,15 @@ impl Model for Journal {
 }
 
 impl Journal {
+    /// The journal that stands so.
+    #[cfg(test)]
+    pub(crate) fn at(position: Position) -> Journal
+        requires { position.slot < 2 }
+        ensures { result ≡ position }
+    {
+        Journal { position }
+    }
+
     /// The generation of the current slot, 0 where none is open.
     pub fn generation(&self) -> u64
         ensures { result ≡ self.now.generation }
@@ -48,7 +58,7 @@ impl Journal {
 
     /// Whether an input fits: inputs may be added to the current slot, and with this one it is no longer than the limit.
     /// Takes no memory.
-    #[tactic(auto, using(crate::proofs::RoomLemmas::fits_capped))]
+    #[tactic(auto, using(crate::proofs::RoomLemmas::fits_is))]
     pub fn fits(&self, input: &Input) -> bool
         ensures { result ≡ fits self.now input.now }
     {
@@ -61,7 +71,8 @@ impl Journal {
 
     #[tactic(auto, using(crate::proofs::JournalLemmas::append_exits))]
     fn appended<D: Disk>(self, alloc: Global, disk: &mut D, input: &Input) -> Result<Journal, AppendError>
-        requires room { fits self input.now ≡ true }
+        requires grows { self.grows ≡ true }
+        requires room { self.gate + length (entry input.now) + 1 ≤ self.limit }
         requires placed { IsPlaced self (D.stands disk.old).told }
         ensures answer { Writes (appended self input.now) (append_writes self input.now) (D.stands disk.old) (D.stands disk.new) result }
         ensures long { OnOk result (HasLength (D.stands disk.new).told self.slot (self.gate + 1 + length (entry input.now))) }

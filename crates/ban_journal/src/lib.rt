@@ -16,6 +16,12 @@
 
 mod append_error;
 mod calls;
+mod entry;
 mod fault;
+mod journal;
+mod room;
+#[cfg(test)]
+mod tests;
 
 pub use append_error::AppendError;
+pub use journal::Journal;
