@@ -117,6 +117,7 @@ pub wrote_none : (a : Standing) → Wrote [] a a
 wrote_none a = record { performs = performs_none a.told; beside = beside_none a; longer = record { keeps = λ k n long. long } }
 
 pub ruleset put_exits = (put_done, put_failed, stopped_at_once, put_long)
+
 pub ruleset sync_exits = (sync_done, sync_failed)
 
 -- ---- calls behind calls

@@ -112,7 +112,6 @@ nothing_came g es k none image permits =
     let same : grown g (take k es) ≡ g = ap (λ (r : List Event). grown g (take k r)) none ∙ ap (grown g) (none_taken k) ∙ grown_none g in
     subst (λ (h : History). PermitsBoth h image) same permits
 
-
 module _ (p : Position) (v : View) (i : Input) where
   full_entry : p.limit < need v i → turn_entry p v i ≡ EntryFull (need v i)
   full_entry above = rw (lt-ltb p.limit (need v i) above) refl
@@ -196,9 +195,10 @@ module _ (p : Position) (v : View) (i : Input) (whole bytes : List ℕ) (a b : S
   pub turn_done : (gate : ℕ) → gate ≡ length whole + length bytes → Wrote (turn_calls (fresh_slot p) p.other whole bytes) a b
       → Writes (turned p v i) (turn_writes p v i) a b (Ok (record { limit = p.limit; slot = fresh_slot p; generation = p.generation + 1; grows = true; gate = gate; head = Ajar; other = p.head }))
   turn_done gate at wrote =
-      let long : gate ≡ length (body (fresh_start p v)) + length (input_bytes i) + 1 = omega (arith, at, ap length is_whole, ap length is, length-append (input_bytes i) (0 ∷ [])) in
-      (ap (λ (n : ℕ). let q : Position = record { limit = p.limit; slot = fresh_slot p; generation = p.generation + 1; grows = true; gate = n; head = Ajar; other = p.head } in q) long,
-       subst (λ (ws : List Write). Wrote ws a b) turn_text wrote)
+      let long : gate ≡ length (body (fresh_start p v)) + length (input_bytes i) + 1 = omega (arith, at, ap length is_whole, ap length is, length-append (input_bytes i) (0 ∷ [])) in (
+        ap (λ (n : ℕ). let q : Position = record { limit = p.limit; slot = fresh_slot p; generation = p.generation + 1; grows = true; gate = n; head = Ajar; other = p.head } in q) long,
+        subst (λ (ws : List Write). Wrote ws a b) turn_text wrote,
+      )
 
   pub turn_fails : (fault : Fault) → Stops (turn_calls (fresh_slot p) p.other whole bytes) a b fault → Fails (turn_writes p v i) a b (error_of fault)
   turn_fails fault stops = fails_of (turn_writes p v i) a b fault (subst (λ (ws : List Write). Stops ws a b fault) turn_text stops)
@@ -222,6 +222,9 @@ module _ (p : Position) (v : View) (i : Input) (view_len input_len bytes : ℕ) 
   spent_said a le last = spent_answer p v i a (Err Spent) (room_left le) last refl
 
 pub ruleset append_exits = (stopped_at_once, append_done, append_fails, append_long)
+
 pub ruleset append_laws = (grows_of, room_of, append_keeps, append_rests_if, append_placed_if)
+
 pub ruleset turn_exits = (stopped_at_once, turn_done, turn_fails, turn_long)
+
 pub ruleset turn_laws = (written_answer, full_said, spent_said, room_left, turn_keeps, turn_waits, turn_rests_if, turn_placed_if)

@@ -9,10 +9,7 @@ pub enum AppendError {
     /// A call on the disk failed.
     DiskFault,
     /// A fresh slot with the view and the input needs more bytes than a slot may have. No call was made.
-    Full {
-        need: u64,
-        limit: u64,
-    },
+    Full { need: u64, limit: u64 },
     /// The generations are used up. No call was made.
     Spent,
     NoMemory,

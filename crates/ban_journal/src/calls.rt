@@ -55,7 +55,12 @@ fn put_synced<D: Disk>(disk: &mut D, slot: u8, at: u64, bytes: &[u8]) -> Result<
 
 /// Puts bytes behind the closed gate at a place, syncs, and then opens the gate, and syncs.
 #[tactic(auto, using(crate::proofs::CallLemmas::behind_exits))]
-pub(crate) fn put_behind<D: Disk>(disk: &mut D, slot: u8, gate: u64, bytes: &[u8]) -> Result<(), Fault>
+pub(crate) fn put_behind<D: Disk>(
+    disk: &mut D,
+    slot: u8,
+    gate: u64,
+    bytes: &[u8],
+) -> Result<(), Fault>
     requires slot { slot < 2 }
     requires small { gate + 1 < 2 ^ 64 }
     requires within { HasLength (D.stands disk.old).told slot (gate + 1) }
@@ -86,7 +91,13 @@ fn clear<D: Disk>(disk: &mut D, slot: u8, head: Head) -> Result<(), Fault>
 
 /// Writes a slot anew: clears it, puts what it begins with behind its gate, and an entry behind that.
 #[tactic(auto, using(crate::proofs::CallLemmas::turn_exits))]
-pub(crate) fn turn<D: Disk>(disk: &mut D, slot: u8, head: Head, whole: &[u8], entry: &[u8]) -> Result<(), Fault>
+pub(crate) fn turn<D: Disk>(
+    disk: &mut D,
+    slot: u8,
+    head: Head,
+    whole: &[u8],
+    entry: &[u8],
+) -> Result<(), Fault>
     requires slot { slot < 2 }
     requires small { length whole.now + 1 < 2 ^ 64 }
     requires within { HasLength (D.stands disk.old).told slot (least_bytes head) }

@@ -70,7 +70,12 @@ impl Journal {
     }
 
     #[tactic(auto, using(crate::proofs::JournalLemmas::append_exits))]
-    fn appended<D: Disk>(self, alloc: Global, disk: &mut D, input: &Input) -> Result<Journal, AppendError>
+    fn appended<D: Disk>(
+        self,
+        alloc: Global,
+        disk: &mut D,
+        input: &Input,
+    ) -> Result<Journal, AppendError>
         requires grows { self.grows ≡ true }
         requires room { self.gate + length (entry input.now) + 1 ≤ self.limit }
         requires placed { IsPlaced self (D.stands disk.old).told }
@@ -88,7 +93,12 @@ impl Journal {
 
     /// Appends an input: four calls on the disk. Ask `fits` first.
     #[tactic(auto, using(crate::proofs::JournalLemmas::append_laws))]
-    pub fn append<D: Disk>(self, alloc: Global, disk: &mut D, input: &Input) -> Result<Journal, AppendError>
+    pub fn append<D: Disk>(
+        self,
+        alloc: Global,
+        disk: &mut D,
+        input: &Input,
+    ) -> Result<Journal, AppendError>
         requires room { fits self input.now ≡ true }
         requires placed { IsPlaced self (D.stands disk.old).told }
         ensures answer { Writes (appended self input.now) (append_writes self input.now) (D.stands disk.old) (D.stands disk.new) result }
@@ -100,7 +110,13 @@ impl Journal {
     }
 
     #[tactic(auto, using(crate::proofs::JournalLemmas::turn_exits))]
-    fn turned<D: Disk>(self, alloc: Global, disk: &mut D, view: &View, input: &Input) -> Result<Journal, AppendError>
+    fn turned<D: Disk>(
+        self,
+        alloc: Global,
+        disk: &mut D,
+        view: &View,
+        input: &Input,
+    ) -> Result<Journal, AppendError>
         requires room { need view.now input.now ≤ self.limit }
         requires below { self.generation < last_generation }
         requires placed { IsPlaced self (D.stands disk.old).told }
@@ -129,7 +145,13 @@ impl Journal {
     /// Changes slots: the other slot gets the view of what was stored so far, and then the input. Ask `fits` first: it is for an
     /// input that does not fit.
     #[tactic(auto, using(crate::proofs::JournalLemmas::turn_laws))]
-    pub fn turn_over<D: Disk>(self, alloc: Global, disk: &mut D, view: &View, input: &Input) -> Result<Journal, AppendError>
+    pub fn turn_over<D: Disk>(
+        self,
+        alloc: Global,
+        disk: &mut D,
+        view: &View,
+        input: &Input,
+    ) -> Result<Journal, AppendError>
         requires full { fits self input.now ≡ false }
         requires placed { IsPlaced self (D.stands disk.old).told }
         ensures answer { IsAnswer self.limit (turn_entry self view.now input.now) (D.stands disk.old) (D.stands disk.new) result }
