@@ -40,15 +40,6 @@ impl Model for Journal {
 }
 
 impl Journal {
-    /// The journal that stands so.
-    #[cfg(test)]
-    pub(crate) fn at(position: Position) -> Journal
-        requires { position.slot < 2 }
-        ensures { result ≡ position }
-    {
-        Journal { position }
-    }
-
     /// The generation of the current slot, 0 where none is open.
     pub fn generation(&self) -> u64
         ensures { result ≡ self.now.generation }

@@ -20,8 +20,6 @@ mod entry;
 mod fault;
 mod journal;
 mod room;
-#[cfg(test)]
-mod tests;
 
 pub use append_error::AppendError;
 pub use journal::Journal;
