@@ -1,0 +1,4 @@
+pub mod CallLemmas
+pub mod RoomLemmas
+pub mod PartLemmas
+pub mod JournalLemmas
