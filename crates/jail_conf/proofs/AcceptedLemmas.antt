@@ -16,7 +16,8 @@ use Rattle.f2b_model.specs.Lists.{AllOf, AreDistinct}
 use Rattle.f2b_model.specs.Sound.{same_kind, AreFitDefs}
 use Rattle.f2b_model.specs.Storable.{longest_span, IsJailName, IsStorableRule, IsWithin, IsZone}
 use Rattle.ini_interp.specs.declared.merge_error.MergeError.{MergeError}
-use Rattle.ini_interp.specs.Merges.{files_of, merged_in}
+use Rattle.ini_interp.specs.AreSections.{AreSections}
+use Rattle.ini_interp.specs.Merges.{Files, files_of, merged_in}
 use Rattle.ini_interp.specs.Sections.{Sections}
 use Rattle.ini_interp.proofs.JoinedLemmas.{merged_are}
 use Rattle.jail_conf.specs.declared.conf_error.ConfError.{ConfError}
@@ -201,6 +202,10 @@ merged_from : (merged : Result Sections MergeError) (sections : Sections) → or
 merged_from (Ok found) sections is = let same : found ≡ sections = cc in ap Ok same
 merged_from (Err fault) sections is = absurd (cc)
 
+-- the sections of a base are those of files
+pub sections_are : (files : Files) (sections : Sections) → sections_of (bases_of files) (codes "jail") ≡ Ok sections → AreSections sections
+sections_are files sections is = merged_are files (codes "jail") sections (merged_from (merged_in files (codes "jail")) sections is)
+
 sections_apart : (sections : Sections) → IsDistinct bytes_eq (keys_of sections) → AreDistinct bytes_eq (jail_names sections)
 sections_apart sections apart =
     distinct_filter bytes_eq (λ name. not (bytes_eq name (codes "DEFAULT"))) (section_names sections) (distinct_from bytes_eq (section_names sections) apart)
@@ -213,10 +218,7 @@ settings_are tree settings is =
     let purge = bind_ok (own (of_server server.0) table.dbpurgeage) _ settings socket.2 in
     let sections = bind_ok (sections_of (bases_of (files_of tree)) (codes "jail")) _ settings purge.2 in
     let jails = bind_ok (jails_behind (bases_of (files_of tree)) sections.0 [] (jail_names sections.0)) _ settings sections.2 in
-    let merged : merged_in (files_of tree) (codes "jail") ≡ Ok sections.0 =
-    merged_from (merged_in (files_of tree) (codes "jail")) sections.0 sections.1 in
-    let names : AreDistinct bytes_eq (jail_names sections.0) =
-    sections_apart sections.0 (merged_are (files_of tree) (codes "jail") sections.0 merged).apart in
+    let names : AreDistinct bytes_eq (jail_names sections.0) = sections_apart sections.0 (sections_are (files_of tree) sections.0 sections.1).apart in
     subst (OfOk (λ (settings : Settings). AreAccepted [] settings.defs.jails)) jails.2
     (all_accepted (bases_of (files_of tree)) sections.0 [] (jail_names sections.0) jails.0 (none_yet (jail_names sections.0) names) jails.1)
   where

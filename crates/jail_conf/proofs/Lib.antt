@@ -17,6 +17,7 @@ pub mod ListedLemmas
 pub mod NextLemmas
 pub mod NumberLemmas
 pub mod OptionLemmas
+mod OwnLemmas
 pub mod PartLemmas
 mod PatternBounds
 pub mod PlaceLemmas

@@ -53,10 +53,7 @@ jails_step bases sections before names place name next all done at is =
 
 -- the next jail, as the code finds it
 pub next_found : (bases : Bases) (merged sections : Sections) (jail : Source) (name text : List ℕ) (jails seen : List JailDef) (next : Option JailDef) →
-    sections_of bases (codes "jail") ≡ Ok sections → sections_of bases (codes "jail") ≡ Ok merged → jail ≡ of_jail sections text → text ≡ name → seen ≡ jails → next_jail bases jail seen ≡ Ok next →
-    next_jail bases (of_jail merged name) jails ≡ Ok next
-next_found bases merged sections jail name text jails seen next first same made is all given =
-    let both : Ok sections ≡ Ok merged = sym first ∙ same in
-    let one : sections ≡ merged = cc in
+    sections ≡ merged → jail ≡ of_jail sections text → text ≡ name → seen ≡ jails → next_jail bases jail seen ≡ Ok next → next_jail bases (of_jail merged name) jails ≡ Ok next
+next_found bases merged sections jail name text jails seen next one made is all given =
     let is_jail : jail ≡ of_jail merged name = made ∙ (ap (λ (s : Sections). of_jail s text) one ∙ ap (of_jail merged) is) in
     sym (ap (λ (j : Source). next_jail bases j jails) is_jail) ∙ (sym (ap (next_jail bases jail) all) ∙ given)

@@ -4,6 +4,7 @@ ghost use Rattle.std.specs.Char.{is_ascii_alphanumeric};
 ghost use Rattle.std.specs.List.{list_all};
 ghost use Rattle.f2b_model.specs.Sound.{AreFitDefs};
 ghost use Rattle.f2b_model.specs.Storable.{AreStorableDefs};
+ghost use Rattle.ini_interp.specs.Sections.{without};
 ghost use Rattle.jail_conf.specs.Conf.{but_default, jail_names, is_enabled, patterns_in, next_jail, with_next, jails_behind, conf};
 ghost use Rattle.jail_conf.specs.Jails.{is_name_byte, is_jail_name};
 ghost use Rattle.jail_conf.specs.Laws.{AreDated, AreWithinLimits};
@@ -83,19 +84,21 @@ fn is_enabled(alloc: Global, jail: &Source, before: usize) -> Result<bool, ConfF
     Ok(enabled)
 }
 
-/// The definition of a jail where it is enabled, behind these, which have so many patterns.
+/// The definition of a jail where it is enabled, behind these, which have so many patterns. The jail may know the items of its filter
+/// then.
 fn next_jail(
     alloc: Global,
     files: &FileTable<'_>,
-    jail: Source,
+    jail: &mut Source,
     before: &[JailDef],
     patterns: u64,
 ) -> Result<Option<JailDef>, ConfFail>
     requires counted { sum_by patterns_in before.now ≡ patterns }
     requires few { patterns ≤ 512 }
-    ensures { Gives (next_jail (bases_of files.now) jail before.now) result }
+    ensures defined { Gives (next_jail (bases_of files.now) jail.old before.now) result }
+    ensures known { OnOk result (without (codes "]known") jail.new.sections ≡ without (codes "]known") jail.old.sections) }
 {
-    if !is_enabled(alloc, &jail, before.len())? {
+    if !is_enabled(alloc, jail, before.len())? {
         return Ok(None);
     }
     let definition = jail_of(alloc, files, jail, patterns)?;
@@ -125,23 +128,34 @@ fn push_next(
     }
 }
 
-/// The definitions of the jails of these names that are enabled.
+/// The sections of the base, without what was put in for a jail.
+fn given_back(jail: Source) -> Sections
+    ensures { result ≡ without (codes "]name") (without (codes "]known") jail.sections) }
+{
+    let mut sections = jail.sections;
+    sections.clear("]known");
+    sections.clear("]name");
+    sections
+}
+
+/// The definitions of the jails of these names that are enabled. The base is merged once: each jail gives its sections back.
 fn jails_in(
     alloc: Global,
     files: &FileTable<'_>,
-    merged: &Sections,
+    merged: Sections,
     names: &[Text],
 ) -> Result<Seq<JailDef>, ConfFail>
-    requires { sections_of (bases_of files.now) (codes "jail") ≡ Ok merged.now }
-    ensures { Gives (jails_behind (bases_of files.now) merged.now [] names.now) result }
+    requires { sections_of (bases_of files.now) (codes "jail") ≡ Ok merged }
+    ensures { Gives (jails_behind (bases_of files.now) merged [] names.now) result }
 {
     let mut jails = Seq::new(alloc);
     let mut patterns: u64 = 0;
+    let mut sections = merged;
     for name in names {
-        let sections = sections_of(alloc, files, "jail")?;
-        let jail = of_jail(alloc, sections, name.as_str())?;
-        let next = next_jail(alloc, files, jail, jails.as_slice(), patterns)?;
+        let mut jail = of_jail(alloc, sections, name.as_str())?;
+        let next = next_jail(alloc, files, &mut jail, jails.as_slice(), patterns)?;
         patterns = push_next(&mut jails, patterns, next)?;
+        sections = given_back(jail);
     }
     Ok(jails)
 }
@@ -167,7 +181,7 @@ pub fn conf(alloc: Global, tree: &Tree) -> Result<Settings, ConfFail>
     let purge = server.item(alloc, "dbpurgeage", &Seconds { least: 0 }, 86_400)?;
     let sections = sections_of(alloc, &files, "jail")?;
     let names = jail_names(alloc, &sections)?;
-    let jails = jails_in(alloc, &files, &sections, names.as_slice())?;
+    let jails = jails_in(alloc, &files, sections, names.as_slice())?;
     let defs = Defs { purge, jails };
     see(&defs);
     Ok(Settings { defs, socket })

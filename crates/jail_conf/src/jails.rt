@@ -1,5 +1,6 @@
 //! The definition of a jail.
-ghost use Rattle.std.specs.Prelude.{◌≤◌};
+ghost use Rattle.std.specs.Prelude.{◌≡◌, ◌≤◌, codes, OnOk};
+ghost use Rattle.ini_interp.specs.Sections.{without};
 ghost use Rattle.jail_conf.specs.Jails.{jail_with, jail_of};
 ghost use Rattle.jail_conf.specs.Sources.{bases_of};
 ghost use Rattle.jail_conf.specs.Then.{Gives};
@@ -58,18 +59,20 @@ fn jail_with(
     })
 }
 
-/// The definition of an enabled jail, where the jails before it have so many patterns.
+/// The definition of an enabled jail, where the jails before it have so many patterns. The jail knows the items of its filter then.
 pub(crate) fn jail_of(
     alloc: Global,
     files: &FileTable<'_>,
-    jail: Source,
+    jail: &mut Source,
     patterns: u64,
 ) -> Result<JailDef, ConfFail>
     requires { patterns ≤ 512 }
-    ensures { Gives (jail_of (bases_of files.now) jail patterns) result }
+    ensures defined { Gives (jail_of (bases_of files.now) jail.old patterns) result }
+
+    // But for those items, what is read is as it was.
+    ensures known { OnOk result (without (codes "]known") jail.new.sections ≡ without (codes "]known") jail.old.sections) }
 {
-    let filter = filter_of(alloc, files, &jail)?;
-    let mut source = jail;
-    put_items(&mut source.sections, "]known", filter.known.as_slice())?;
-    jail_with(alloc, files, &source, &filter.source, patterns)
+    let filter = filter_of(alloc, files, jail)?;
+    put_items(&mut jail.sections, "]known", filter.known.as_slice())?;
+    jail_with(alloc, files, jail, &filter.source, patterns)
 }

@@ -1,6 +1,11 @@
 //! Configurations at their limits, and faults of files.
 
+use crate::conf_error::ConfKind;
 use crate::conf_tests::told;
+use crate::configuration::conf;
+use crate::fail::Fail as Refusal;
+use f2b_base::{Bytes, NoMemory, Seq, Text, Tree, TreeFile};
+use ini_interp::IniError;
 use std::alloc::Global;
 use std::test::Fail;
 
@@ -133,6 +138,30 @@ fn takes_16_actions(rt: HostRuntime) -> Result<(), Fail> {
         ];
         let got = told(rt.alloc(), files.as_slice())?;
         assert_eq!(rt; got.as_str(), want);
+    }
+    Ok(())
+}
+
+/// A tree with one file of these bytes.
+fn tree_of_bytes(alloc: Global, path: &str, bytes: &[u8]) -> Result<Tree, NoMemory> {
+    let mut files = Seq::new(alloc);
+    files.push(TreeFile {
+        path: Text::from_str(alloc, path)?,
+        content: Bytes::from_slice(alloc, bytes)?,
+    })?;
+    Ok(Tree { files })
+}
+
+#[test]
+fn tells_the_first_byte_that_is_no_utf_8(rt: HostRuntime) -> Result<(), Fail> {
+    let tree = tree_of_bytes(rt.alloc(), "jail.conf", b"[j]\n\xff\n")?;
+    let came = conf(rt.alloc(), &tree);
+    match came {
+        Err(Refusal::Refused(error)) => {
+            assert_eq!(rt; error.kind, ConfKind::Ini(IniError::NotUtf8(4)));
+        }
+        Err(Refusal::NoMemory) => assert!(rt; false),
+        Ok(_settings) => assert!(rt; false),
     }
     Ok(())
 }

@@ -33,13 +33,13 @@ fn of_jails(
     what: &What,
     word: u64,
 ) -> Result<Aftermath, NoMemory>
-    requires serial { jails.next_ban ≤ 2 ^ 62 }
+    requires serial { jails.state.next_ban ≤ 2 ^ 62 }
     requires bounded { IsBoundedWhat what.now }
     requires alone { is_of_jails what.now ≡ true }
-    ensures jails { IfOk result (λ r. r.jails ≡ done moves_now word what.now jails) }
-    ensures told { OnOk result (told.new ≡ told.old ++ told_done moves_now word what.now jails) }
-    ensures lanes { IfOk result (λ r. r.actions ≡ lanes_step books_now jails.at what.now (held moves_now jails) (held moves_now r.jails) told.new actions) }
-    ensures news { IfOk result (λ r. r.told ≡ lanes_told books_now jails.at what.now (lanes_issued books_now jails.at told.new actions)) }
+    ensures jails { IfOk result (λ r. r.jails.state ≡ done moves_now word what.now jails.state) }
+    ensures told { OnOk result (told.new ≡ told.old ++ told_done moves_now word what.now jails.state) }
+    ensures lanes { IfOk result (λ r. r.actions ≡ lanes_step books_now jails.state.at what.now (held moves_now jails.state) (held moves_now r.jails.state) told.new actions) }
+    ensures news { IfOk result (λ r. r.told ≡ lanes_told books_now jails.state.at what.now (lanes_issued books_now jails.state.at told.new actions)) }
 {
     let at = jails.now();
     let jails = jails.after(told, what, word)?;
@@ -61,8 +61,8 @@ fn of_job(
     outcome: Outcome,
 ) -> Result<Aftermath, NoMemory>
     ensures jails { IfOk result (λ r. r.jails ≡ jails) }
-    ensures lanes { IfOk result (λ r. r.actions ≡ lanes_step books_now jails.at (What.Ended job outcome) (held moves_now jails) (held moves_now r.jails) told.now actions) }
-    ensures news { IfOk result (λ r. r.told ≡ lanes_told books_now jails.at (What.Ended job outcome) (lanes_issued books_now jails.at told.now actions)) }
+    ensures lanes { IfOk result (λ r. r.actions ≡ lanes_step books_now jails.state.at (What.Ended job outcome) (held moves_now jails.state) (held moves_now r.jails.state) told.now actions) }
+    ensures news { IfOk result (λ r. r.told ≡ lanes_told books_now jails.state.at (What.Ended job outcome) (lanes_issued books_now jails.state.at told.now actions)) }
 {
     let at = jails.now();
     let mut news = Seq::new(alloc);
@@ -85,8 +85,8 @@ fn of_check(
     outcome: Outcome,
 ) -> Result<Aftermath, NoMemory>
     ensures jails { IfOk result (λ r. r.jails ≡ jails) }
-    ensures lanes { IfOk result (λ r. r.actions ≡ lanes_step books_now jails.at (What.CheckFailed job outcome) (held moves_now jails) (held moves_now r.jails) told.now actions) }
-    ensures news { IfOk result (λ r. r.told ≡ lanes_told books_now jails.at (What.CheckFailed job outcome) (lanes_issued books_now jails.at told.now actions)) }
+    ensures lanes { IfOk result (λ r. r.actions ≡ lanes_step books_now jails.state.at (What.CheckFailed job outcome) (held moves_now jails.state) (held moves_now r.jails.state) told.now actions) }
+    ensures news { IfOk result (λ r. r.told ≡ lanes_told books_now jails.state.at (What.CheckFailed job outcome) (lanes_issued books_now jails.state.at told.now actions)) }
 {
     let at = jails.now();
     let bans = jails.held()?;
@@ -108,8 +108,8 @@ fn of_stop(
     told: &Seq<Happening>,
 ) -> Result<Aftermath, NoMemory>
     ensures jails { IfOk result (λ r. r.jails ≡ jails) }
-    ensures lanes { IfOk result (λ r. r.actions ≡ lanes_step books_now jails.at What.Stop (held moves_now jails) (held moves_now r.jails) told.now actions) }
-    ensures news { IfOk result (λ r. r.told ≡ lanes_told books_now jails.at What.Stop (lanes_issued books_now jails.at told.now actions)) }
+    ensures lanes { IfOk result (λ r. r.actions ≡ lanes_step books_now jails.state.at What.Stop (held moves_now jails.state) (held moves_now r.jails.state) told.now actions) }
+    ensures news { IfOk result (λ r. r.told ≡ lanes_told books_now jails.state.at What.Stop (lanes_issued books_now jails.state.at told.now actions)) }
 {
     let at = jails.now();
     let held = jails.held()?;
@@ -132,9 +132,9 @@ fn of_configuration(
 ) -> Result<Aftermath, NoMemory>
     requires bounded { AllOf IsBounded defs.now.jails }
     requires fit { AreFitDefs defs.now }
-    ensures jails { IfOk result (λ r. r.jails ≡ done moves_now 0 (What.Config defs.now) jails) }
-    ensures lanes { IfOk result (λ r. r.actions ≡ lanes_step books_now jails.at (What.Config defs.now) (held moves_now jails) (held moves_now r.jails) told.now actions) }
-    ensures news { IfOk result (λ r. r.told ≡ lanes_told books_now jails.at (What.Config defs.now) (lanes_issued books_now jails.at told.now actions)) }
+    ensures jails { IfOk result (λ r. r.jails.state ≡ done moves_now 0 (What.Config defs.now) jails.state) }
+    ensures lanes { IfOk result (λ r. r.actions ≡ lanes_step books_now jails.state.at (What.Config defs.now) (held moves_now jails.state) (held moves_now r.jails.state) told.now actions) }
+    ensures news { IfOk result (λ r. r.told ≡ lanes_told books_now jails.state.at (What.Config defs.now) (lanes_issued books_now jails.state.at told.now actions)) }
 {
     let at = jails.now();
     let before = jails.held()?;
@@ -159,13 +159,13 @@ pub fn after(
     what: &What,
     word: u64,
 ) -> Result<Aftermath, NoMemory>
-    requires serial { jails.next_ban ≤ 2 ^ 62 }
+    requires serial { jails.state.next_ban ≤ 2 ^ 62 }
     requires bounded { IsBoundedWhat what.now }
     requires fit { IsFitWhat what.now }
-    ensures jails { IfOk result (λ r. r.jails ≡ done moves_now word what.now jails) }
-    ensures told { OnOk result (told.new ≡ told.old ++ told_done moves_now word what.now jails) }
-    ensures lanes { IfOk result (λ r. r.actions ≡ lanes_step books_now jails.at what.now (held moves_now jails) (held moves_now r.jails) told.new actions) }
-    ensures news { IfOk result (λ r. r.told ≡ lanes_told books_now jails.at what.now (lanes_issued books_now jails.at told.new actions)) }
+    ensures jails { IfOk result (λ r. r.jails.state ≡ done moves_now word what.now jails.state) }
+    ensures told { OnOk result (told.new ≡ told.old ++ told_done moves_now word what.now jails.state) }
+    ensures lanes { IfOk result (λ r. r.actions ≡ lanes_step books_now jails.state.at what.now (held moves_now jails.state) (held moves_now r.jails.state) told.new actions) }
+    ensures news { IfOk result (λ r. r.told ≡ lanes_told books_now jails.state.at what.now (lanes_issued books_now jails.state.at told.new actions)) }
 {
     match what {
         What::Ended { job, outcome } => {

@@ -27,17 +27,12 @@ use lane_moves::LaneBook;
 use std::alloc::Global;
 use std::marker::Model;
 
-/// For how many seconds a sweep that left nothing to forget rests.
-const SWEEP_REST: u64 = 16;
-
 /// The state of the server: its jails, and its lanes of jobs.
 #[derive(Drop)]
 pub struct Core {
     alloc: Global,
     jails: Jails,
     actions: LaneBook,
-    /// Before this moment no sweep is due, in seconds since 1970.
-    next_sweep: u64,
 }
 
 impl Model for Core {
@@ -46,9 +41,9 @@ impl Model for Core {
 
     ghost Value = { Now };
 
-    ghost view = { λ c. record { jails = c.jails; lanes = c.actions } };
+    ghost view = { λ c. record { jails = c.jails.state; lanes = c.actions } };
 
-    ghost invariant = { λ c. AreWatched c.jails };
+    ghost invariant = { λ c. AreWatched c.jails.state };
 }
 
 /// A copy of lanes that are up.
@@ -71,9 +66,9 @@ fn stays(same: bool, stopping: bool, idle: bool, just: bool) -> bool
 
 impl Core {
     /// The state of these jails and lanes.
-    fn of_parts(alloc: Global, jails: Jails, actions: LaneBook, next_sweep: u64) -> Core
-        requires { AreWatched jails }
-        ensures parts { result ≡ record { jails = jails; lanes = actions } }
+    fn of_parts(alloc: Global, jails: Jails, actions: LaneBook) -> Core
+        requires { AreWatched jails.state }
+        ensures parts { result ≡ record { jails = jails.state; lanes = actions } }
         ensures few { result.lanes.next_job ≤ most_numbers }
     {
         // Asked for what it ensures alone: no lanes give an id that could not be stored.
@@ -82,7 +77,6 @@ impl Core {
             alloc,
             jails,
             actions,
-            next_sweep,
         }
     }
 
@@ -95,7 +89,6 @@ impl Core {
             alloc,
             jails: Jails::empty(alloc),
             actions: LaneBook::new(alloc),
-            next_sweep: 0,
         }
     }
 
@@ -112,7 +105,6 @@ impl Core {
             alloc,
             jails: Jails::of(alloc, view)?,
             actions: LaneBook::of(alloc, &view.up, view.stopping, &view.jobs, view.next_job)?,
-            next_sweep: 0,
         })
     }
 
@@ -209,23 +201,16 @@ impl Core {
         self.jails.failed_lately(name, now)
     }
 
-    /// Forgets, in all jails together, the failures of up to `most` addresses that have none which still matters by the last failure that
-    /// was counted in their jail: called once a turn, it gives the memory of a burst back once a later failure counts. Once nothing is
-    /// left to forget it rests for some seconds, so that steady failures do not make each turn look at each address. The state stays as it
-    /// is. Gives of how many addresses failures were forgotten. Takes no memory.
+    /// Forgets, in all jails together, the failures of up to `most` addresses of which none matters any more by the last failure that was
+    /// counted in their jail, and gives of how many: called once a turn, it gives the memory of a burst back once a later failure counts.
+    /// Where it left nothing to forget it rests for 16 seconds, so that steady failures do not make each turn look at each address. The
+    /// state stays as it is. Takes no memory. It is the sweep of the jails, whose clauses say what goes, what is left and when it rests;
+    /// the value that a caller sees of a core has no place for that.
     pub fn sweep(&mut self, most: u64) -> u64
         ensures state { self.new ≡ self.old }
         ensures most { result ≤ most }
     {
-        let now = self.jails.now();
-        if now < self.next_sweep {
-            return 0;
-        }
-        let forgotten = self.jails.sweep(most);
-        if forgotten < most {
-            self.next_sweep = now.saturating_add(SWEEP_REST);
-        }
-        forgotten
+        self.jails.sweep(most)
     }
 
     /// Whether the serials of bans or the ids of jobs are used up. Nothing happens any more then. Takes no memory.
@@ -273,7 +258,6 @@ impl Core {
             alloc,
             jails,
             actions,
-            next_sweep,
         } = self;
         let jails = jails.raised(&mut told, input.secs)?;
         let Aftermath {
@@ -282,7 +266,7 @@ impl Core {
             told: lanes,
         } = after(alloc, jails, actions, &mut told, &input.what, input.word)?;
         let jails = jails.dropped();
-        let core = Core::of_parts(alloc, jails, actions, next_sweep);
+        let core = Core::of_parts(alloc, jails, actions);
         Ok((core, Told { jails: told, lanes }))
     }
 }

@@ -5,4 +5,5 @@ pub mod Places
 pub mod Stored
 pub mod Shown
 pub mod Stale
+pub mod Memory
 pub mod Same

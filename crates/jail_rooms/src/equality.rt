@@ -2,10 +2,9 @@
 ghost use Rattle.std.specs.Prelude.{◌≡◌, ◌↔◌, length, map, IsTrue};
 ghost use Rattle.f2b_model.specs.declared.jail_now.JailNow.{JailNow};
 ghost use Rattle.jail_rooms.specs.Kept.{now_of};
-ghost use Rattle.jail_rooms.specs.Same.{are_same_defs};
 
 use crate::jail::Jail;
-use f2b_base::{ActionDef, BanRule, Cidr, Defs, JailDef, Seq, Text, WatchDef};
+use f2b_base::{ActionDef, BanRule, Cidr, JailDef, Seq, Text, WatchDef};
 
 /// A value of fields alone, of which it can be told whether another one is equal.
 trait Same {
@@ -105,19 +104,4 @@ pub fn are_definitions(jails: &[Jail], definitions: &[JailDef]) -> bool
         }
     }
     true
-}
-
-/// Whether all parts of two configurations are the same.
-fn same_parts(a: &Defs, b: &Defs) -> bool
-    ensures { IsTrue result ↔ (a.now ≡ b.now) }
-{
-    a.purge == b.purge && a.jails.same(&b.jails)
-}
-
-/// Whether two configurations are one. Takes no memory.
-pub fn same_defs(a: &Defs, b: &Defs) -> bool
-    ensures same { IsTrue result ↔ (a.now ≡ b.now) }
-    ensures told { result ≡ are_same_defs a.now b.now }
-{
-    same_parts(a, b)
 }

@@ -1,5 +1,5 @@
 //! `Jails`: the jails of the server.
-ghost use Rattle.std.specs.Prelude.{◌≡◌, ◌≤◌, ◌^◌, ◌∷◌, ◌++◌, ◌↔◌, [], ℕ, List, cond, length, map, max, option_copied, option_map, option_and_then, true, IsTrue, OnOk, IfOk, IfSome};
+ghost use Rattle.std.specs.Prelude.{◌≡◌, ◌≤◌, ◌+◌, ◌^◌, ◌∷◌, ◌++◌, ◌↔◌, [], ℕ, List, cond, length, map, max, option_copied, option_map, option_and_then, true, IsTrue, OnOk, IfOk, IfSome};
 ghost use Rattle.std.specs.List.{list_any};
 ghost use Rattle.std.specs.Option.{option_map_or};
 ghost use Rattle.f2b_base.specs.declared.ban.Failure.{Failure};
@@ -20,6 +20,7 @@ ghost use Rattle.f2b_model.specs.declared.jail_now.JailNow.{JailNow};
 ghost use Rattle.f2b_model.specs.OfJails.{is_of_jails};
 ghost use Rattle.f2b_model.specs.Bounds.{IsBoundedWhat, IsBounded};
 ghost use Rattle.jail_rooms.specs.Acted.{acted, told_acted};
+ghost use Rattle.jail_rooms.specs.Memory.{swept};
 ghost use Rattle.jail_rooms.specs.Shown.{ban_from, defs_of, lately_in, totals_of};
 
 use crate::acts::{InputStamp, act_at, jail_named};
@@ -29,7 +30,7 @@ use crate::equality::are_definitions;
 use crate::jail::Jail;
 use crate::shown::jail_of;
 use crate::stored::{active_bans, definitions, jails_of, views};
-use crate::sweep::sweep_all;
+use crate::sweep::{rest_after, sweep_all};
 use f2b_base::{
     Addr, Ban, DEFAULT_PURGE, Defs, JailDef, JailView, NoMemory, Seq, Text, View, What,
 };
@@ -50,18 +51,25 @@ pub struct Jails {
     jails: Vec<Jail>,
     /// The serial of the ban to come.
     next_ban: u64,
+    /// Before this moment no sweep is due, in seconds since 1970.
+    next_sweep: u64,
 }
 
 impl Model for Jails {
     ghost use Rattle.std.specs.Prelude.{◌≤◌, map};
     ghost use Rattle.f2b_model.specs.Lists.{AllOf};
-    ghost use Rattle.f2b_model.specs.Nows.{JailsNow};
     ghost use Rattle.f2b_base.specs.Limits.{last_moment};
     ghost use Rattle.jail_rooms.specs.Kept.{now_of, IsKept};
+    ghost use Rattle.jail_rooms.specs.Memory.{JailsKept};
+    ghost use Rattle.jail_rooms.specs.Stale.{stale_count};
 
-    ghost Value = { JailsNow };
+    ghost Value = { JailsKept };
 
-    ghost view = { λ j. record { at = j.at; purge = j.purge; jails = map now_of j.jails.items; next_ban = j.next_ban } };
+    ghost view = { λ j. record {
+      state = record { at = j.at; purge = j.purge; jails = map now_of j.jails.items; next_ban = j.next_ban };
+      stale = stale_count j.jails.items;
+      rests_until = j.next_sweep;
+    } };
 
     ghost invariant = { λ j. (j.at ≤ last_moment) × AllOf (IsKept j.at j.next_ban) j.jails.items };
 }
@@ -69,7 +77,7 @@ impl Model for Jails {
 impl Jails {
     /// No jails yet; a ban that is over counts for a day. Takes no memory.
     pub fn empty(alloc: Global) -> Jails
-        ensures { result ≡ record { at = 0; purge = default_purge; jails = []; next_ban = 0 } }
+        ensures { result ≡ record { state = record { at = 0; purge = default_purge; jails = []; next_ban = 0 }; stale = 0; rests_until = 0 } }
     {
         Jails {
             alloc,
@@ -77,13 +85,15 @@ impl Jails {
             purge: DEFAULT_PURGE,
             jails: Vec::new(alloc),
             next_ban: 0,
+            next_sweep: 0,
         }
     }
 
     /// The jails of a view. Of one that is not that of a sound state, failures and past bans are left out that no step could have left.
     pub fn of(alloc: Global, view: &View) -> Result<Jails, NoMemory>
         requires { IsStorableView view.now }
-        ensures jails { IfOk result (λ jails. jails ≡ (taken_up view.now).jails) }
+        ensures jails { IfOk result (λ jails. jails.state ≡ (taken_up view.now).jails) }
+        ensures rests { IfOk result (λ jails. jails.rests_until ≡ 0) }
     {
         let jails = jails_of(
             alloc,
@@ -97,12 +107,13 @@ impl Jails {
             purge: view.defs.purge,
             jails,
             next_ban: view.next_ban,
+            next_sweep: 0,
         })
     }
 
     /// The greatest moment so far, in seconds since 1970. Takes no memory.
     pub fn now(&self) -> u64
-        ensures moment { result ≡ self.now.at }
+        ensures moment { result ≡ self.now.state.at }
         ensures within { result ≤ last_moment }
     {
         self.at
@@ -110,14 +121,14 @@ impl Jails {
 
     /// The serial of the ban to come. Takes no memory.
     pub fn next_ban(&self) -> u64
-        ensures { result ≡ self.now.next_ban }
+        ensures { result ≡ self.now.state.next_ban }
     {
         self.next_ban
     }
 
     /// A copy of the definitions.
     pub fn defs(&self) -> Result<Defs, NoMemory>
-        ensures { IfOk result (λ defs. defs ≡ defs_of self.now) }
+        ensures { IfOk result (λ defs. defs ≡ defs_of self.now.state) }
     {
         Ok(Defs {
             purge: self.purge,
@@ -127,28 +138,28 @@ impl Jails {
 
     /// Whether these are the definitions. Takes no memory.
     pub fn has_defs(&self, defs: &Defs) -> bool
-        ensures { IsTrue result ↔ (defs.now ≡ defs_of self.now) }
+        ensures { IsTrue result ↔ (defs.now ≡ defs_of self.now.state) }
     {
         self.purge == defs.purge && are_definitions(self.jails.as_slice(), defs.jails.as_slice())
     }
 
     /// Whether some ban's end has come at a moment. Takes no memory.
     pub fn ban_due(&self, now: u64) -> bool
-        ensures { result ≡ is_ban_due moves_now now self.now }
+        ensures { result ≡ is_ban_due moves_now now self.now.state }
     {
         is_ban_due(self.jails.as_slice(), now)
     }
 
     /// Whether the logs of some jail are not looked at. Takes no memory.
     pub fn is_any_idle(&self) -> bool
-        ensures { result ≡ list_any (λ (j : JailNow). j.idle) self.now.jails }
+        ensures { result ≡ list_any (λ (j : JailNow). j.idle) self.now.state.jails }
     {
         is_any_idle(self.jails.as_slice())
     }
 
     /// The definition of the jail of a name, if there is one. Takes no memory.
     pub fn definition(&self, name: &str) -> Option<&JailDef>
-        ensures { option_copied result ≡ option_map (λ (j : JailNow). j.definition) (find_jail moves_now name.now self.now.jails) }
+        ensures { option_copied result ≡ option_map (λ (j : JailNow). j.definition) (find_jail moves_now name.now self.now.state.jails) }
     {
         let jail = jail_of(self.jails.as_slice(), name)?;
         Some(&jail.definition)
@@ -156,7 +167,7 @@ impl Jails {
 
     /// What happened in the jail of a name in numbers, and whether it is idle. Takes no memory.
     pub fn totals(&self, name: &str) -> Option<Totals>
-        ensures { result ≡ option_map totals_of (find_jail moves_now name.now self.now.jails) }
+        ensures { result ≡ option_map totals_of (find_jail moves_now name.now self.now.state.jails) }
     {
         let jail = jail_of(self.jails.as_slice(), name)?;
         Some(jail.room.totals())
@@ -164,7 +175,7 @@ impl Jails {
 
     /// The active ban of the least serial that is at least this one, in the jail of a name. Takes no memory.
     pub fn ban_from(&self, name: &str, serial: u64) -> Option<&Ban>
-        ensures { option_copied result ≡ option_and_then (ban_from serial) (find_jail moves_now name.now self.now.jails) }
+        ensures { option_copied result ≡ option_and_then (ban_from serial) (find_jail moves_now name.now self.now.state.jails) }
     {
         let jail = jail_of(self.jails.as_slice(), name)?;
         jail.room.ban_from(serial)
@@ -173,8 +184,8 @@ impl Jails {
     /// How many addresses have an open failure in the jail of a name that is later than `findtime` before a moment. 0 where there is no
     /// such jail. It takes time by the addresses that have failures, and no memory.
     pub fn failed_lately(&self, name: &str, now: u64) -> u64
-        requires { self.now.at ≤ now }
-        ensures { result ≡ option_map_or (lately_in now) (find_jail moves_now name.now self.now.jails) 0 }
+        requires { self.now.state.at ≤ now }
+        ensures { result ≡ option_map_or (lately_in now) (find_jail moves_now name.now self.now.state.jails) 0 }
     {
         match jail_of(self.jails.as_slice(), name) {
             Some(jail) => jail.room.failed_lately(&jail.definition, now),
@@ -184,33 +195,43 @@ impl Jails {
 
     /// What is stored of each jail, where no failure is to come.
     pub fn views(&self) -> Result<Seq<JailView>, NoMemory>
-        ensures views { IfOk result (λ views. views ≡ map jail_view self.now.jails) }
-        ensures times { IfOk result (λ views. AllOf (λ (j : JailView). AllOf (λ (f : Failure). f.time ≤ self.now.at) j.failures) views) }
+        ensures views { IfOk result (λ views. views ≡ map jail_view self.now.state.jails) }
+        ensures times { IfOk result (λ views. AllOf (λ (j : JailView). AllOf (λ (f : Failure). f.time ≤ self.now.state.at) j.failures) views) }
     {
         views(self.alloc, self.jails.as_slice())
     }
 
     /// The active bans of each jail.
     pub fn held(&self) -> Result<Vec<JailBans>, NoMemory>
-        ensures { IfOk result (λ all. held_of all.items ≡ held moves_now self.now) }
+        ensures { IfOk result (λ all. held_of all.items ≡ held moves_now self.now.state) }
     {
         active_bans(self.alloc, self.jails.as_slice())
     }
 
-    /// Forgets, in all jails together, the failures of up to `most` addresses that have none which still matters, and gives of how many: a
-    /// caller that calls it now and then gets the memory of a burst back. The state stays as it is. Takes no memory.
+    /// Forgets, in all jails together, the failures of addresses of which none matters any more by the last failure that was counted in
+    /// their jail: of all such addresses, or of `most` of them. Gives of how many. A caller that calls it once a turn gets the memory of a
+    /// burst back once a later failure counts. Where it left nothing to forget it rests for 16 seconds, in which it forgets nothing, so that
+    /// steady failures do not make each turn look at each address. The state stays as it is. Takes no memory.
     pub fn sweep(&mut self, most: u64) -> u64
-        ensures jails { self.new ≡ self.old }
+        ensures jails { self.new ≡ swept most self.old }
+        ensures state { self.new.state ≡ self.old.state }
+        ensures forgotten { self.new.stale + result ≡ self.old.stale }
         ensures most { result ≤ most }
     {
-        sweep_all(self.jails.as_mut_slice(), most)
+        if self.at < self.next_sweep {
+            return 0;
+        }
+        let forgotten = sweep_all(self.jails.as_mut_slice(), most);
+        self.next_sweep = rest_after(forgotten, most, self.at, self.next_sweep);
+        forgotten
     }
 
     /// The jails at a reading, once the bans that are due have ended; tells of them.
     pub fn raised(self, told: &mut Seq<Happening>, secs: u64) -> Result<Jails, NoMemory>
         requires { secs ≤ last_moment }
-        ensures jails { IfOk result (λ jails. jails ≡ at_reading moves_now secs self) }
-        ensures told { OnOk result (told.new ≡ told.old ++ told_each (told_ends moves_now (max self.at secs)) self.jails) }
+        ensures jails { IfOk result (λ jails. jails.state ≡ at_reading moves_now secs self.state) }
+        ensures told { OnOk result (told.new ≡ told.old ++ told_each (told_ends moves_now (max self.state.at secs)) self.state.jails) }
+        ensures rests { IfOk result (λ jails. jails.rests_until ≡ self.rests_until) }
     {
         let Jails {
             alloc,
@@ -218,6 +239,7 @@ impl Jails {
             purge,
             mut jails,
             next_ban,
+            next_sweep,
         } = self;
         let at = at.max(secs);
         end_due_bans(jails.as_mut_slice(), told, at)?;
@@ -227,6 +249,7 @@ impl Jails {
             purge,
             jails,
             next_ban,
+            next_sweep,
         })
     }
 
@@ -238,10 +261,11 @@ impl Jails {
         what: &What,
         word: u64,
     ) -> Result<Jails, NoMemory>
-        requires serial { self.next_ban ≤ 2 ^ 62 }
+        requires serial { self.state.next_ban ≤ 2 ^ 62 }
         requires bounded { IsBoundedWhat what.now }
-        ensures jails { IfOk result (λ jails. jails ≡ at_jail moves_now name.now (acted self.at word what.now) self) }
-        ensures told { OnOk result (told.new ≡ told.old ++ told_in moves_now name.now (told_acted self.at word what.now self.next_ban) self.jails) }
+        ensures jails { IfOk result (λ jails. jails.state ≡ at_jail moves_now name.now (acted self.state.at word what.now) self.state) }
+        ensures told { OnOk result (told.new ≡ told.old ++ told_in moves_now name.now (told_acted self.state.at word what.now self.state.next_ban) self.state.jails) }
+        ensures rests { IfOk result (λ jails. jails.rests_until ≡ self.rests_until) }
     {
         let Jails {
             alloc,
@@ -249,6 +273,7 @@ impl Jails {
             purge,
             mut jails,
             next_ban,
+            next_sweep,
         } = self;
         let stamp = InputStamp {
             at,
@@ -262,6 +287,7 @@ impl Jails {
             purge,
             jails,
             next_ban,
+            next_sweep,
         })
     }
 
@@ -272,8 +298,9 @@ impl Jails {
         name: &Option<Text>,
         addrs: &Option<Seq<Addr>>,
     ) -> Result<Jails, NoMemory>
-        ensures jails { IfOk result (λ jails. jails ≡ each_jail moves_now (λ (j : JailNow). cond (is_meant_jail name.now j.definition) (unbanned moves_now self.at addrs.now j) j) self) }
-        ensures told { OnOk result (told.new ≡ told.old ++ told_each (told_unbanned moves_now name.now addrs.now) self.jails) }
+        ensures jails { IfOk result (λ jails. jails.state ≡ each_jail moves_now (λ (j : JailNow). cond (is_meant_jail name.now j.definition) (unbanned moves_now self.state.at addrs.now j) j) self.state) }
+        ensures told { OnOk result (told.new ≡ told.old ++ told_each (told_unbanned moves_now name.now addrs.now) self.state.jails) }
+        ensures rests { IfOk result (λ jails. jails.rests_until ≡ self.rests_until) }
     {
         let Jails {
             alloc,
@@ -281,6 +308,7 @@ impl Jails {
             purge,
             mut jails,
             next_ban,
+            next_sweep,
         } = self;
         unban_jails(jails.as_mut_slice(), told, name, addrs, at)?;
         Ok(Jails {
@@ -289,16 +317,18 @@ impl Jails {
             purge,
             jails,
             next_ban,
+            next_sweep,
         })
     }
 
     /// The jails after what happened to them alone; tells of it.
     pub fn after(self, told: &mut Seq<Happening>, what: &What, word: u64) -> Result<Jails, NoMemory>
-        requires serial { self.next_ban ≤ 2 ^ 62 }
+        requires serial { self.state.next_ban ≤ 2 ^ 62 }
         requires bounded { IsBoundedWhat what.now }
         requires alone { is_of_jails what.now ≡ true }
-        ensures jails { IfOk result (λ jails. jails ≡ done moves_now word what.now self) }
-        ensures told { OnOk result (told.new ≡ told.old ++ told_done moves_now word what.now self) }
+        ensures jails { IfOk result (λ jails. jails.state ≡ done moves_now word what.now self.state) }
+        ensures told { OnOk result (told.new ≡ told.old ++ told_done moves_now word what.now self.state) }
+        ensures rests { IfOk result (λ jails. jails.rests_until ≡ self.rests_until) }
     {
         if let What::Unban { jail, addrs } = what {
             return self.unbanned(told, jail, addrs);
@@ -313,13 +343,15 @@ impl Jails {
     pub fn configured(self, new: &Defs) -> Result<Jails, NoMemory>
         requires bounded { AllOf IsBounded new.now.jails }
         requires fit { AreFitDefs new.now }
-        ensures { IfOk result (λ jails. jails ≡ done moves_now 0 (Config new.now) self) }
+        ensures jails { IfOk result (λ jails. jails.state ≡ done moves_now 0 (Config new.now) self.state) }
+        ensures rests { IfOk result (λ jails. jails.rests_until ≡ self.rests_until) }
     {
         let Jails {
             alloc,
             at,
             jails,
             next_ban,
+            next_sweep,
             ..
         } = self;
         let jails = configure(alloc, jails, new.jails.as_slice())?;
@@ -329,12 +361,14 @@ impl Jails {
             purge: new.purge,
             jails,
             next_ban,
+            next_sweep,
         })
     }
 
     /// The jails once what is over for long is dropped. Takes no memory.
     pub fn dropped(self) -> Jails
-        ensures { result ≡ each_jail moves_now (dropped_now self.at self.purge) self }
+        ensures jails { result.state ≡ each_jail moves_now (dropped_now self.state.at self.state.purge) self.state }
+        ensures rests { result.rests_until ≡ self.rests_until }
     {
         let Jails {
             alloc,
@@ -342,6 +376,7 @@ impl Jails {
             purge,
             mut jails,
             next_ban,
+            next_sweep,
         } = self;
         drop_old_bans(jails.as_mut_slice(), at, purge);
         Jails {
@@ -350,6 +385,7 @@ impl Jails {
             purge,
             jails,
             next_ban,
+            next_sweep,
         }
     }
 }

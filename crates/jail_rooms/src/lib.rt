@@ -19,5 +19,4 @@ mod shown;
 mod stored;
 mod sweep;
 
-pub use equality::same_defs;
 pub use jails::Jails;

@@ -1,10 +1,15 @@
 //! What no longer matters is forgotten in each jail.
-ghost use Rattle.std.specs.Prelude.{◌≡◌, ◌+◌, ◌<◌, ◌≤◌, ℕ, map};
+ghost use Rattle.std.specs.Prelude.{◌≡◌, ◌+◌, ◌<◌, ◌≤◌, ℕ, cond, map, nat_lt};
+ghost use Rattle.f2b_base.specs.Limits.{last_moment};
 ghost use Rattle.f2b_model.specs.Lists.{AllOf};
 ghost use Rattle.jail_rooms.specs.Kept.{now_of, IsKept};
+ghost use Rattle.jail_rooms.specs.Memory.{sweep_rest};
 ghost use Rattle.jail_rooms.specs.Stale.{stale_count};
 
 use crate::jail::Jail;
+
+/// For how many seconds sweeps rest, once one left nothing to forget.
+const SWEEP_REST: u64 = 16;
 
 /// Forgets the failures of up to `most` addresses that have none which still matters, jail by jail, and gives of how many. Takes no
 /// memory.
@@ -21,4 +26,17 @@ pub fn sweep_all(jails: &mut [Jail], most: u64) -> u64
         left -= forgotten;
     }
     most - left
+}
+
+/// Until when sweeps rest, after one at a moment that forgot the failures of so many addresses, of `most`, where they rested until another
+/// one before: where fewer were forgotten, none is left.
+pub fn rest_after(forgotten: u64, most: u64, at: u64, before: u64) -> u64
+    requires { at ≤ last_moment }
+    ensures { result ≡ cond (nat_lt forgotten most) (at + sweep_rest) before }
+{
+    if forgotten < most {
+        at + SWEEP_REST
+    } else {
+        before
+    }
 }

@@ -1,5 +1,5 @@
 //! The clock of a turn.
-ghost use Rattle.std.specs.Prelude.{◌≡◌, [], IfErr, IfOk};
+ghost use Rattle.std.specs.Prelude.{◌≡◌, [], IfErr, IfOk, Some};
 ghost use Rattle.run_law.specs.Stages.{Brings, BringFails, HasCause, IsSteady, Moves, MoveFails};
 ghost use Rattle.run_law.specs.Turn.{to_logs};
 ghost use Rattle.run_steps.specs.Keeping.{KeepsRunning, news_of};
@@ -55,8 +55,8 @@ fn tick<'f, W: World>(
     world: &mut W,
     running: Running<'f>,
 ) -> Result<Running<'f>, Status>
-    ensures ok { IfOk result (Brings KeepsRunning (W.stands world.old) (W.stands world.new) (news_of [] (Option.Some What.Tick) []) running.entry) }
-    ensures err { IfErr result (BringFails KeepsRunning (W.stands world.old) (W.stands world.new) (news_of [] (Option.Some What.Tick) []) running.entry) }
+    ensures ok { IfOk result (Brings KeepsRunning (W.stands world.old) (W.stands world.new) (news_of [] (Some What.Tick) []) running.entry) }
+    ensures err { IfErr result (BringFails KeepsRunning (W.stands world.old) (W.stands world.new) (news_of [] (Some What.Tick) []) running.entry) }
     ensures cause { IfErr result (HasCause (W.stands world.old) (W.stands world.new)) }
     ensures steady { IsSteady (W.stands world.old) (W.stands world.new) }
     ensures left { IfOk result (λ after. after.left ≡ running.entry.left) }
@@ -83,7 +83,7 @@ fn end_due<'f, W: World>(
 ) -> Result<Running<'f>, Status>
     ensures ok { IfOk result (Brings KeepsRunning (W.stands world.old) (W.stands world.new) (news_of [] (tick_of running.entry.clocked) []) running.entry) }
     ensures err { IfErr result (BringFails KeepsRunning (W.stands world.old) (W.stands world.new) (news_of [] (tick_of running.entry.clocked) []) running.entry) }
-    ensures due { IfErr result (λ status. tick_of running.entry.clocked ≡ Option.Some What.Tick) }
+    ensures due { IfErr result (λ status. tick_of running.entry.clocked ≡ Some What.Tick) }
     ensures cause { IfErr result (HasCause (W.stands world.old) (W.stands world.new)) }
     ensures steady { IsSteady (W.stands world.old) (W.stands world.new) }
     ensures left { IfOk result (λ after. after.left ≡ running.entry.left) }

@@ -11,7 +11,7 @@ use Rattle.jail_core.proofs.state.Core.config_changes.Goals as goal
 pub returns-clause-changes : goal.returns-clause-changes
 returns-clause-changes c =
     let defs : Defs = c.args.defs.now in
-    let n : Now = record { jails = c.self.inside.jails; lanes = c.self.inside.actions } in
+    let n : Now = record { jails = c.self.inside.jails.state; lanes = c.self.inside.actions } in
     let same : IsTrue c.has_defs-same.result ↔ (defs ≡ defs_now n) = c.has_defs-same.ensures in
     let kept : c.stays.result ≡ (c.has_defs-same.result && (not n.lanes.stopping && (not (any_idle n) && are_just (lanes_of defs) n.lanes.up))) =
     c.stays.ensures

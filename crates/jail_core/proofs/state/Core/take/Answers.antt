@@ -14,19 +14,19 @@ use Rattle.jail_core.proofs.state.Core.take.Goals as goal
 
 pub of_parts-core-requires : goal.of_parts-core-requires
 of_parts-core-requires c =
-    let n : Now = record { jails = c.self.inside.jails; lanes = c.self.inside.actions } in
+    let n : Now = record { jails = c.self.inside.jails.state; lanes = c.self.inside.actions } in
     let unspent : is_whole_spent moves_now books_now n ≡ false = ap (is_whole_spent moves_now books_now) c.self.view_is ∙ sym c.spent.ensures ∙ c.if-spent.false in
     subst AreWatched
-    (sym (jails_step_is n c.args.input.now c.in_ok-jails.jails c.in_ok-jails-2.field-0.jails c.dropped-jails.result unspent c.in_ok-jails.ensures.jails c.in_ok-jails-2.ensures.jails
-    c.dropped-jails.ensures))
+    (sym (jails_step_is n c.args.input.now c.in_ok-jails.jails.state c.in_ok-jails-2.field-0.jails.state c.dropped-jails.result.state unspent c.in_ok-jails.ensures.jails c.in_ok-jails-2.ensures.jails
+    c.dropped-jails.ensures.jails))
     (step_watched n.jails c.args.input.now c.self.invariant)
 
 pub returns-clause-core : goal.returns-clause-core
 returns-clause-core c =
     let input = c.args.input.now in
-    let n : Now = record { jails = c.self.inside.jails; lanes = c.self.inside.actions } in
-    let mid : JailsNow = c.in_ok-jails.jails in
-    let after : JailsNow = c.in_ok-jails-2.field-0.jails in
+    let n : Now = record { jails = c.self.inside.jails.state; lanes = c.self.inside.actions } in
+    let mid : JailsNow = c.in_ok-jails.jails.state in
+    let after : JailsNow = c.in_ok-jails-2.field-0.jails.state in
     let unspent : is_whole_spent moves_now books_now n ≡ false = ap (is_whole_spent moves_now books_now) c.self.view_is ∙ sym c.spent.ensures ∙ c.if-spent.false in
     let fresh = fresh_serials n unspent in
     let ends : List Happening = told_each (told_ends moves_now (max n.jails.at input.secs)) n.jails.jails in
@@ -37,16 +37,16 @@ returns-clause-core c =
     ∙ (rw fresh refl) in
     let moment : mid.at ≡ after.at = sym (ap (λ (w : JailsNow). w.at) c.in_ok-jails-2.ensures.jails ∙ done_at input.word input.what mid) in
     c.of_parts-core.ensures.parts
-    ∙ step_is n input mid after c.dropped-jails.result c.after.new.told c.in_ok-jails-2.field-0.actions unspent c.in_ok-jails.ensures.jails c.in_ok-jails-2.ensures.jails
-    c.dropped-jails.ensures told moment c.in_ok-jails-2.ensures.lanes
+    ∙ step_is n input mid after c.dropped-jails.result.state c.after.new.told c.in_ok-jails-2.field-0.actions unspent c.in_ok-jails.ensures.jails c.in_ok-jails-2.ensures.jails
+    c.dropped-jails.ensures.jails told moment c.in_ok-jails-2.ensures.lanes
     ∙ ap (λ (m : Now). step_now m input) c.self.view_is
 
 pub returns-clause-told : goal.returns-clause-told
 returns-clause-told c =
     let input = c.args.input.now in
-    let n : Now = record { jails = c.self.inside.jails; lanes = c.self.inside.actions } in
-    let mid : JailsNow = c.in_ok-jails.jails in
-    let after : JailsNow = c.in_ok-jails-2.field-0.jails in
+    let n : Now = record { jails = c.self.inside.jails.state; lanes = c.self.inside.actions } in
+    let mid : JailsNow = c.in_ok-jails.jails.state in
+    let after : JailsNow = c.in_ok-jails-2.field-0.jails.state in
     let unspent : is_whole_spent moves_now books_now n ≡ false = ap (is_whole_spent moves_now books_now) c.self.view_is ∙ sym c.spent.ensures ∙ c.if-spent.false in
     let fresh = fresh_serials n unspent in
     let ends : List Happening = told_each (told_ends moves_now (max n.jails.at input.secs)) n.jails.jails in
@@ -56,16 +56,16 @@ returns-clause-told c =
     ∙ ap (λ (w : JailsNow). ends ++ told_done moves_now input.word input.what w) c.in_ok-jails.ensures.jails
     ∙ (rw fresh refl) in
     let moment : mid.at ≡ after.at = sym (ap (λ (w : JailsNow). w.at) c.in_ok-jails-2.ensures.jails ∙ done_at input.word input.what mid) in
-    told_is n input mid after c.dropped-jails.result c.after.new.told c.in_ok-jails-2.field-0.told unspent c.in_ok-jails.ensures.jails c.in_ok-jails-2.ensures.jails
-    c.dropped-jails.ensures told moment c.in_ok-jails-2.ensures.news
+    told_is n input mid after c.dropped-jails.result.state c.after.new.told c.in_ok-jails-2.field-0.told unspent c.in_ok-jails.ensures.jails c.in_ok-jails-2.ensures.jails
+    c.dropped-jails.ensures.jails told moment c.in_ok-jails-2.ensures.news
     ∙ ap (λ (m : Now). told_now m input) c.self.view_is
 
 pub returns-clause-storable : goal.returns-clause-storable
 returns-clause-storable c = λ storable taken.
     let input = c.args.input.now in
-    let n : Now = record { jails = c.self.inside.jails; lanes = c.self.inside.actions } in
-    let mid : JailsNow = c.in_ok-jails.jails in
-    let after : JailsNow = c.in_ok-jails-2.field-0.jails in
+    let n : Now = record { jails = c.self.inside.jails.state; lanes = c.self.inside.actions } in
+    let mid : JailsNow = c.in_ok-jails.jails.state in
+    let after : JailsNow = c.in_ok-jails-2.field-0.jails.state in
     let unspent : is_whole_spent moves_now books_now n ≡ false = ap (is_whole_spent moves_now books_now) c.self.view_is ∙ sym c.spent.ensures ∙ c.if-spent.false in
     let fresh = fresh_serials n unspent in
     let ends : List Happening = told_each (told_ends moves_now (max n.jails.at input.secs)) n.jails.jails in
@@ -77,7 +77,7 @@ returns-clause-storable c = λ storable taken.
     let moment : mid.at ≡ after.at = sym (ap (λ (w : JailsNow). w.at) c.in_ok-jails-2.ensures.jails ∙ done_at input.word input.what mid) in
     let is : c.of_parts-core.result ≡ step_now c.args.self input =
     c.of_parts-core.ensures.parts
-    ∙ step_is n input mid after c.dropped-jails.result c.after.new.told c.in_ok-jails-2.field-0.actions unspent c.in_ok-jails.ensures.jails c.in_ok-jails-2.ensures.jails
-    c.dropped-jails.ensures told moment c.in_ok-jails-2.ensures.lanes
+    ∙ step_is n input mid after c.dropped-jails.result.state c.after.new.told c.in_ok-jails-2.field-0.actions unspent c.in_ok-jails.ensures.jails c.in_ok-jails-2.ensures.jails
+    c.dropped-jails.ensures.jails told moment c.in_ok-jails-2.ensures.lanes
     ∙ ap (λ (m : Now). step_now m input) c.self.view_is in
     step_storable c.args.self c.of_parts-core.result input is c.of_parts-core.ensures.few taken storable

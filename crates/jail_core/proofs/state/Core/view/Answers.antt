@@ -12,7 +12,7 @@ use Rattle.jail_core.proofs.state.Core.view.Goals as goal
 
 pub returns-clause-storable : goal.returns-clause-storable
 returns-clause-storable c = λ storable.
-    let n : Now = record { jails = c.self.inside.jails; lanes = c.self.inside.actions } in
+    let n : Now = record { jails = c.self.inside.jails.state; lanes = c.self.inside.actions } in
     let v : View = record {
       at = c.now.result;
       defs = c.in_ok-defs.field-0;

@@ -8,6 +8,7 @@ use Rattle.f2b_model.specs.declared.happening.Happening.{Happening}
 use Rattle.f2b_model.specs.declared.jail_now.JailNow.{JailNow}
 use Rattle.jail_rooms.specs.Acted.{acted, told_acted}
 use Rattle.jail_rooms.specs.Kept.{now_of, IsKept}
+use Rattle.jail_rooms.specs.Memory.{JailsKept}
 use Rattle.jail_rooms.specs.declared.jail.Jail.{Jail}
 use Rattle.jail_rooms.proofs.TakeLemmas.{as_a_whole}
 use Rattle.jail_rooms.proofs.jails.Jails.acted.Goals as goal
@@ -34,7 +35,7 @@ returns-clause-jails c =
     ap (λ (js : List Jail). with_jails (map now_of js)) (as_a_whole c.act_at.new.jails i.jails.items _ (same c) (search rules))
     ∙ ap (λ (o : JailsAndSerial JailNow). with_serial (let w : JailsNow = record { at = i.at; purge = i.purge; jails = map now_of i.jails.items; next_ban = i.next_ban } in w) o)
     (sym (ap (λ (js : List Jail). in_jail moves_now c.args.name.now (f i.at) i.next_ban (map now_of js)) (sym (slice c)) ∙ c.in_ok-next_ban.ensures.jails))
-    ∙ ap (λ (w : JailsNow). at_jail moves_now c.args.name.now (f w.at) w) c.self.view_is
+    ∙ ap (λ (k : JailsKept). at_jail moves_now c.args.name.now (f k.state.at) k.state) c.self.view_is
 
 pub returns-clause-told : goal.returns-clause-told
 returns-clause-told c =
@@ -42,7 +43,7 @@ returns-clause-told c =
     let tell : JailsNow → List Happening = λ w. told_in moves_now c.args.name.now (told_acted w.at c.args.word c.args.what.now w.next_ban) w.jails in
     c.in_ok-next_ban.ensures.told
     ∙ ap (λ (js : List Jail). c.args.told.now ++ tell (record { at = i.at; purge = i.purge; jails = map now_of js; next_ban = i.next_ban })) (slice c)
-    ∙ ap (λ (w : JailsNow). c.args.told.now ++ tell w) c.self.view_is
+    ∙ ap (λ (k : JailsKept). c.args.told.now ++ tell k.state) c.self.view_is
 
 pub invariant_of-result : goal.invariant_of-result
 invariant_of-result c = (

@@ -10,6 +10,7 @@ pub returns-in-Some : goal.returns-in-Some
 returns-in-Some c =
     let named : jail_named c.args.what.now ≡ Some c.in-Some.name.now = sym c.jail_named.ensures ∙ ap option_copied c.in-Some.is in
     record {
-      jails = IfOk-weaker c.acted.result _ _ (λ js is. is ∙ sym (done_in c.args.word c.args.what.now c.args.self c.in-Some.name.now named)) c.acted.ensures.jails;
-      told = on_ok_weaker c.acted.result (λ is. is ∙ ap (λ (r : List Happening). c.args.told.now ++ r) (sym (told_done_in c.args.word c.args.what.now c.args.self c.in-Some.name.now named))) c.acted.ensures.told;
+      jails = IfOk-weaker c.acted.result _ _ (λ js is. is ∙ sym (done_in c.args.word c.args.what.now c.args.self.state c.in-Some.name.now named)) c.acted.ensures.jails;
+      rests = c.acted.ensures.rests;
+      told = on_ok_weaker c.acted.result (λ is. is ∙ ap (λ (r : List Happening). c.args.told.now ++ r) (sym (told_done_in c.args.word c.args.what.now c.args.self.state c.in-Some.name.now named))) c.acted.ensures.told;
     }

@@ -20,12 +20,12 @@ jails_of-requires c =
     let v = c.args.view.now in
     (v.next_ban, are_stored v c.as_slice.result.now c.as_slice-2.result.now c.as_slice.ensures c.as_slice-2.ensures (storable_is_stored v c.requires))
 
-pub returns : goal.returns
-returns c =
+pub returns-clause-jails : goal.returns-clause-jails
+returns-clause-jails c =
     let v = c.args.view.now in
     let jails : map now_of c.in_ok-jails.jails.items ≡ jails_taken_up v.at v.defs.jails v.jails =
     c.in_ok-jails.ensures.jails ∙ ap₂ (jails_taken_up v.at) c.as_slice.ensures c.as_slice-2.ensures in
-    record { jails = ap (λ (js : List JailNow). let w : JailsNow = record { at = v.at; purge = v.defs.purge; jails = js; next_ban = v.next_ban } in w) jails }
+    ap (λ (js : List JailNow). let w : JailsNow = record { at = v.at; purge = v.defs.purge; jails = js; next_ban = v.next_ban } in w) jails
 
 pub invariant_of-result : goal.invariant_of-result
 invariant_of-result c =

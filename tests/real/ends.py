@@ -1,0 +1,130 @@
+"""Each way to end that a user can bring about, with its status."""
+
+import os
+import resource
+import signal
+
+from room import as_nobody, failures, same, write
+
+USAGE = ["ERROR usage"]
+
+
+def help_is_asked_for(room):
+    """--help and --version are answered with their text, and status 0"""
+    status, said, errors = room.run("--help")
+    same((status, said[:28], errors), (0, "Usage: fail2ban-server --con", ""), "help")
+    status, said, errors = room.run("--version")
+    same((status, said[:16], said.count("\n"), errors), (0, "fail2ban-server ", 1, ""), "version")
+
+
+def words_are_wrong(room):
+    """words that the help does not have are usage, status 2, also such that are no UTF-8"""
+    conf = room.conf
+    for words in [
+        [],
+        ["--conf"],
+        ["--conf", ""],
+        [conf],
+        ["--conf", conf, "--turns"],
+        ["--conf", conf, "--turns", "0"],
+        ["--conf", conf, "--turns", "07"],
+        ["--conf", conf, "--turns", "18446744073709551616"],
+        ["--turns", "1", "--conf", conf],
+        ["--conf", conf, "--turns", "1", "more"],
+        ["--conf", b"\xff"],
+        [b"--version\xff"],
+    ]:
+        room.ends(2, USAGE, *words)
+
+
+def turns_are_made(room):
+    """a server that made its turns ends with status 0"""
+    room.ends(0, ["INFO Server ready"], "--conf", room.conf, "--turns", "2")
+
+
+def configuration_is_not_read(room):
+    """a configuration that is not there, is a file, or may not be read is status 3"""
+    said = ["ERROR configuration not read"]
+    room.ends(3, said, "--conf", room.path("missing"))
+    room.ends(3, said, "--conf", room.path("conf/jail.conf"))
+    os.chmod(room.path("conf/jail.conf"), 0)
+    room.ends(3, said, "--conf", room.conf, **as_nobody())
+    os.chmod(room.path("conf/jail.conf"), 0o644)
+    os.chmod(room.conf, 0)
+    room.ends(3, said, "--conf", room.conf, **as_nobody())
+    os.chmod(room.conf, 0o755)
+
+
+def configuration_is_refused(room):
+    """a configuration that is refused is status 4, with its file, section, item and kind"""
+    room.configure(bantime="soon")
+    said = ["ERROR Configuration refused: jail.conf [web] bantime: BadTime"]
+    room.ends(4, said, "--conf", room.conf)
+
+
+def pattern_is_refused(room):
+    """a pattern that is none, or is too big, is status 11"""
+    room.configure(more="    (<ADDR>\n")
+    room.ends(11, ["ERROR Pattern refused: web failregex 2 Syntax"], "--conf", room.conf)
+    room.configure(more="    <ADDR>\\pL{900}\n")
+    room.ends(11, ["ERROR Pattern refused: web failregex 2 TooBig"], "--conf", room.conf)
+
+
+def jail_has_an_action(room):
+    """a jail with an action is status 13"""
+    room.configure(more="action = note\n")
+    os.mkdir(room.path("conf/action.d"))
+    write(room.path("conf/action.d/note.conf"), "[Definition]\nactionban = true\n")
+    room.ends(13, ["ERROR not built"], "--conf", room.conf)
+
+
+def memory_runs_out(room):
+    """a server that finds no memory ends with status 71, and says nothing"""
+    # The program with checks asks for far more room than it uses, so there the size of one piece is limited.
+    with open(room.program, "rb") as file:
+        is_checked = b"AddressSanitizer" in file.read()
+    if is_checked:
+        limits = {"ASAN_OPTIONS": "allocator_may_return_null=1:max_allocation_size_mb=4"}
+        how = {"env": {**os.environ, **limits}}
+    else:
+        how = {"preexec_fn": lambda: resource.setrlimit(resource.RLIMIT_AS, (6 << 20, 6 << 20))}
+    status, said, _warnings = room.run("--conf", room.conf, **how)
+    same((status, said), (71, ""), "want of memory")
+
+
+def a_signal_ends(room):
+    """each signal that ends ends at once, with the lines so far whole; a pipe's does nothing"""
+    for number in [signal.SIGTERM, signal.SIGINT, signal.SIGHUP, signal.SIGQUIT, signal.SIGUSR1, signal.SIGALRM]:
+        with room.server() as server:
+            server.signal(signal.SIGPIPE)
+            server.turn()
+            write(room.log, failures("192.0.2.7"), "a")
+            server.wait_said("INFO [web] Found 192.0.2.7")
+            server.signal(number)
+            server.wait_ended(-number)
+            same(server.text()[-1:], "\n", "the last byte")
+        os.remove(room.log)
+
+
+def a_stop_and_go_on(room):
+    """a server that is stopped and goes on finds what was written meanwhile"""
+    with room.server() as server:
+        server.turn()
+        server.signal(signal.SIGSTOP)
+        write(room.log, failures("192.0.2.7"), "a")
+        server.signal(signal.SIGCONT)
+        server.wait_said("INFO [web] Found 192.0.2.7")
+
+
+CHECKS = [
+    help_is_asked_for,
+    words_are_wrong,
+    turns_are_made,
+    configuration_is_not_read,
+    configuration_is_refused,
+    pattern_is_refused,
+    jail_has_an_action,
+    memory_runs_out,
+    a_signal_ends,
+    a_stop_and_go_on,
+]

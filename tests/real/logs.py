@@ -1,0 +1,232 @@
+"""Real logs: rotated, cut, replaced, unreadable, and with bytes of any kind."""
+
+import os
+
+from room import as_nobody, failures, same, want, write
+
+READY = "INFO Server ready"
+
+
+def found(address):
+    return f"INFO [web] Found {address}"
+
+
+def rotated(room):
+    return f"INFO [web] rotated {room.log}"
+
+
+def unread(room):
+    return f"WARNING [web] cannot read {room.log}"
+
+
+def line_becomes_whole(room):
+    """a line that is written in pieces is found once, when its line feed comes"""
+    line = failures("192.0.2.7")
+    with room.server() as server:
+        for piece in [line[:7], line[7:-1]]:
+            write(room.log, piece, "a")
+            server.turn()
+            same(server.said(), [READY], "said")
+        write(room.log, line[-1:], "a")
+        server.wait_said(found("192.0.2.7"))
+        server.turn()
+        same(server.said(), [READY, found("192.0.2.7")], "said")
+
+
+def log_is_moved_away(room):
+    """a log that is moved away is followed on where a new one stands, however often, and no file is kept open"""
+    write(room.log, failures("192.0.2.1", "192.0.2.1"))
+    with room.server() as server:
+        server.wait_said(found("192.0.2.1"), 2)
+        server.turn()
+        files = server.files()
+        wanted = server.said()
+        for number in range(2, 12):
+            os.rename(room.log, room.log + ".1")
+            server.turn()
+            write(room.log, failures(f"192.0.2.{number}", "192.0.2.100"))
+            server.wait_said(found(f"192.0.2.{number}"))
+            wanted += [rotated(room), found(f"192.0.2.{number}")]
+            wanted += [found("192.0.2.100")] if number < 5 else []
+            wanted += ["NOTICE [web] Ban 192.0.2.100"] if number == 4 else []
+        server.turn()
+        same(server.said(), wanted, "said")
+        same(server.files(), files, "files that are open")
+
+
+def log_is_cut(room):
+    """a log that is cut in place is read anew, and what was found in it before counts once"""
+    write(room.log, failures("192.0.2.1", "192.0.2.2", "192.0.2.3"))
+    with room.server() as server:
+        server.wait_said(found("192.0.2.3"))
+        server.turn()
+        os.truncate(room.log, 0)
+        server.wait_said(rotated(room))
+        write(room.log, failures("192.0.2.4"), "a")
+        server.wait_said(found("192.0.2.4"))
+        same(server.count(found("192.0.2.1")), 1, "failures of the log that was cut")
+
+
+def log_is_replaced(room):
+    """a log that is replaced by a longer one with another beginning is read from its start"""
+    write(room.log, failures("192.0.2.1"))
+    with room.server() as server:
+        server.wait_said(found("192.0.2.1"))
+        server.turn()
+        write(room.path("next"), "another beginning\n" + failures("192.0.2.2", "192.0.2.3"))
+        os.rename(room.path("next"), room.log)
+        server.wait_said(found("192.0.2.3"))
+        same(server.said(), [READY, found("192.0.2.1"), rotated(room), found("192.0.2.2"), found("192.0.2.3")], "said")
+
+
+def log_is_not_there(room):
+    """of a log that is not there nothing is said, and it is found when it comes, and when its directory comes"""
+    room.configure(log=room.path("later/web.log"))
+    with room.server() as server:
+        server.turn()
+        os.mkdir(room.path("later"))
+        server.turn()
+        write(room.path("later/web.log"), failures("192.0.2.7"))
+        server.wait_said(found("192.0.2.7"))
+        os.rename(room.path("later"), room.path("gone"))
+        server.turn()
+        same(server.said(), [READY, found("192.0.2.7")], "said")
+
+
+def log_may_not_be_read(room):
+    """a log that may not be read is said, and goes on when it may, with what was written meanwhile"""
+    write(room.log, failures("192.0.2.1"))
+    write(room.path("probe.log"), "")
+    with room.server(**as_nobody()) as server:
+        server.wait_said(found("192.0.2.1"))
+        os.chmod(room.log, 0)
+        server.wait_said(unread(room))
+        server.wait_said(unread(room), 3)
+        if os.geteuid() == 0:
+            write(room.log, failures("192.0.2.2"), "a")
+        os.chmod(room.log, 0o644)
+        write(room.log, failures("192.0.2.3"), "a")
+        server.wait_said(found("192.0.2.3"))
+        same(server.count(found("192.0.2.2")), 1 if os.geteuid() == 0 else 0, "failures meanwhile")
+        same(server.count(found("192.0.2.1")), 1, "failures before")
+
+
+def log_is_of_another_kind(room):
+    """a directory, a pipe, a device and a link in a circle in a log's place are said, and nothing waits for them"""
+    places = [
+        lambda: os.mkdir(room.log),
+        lambda: os.mkfifo(room.log),
+        lambda: os.symlink("/dev/zero", room.log),
+        lambda: os.symlink(room.log, room.log),
+    ]
+    for number, place in enumerate(places):
+        place()
+        with room.server() as server:
+            server.wait_said(unread(room), 2)
+            server.turn()
+            (os.rmdir if number == 0 else os.remove)(room.log)
+            server.turn()
+            write(room.log, failures("192.0.2.7"))
+            server.wait_said(found("192.0.2.7"))
+        os.remove(room.log)
+
+
+def log_is_a_link(room):
+    """a log that is a link is what it leads to, also when it leads elsewhere or nowhere"""
+    write(room.path("a"), failures("192.0.2.1"))
+    write(room.path("b"), "another beginning\n" + failures("192.0.2.2"))
+    os.symlink("a", room.log)
+    with room.server() as server:
+        server.wait_said(found("192.0.2.1"))
+        server.turn()
+        os.remove(room.log)
+        os.symlink("nowhere", room.log)
+        server.turn()
+        os.remove(room.log)
+        os.symlink("b", room.log)
+        server.wait_said(found("192.0.2.2"))
+        same(server.said(), [READY, found("192.0.2.1"), rotated(room), found("192.0.2.2")], "said")
+
+
+def tail_begins_at_the_end(room):
+    """a log with tail is followed from where it ends at the first look"""
+    room.configure(log=room.log + " tail")
+    write(room.log, failures("192.0.2.1"))
+    with room.server() as server:
+        server.turn()
+        write(room.log, failures("192.0.2.2"), "a")
+        server.wait_said(found("192.0.2.2"))
+        same(server.said(), [READY, found("192.0.2.2")], "said")
+
+
+def long_log(room):
+    """of a log of many looks each line is found once, in its order"""
+    addresses = [f"198.51.{number // 250}.{number % 250 + 1}" for number in range(10_000)]
+    write(room.log, failures(*addresses))
+    with room.server() as server:
+        server.wait_said(found(addresses[-1]))
+        said = server.said()
+        same(len(said), 10_001, "lines")
+        want(said[1:] == [found(address) for address in addresses], "the lines are not in the log's order")
+
+
+def log_is_large(room):
+    """a log of more than four GiB is followed at its end"""
+    room.configure(log=room.log + " tail")
+    write(room.log, "nothing\n")
+    os.truncate(room.log, 5 << 30)
+    with room.server() as server:
+        server.turn()
+        write(room.log, "\n" + failures("192.0.2.7"), "a")
+        server.wait_said(found("192.0.2.7"))
+        same(server.said(), [READY, found("192.0.2.7")], "said")
+
+
+def line_is_long(room):
+    """a line of more than 65,536 bytes is missed, and the next one found"""
+    line = failures("192.0.2.1")
+    now = line.split(" ", 1)[0]
+    with room.server() as server:
+        server.turn()
+        write(room.log, now + " " * 65_537 + line[len(now) :] + failures("192.0.2.2"), "a")
+        server.wait_said(found("192.0.2.2"))
+        same(server.said(), [READY, found("192.0.2.2")], "said")
+
+
+def bytes_are_no_text(room):
+    """an address is found among bytes that are no UTF-8, a NUL and a CR"""
+    room.configure(more="    ^ name \\S+ from <ADDR> \\S+$\n")
+    now = failures("x").split(" ", 1)[0].encode()
+    with room.server() as server:
+        write(room.log, now + b" name \xff\xfe\x80 from 192.0.2.1 \xc3\r\n", "a")
+        write(room.log, now + b" name a\x00b from 2001:db8::2 \xe2\x82\n", "a")
+        server.wait_said(found("192.0.2.1"))
+        server.wait_said(found("2001:db8::2"))
+
+
+def bans_begin_and_end(room):
+    """three failures ban an address once, later ones of it are not said, and the ban ends"""
+    room.configure(bantime=5)
+    with room.server() as server:
+        write(room.log, failures(*["192.0.2.7"] * 5), "a")
+        server.wait_said("NOTICE [web] Unban 192.0.2.7")
+        wanted = [READY, *[found("192.0.2.7")] * 3, "NOTICE [web] Ban 192.0.2.7", "NOTICE [web] Unban 192.0.2.7"]
+        same(server.said(), wanted, "said")
+
+
+CHECKS = [
+    line_becomes_whole,
+    log_is_moved_away,
+    log_is_cut,
+    log_is_replaced,
+    log_is_not_there,
+    log_may_not_be_read,
+    log_is_of_another_kind,
+    log_is_a_link,
+    tail_begins_at_the_end,
+    long_log,
+    log_is_large,
+    line_is_long,
+    bytes_are_no_text,
+    bans_begin_and_end,
+]

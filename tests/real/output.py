@@ -1,0 +1,98 @@
+"""Standard output that is closed, full, slow or gone."""
+
+import fcntl
+import os
+import resource
+import subprocess
+import time
+
+from room import failures, same, wait_for, want, write
+
+# A pipe holds so many bytes at least.
+PAGE = 4_096
+
+
+def output_is_full(room):
+    """where the disk of standard output is full the server ends with status 9, also after --help"""
+    for words in [["--conf", room.conf], ["--help"], ["--version"], []]:
+        with open("/dev/full", "wb") as full:
+            status, _said, errors = room.run(*words, stdout=full)
+        same((status, errors), (9, ""), f"{words}")
+
+
+def output_becomes_full(room):
+    """where the disk of standard output becomes full in the middle of some lines the server ends with status 9"""
+    write(room.log, failures(*[f"192.0.2.{number}" for number in range(1, 101)]))
+
+    def limit():
+        resource.setrlimit(resource.RLIMIT_FSIZE, (200, 200))
+
+    # The signal of that limit stays ignored, as it is here, so that writes end as on a full disk.
+    with open(room.path("said"), "wb") as said:
+        status, _said, errors = room.run(*room.words()[1:], stdout=said, preexec_fn=limit, restore_signals=False)
+    same((status, errors), (9, ""), "end")
+    same(os.path.getsize(room.path("said")), 200, "bytes that were written")
+
+
+def output_is_closed(room):
+    """where standard output is closed at the start the server ends with status 9, and writes into no file"""
+    write(room.log, failures("192.0.2.7"))
+    for words in [["--conf", room.conf], ["--version"]]:
+        status, _said, errors = room.run(*words, stdout=None, preexec_fn=lambda: os.close(1))
+        same((status, errors), (9, ""), f"{words}")
+    same(os.path.getsize(room.log), len(failures("192.0.2.7")), "bytes of the log")
+
+
+def reader_has_gone(room):
+    """where nobody reads the pipe any more the server ends with status 9, and not by a signal"""
+    process = subprocess.Popen(room.words(), stdin=subprocess.DEVNULL, stdout=subprocess.PIPE)
+    try:
+        want(process.stdout.readline().endswith(b" INFO Server ready\n"), "no first line")
+        process.stdout.close()
+        write(room.log, failures("192.0.2.7"), "a")
+        wait_for(lambda: process.poll() is not None, "the end")
+        same(process.returncode, 9, "status")
+    finally:
+        process.kill()
+        process.wait()
+
+
+def reader_is_slow(room):
+    """where the reader of a pipe is slow the server waits, and each line comes whole and in order"""
+    addresses = [f"198.51.{number // 250}.{number % 250 + 1}" for number in range(10_000)]
+    process = subprocess.Popen(room.words(), stdin=subprocess.DEVNULL, stdout=subprocess.PIPE)
+    try:
+        fcntl.fcntl(process.stdout, getattr(fcntl, "F_SETPIPE_SZ", 1031), PAGE)
+        want(process.stdout.readline().endswith(b" INFO Server ready\n"), "no first line")
+        write(room.log, failures(*addresses), "a")
+        time.sleep(2)
+        said = b""
+        while said.count(b"\n") < len(addresses):
+            piece = os.read(process.stdout.fileno(), PAGE)
+            want(piece, f"the server ended with {process.poll()}")
+            said += piece
+        found = [line.split(" ", 1)[1] for line in said.decode().splitlines()]
+        want(found == [f"INFO [web] Found {address}" for address in addresses], "lines are lost, cut or in another order")
+        write(room.log, failures("192.0.2.7"), "a")
+        want(process.stdout.readline().endswith(b" INFO [web] Found 192.0.2.7\n"), "no line behind the others")
+    finally:
+        process.kill()
+        process.wait()
+
+
+def input_is_closed(room):
+    """a server whose standard input and errors are closed runs as any other"""
+    def close():
+        os.close(0)
+        os.close(2)
+
+    write(room.log, failures("192.0.2.7"))
+    with open(room.path("said"), "wb") as said:
+        process = subprocess.Popen(room.words("--turns", "2"), stdout=said, stdin=None, stderr=None, preexec_fn=close)
+        same(process.wait(), 0, "status")
+    with open(room.path("said"), encoding="utf-8") as said:
+        lines = [line.split(" ", 1)[1] for line in said.read().splitlines()]
+    same(lines, ["INFO Server ready", "INFO [web] Found 192.0.2.7"], "said")
+
+
+CHECKS = [output_is_full, output_becomes_full, output_is_closed, reader_has_gone, reader_is_slow, input_is_closed]

@@ -1,0 +1,219 @@
+"""A server that is run over a folder of its own, and what the checks of real.py ask of it."""
+
+import contextlib
+import os
+import subprocess
+import tempfile
+import time
+
+# How many seconds a check waits for what has to come while nothing else comes, on a machine that is busy with other work.
+PATIENCE = 180
+
+# A user that may read only what all may.
+NOBODY = 65534
+
+JAIL = """\
+[web]
+enabled = true
+logpath = {log}
+ignoreself = false
+datepattern = Epoch
+findtime = 600
+maxretry = {maxretry}
+bantime = {bantime}
+failregex = ^ fail from <ADDR>$
+"""
+
+# A jail that is looked at behind the other one. A failure that a check writes to its log tells how far the server is.
+PROBE = """
+[probe]
+enabled = true
+logpath = {log}
+ignoreself = false
+datepattern = Epoch
+failregex = ^ fail from <ADDR>$
+maxretry = 100000
+"""
+
+
+class Failed(Exception):
+    """What a check saw in place of what it wanted."""
+
+
+class Skipped(Exception):
+    """Why a check cannot be made here."""
+
+
+def want(holds, saw):
+    if not holds:
+        raise Failed(saw)
+
+
+def same(saw, wanted, what):
+    want(saw == wanted, f"{what}: {saw!r} and not {wanted!r}")
+
+
+def wait_for(holds, what, so_far=lambda: None):
+    """Waits until the condition holds, for as long as something comes. `so_far` tells what has come."""
+    last, end = so_far(), time.monotonic() + PATIENCE
+    while not holds():
+        now = so_far()
+        if now != last:
+            last, end = now, time.monotonic() + PATIENCE
+        want(time.monotonic() < end, f"{what}: nothing within {PATIENCE} s, behind {last!r}")
+        time.sleep(0.02)
+
+
+def write(path, content, mode="w"):
+    """Writes text, or bytes, in one call."""
+    data = content if isinstance(content, bytes) else content.encode()
+    with open(path, mode + "b", buffering=0) as file:
+        file.write(data)
+
+
+def failures(*addresses):
+    """A line for each address, dated now."""
+    now = int(time.time())
+    return "".join(f"{now} fail from {address}\n" for address in addresses)
+
+
+def as_nobody():
+    """How to start a program that may read only what all may: root reads all."""
+    if os.geteuid() != 0:
+        return {}
+    how = {"user": NOBODY, "group": NOBODY, "extra_groups": []}
+    try:
+        subprocess.run(["true"], check=True, **how)
+    except OSError as why:
+        raise Skipped("root may not start a program as another user here") from why
+    return how
+
+
+class Room:
+    """A folder with a configuration and a log, both readable by all, and the programs to be run over them."""
+
+    def __init__(self, program, tester, place):
+        self.program = program
+        self.tester = tester
+        self.place = place
+        self.conf = os.path.join(place, "conf")
+        self.log = os.path.join(place, "web.log")
+        os.mkdir(self.conf)
+        os.chmod(place, 0o755)
+        self.configure()
+
+    def configure(self, log=None, maxretry=3, bantime=60, more=""):
+        text = JAIL.format(log=log or self.log, maxretry=maxretry, bantime=bantime)
+        probe = PROBE.format(log=self.path("probe.log"))
+        write(self.path("conf/jail.conf"), text + more + probe)
+
+    def path(self, name):
+        return os.path.join(self.place, name)
+
+    def words(self, *more):
+        return [self.program, "--conf", self.conf, *more]
+
+    def run(self, *words, program=None, **how):
+        """Runs the server, or another program, with these words to its end, and gives its status, what it said and its errors."""
+        with tempfile.TemporaryFile() as errors:
+            how = {"stdin": subprocess.DEVNULL, "stdout": subprocess.PIPE, "stderr": errors, **how}
+            try:
+                ended = subprocess.run([program or self.program, *words], timeout=PATIENCE, check=False, **how)
+            except subprocess.TimeoutExpired as late:
+                raise Failed(f"did not end within {PATIENCE} s") from late
+            errors.seek(0)
+            said = (ended.stdout or b"").decode()
+            return ended.returncode, said, errors.read().decode()
+
+    def ends(self, status, said, *words, **how):
+        """Runs the program to its end, and wants this status and these lines, but for the second of each, and no errors."""
+        saw, text, errors = self.run(*words, **how)
+        same(saw, status, f"status, behind {text!r} {errors[:2000]!r}")
+        same([line.split(" ", 1)[-1] for line in text.splitlines()], said, "said")
+        same(errors, "", "standard error")
+
+    @contextlib.contextmanager
+    def server(self, *more, **how):
+        """A server that runs, and is ended by the signal that ends without a word."""
+        server = Server(self, more, how)
+        try:
+            server.wait_said("INFO Server ready")
+            yield server
+            same(server.errors(), "", "standard error")
+        finally:
+            server.end()
+
+
+class Server:
+    """A server that runs, whose lines go into a file."""
+
+    def __init__(self, room, more, how):
+        self.said_in = tempfile.TemporaryFile()
+        self.errors_in = tempfile.TemporaryFile()
+        how = {"stdin": subprocess.DEVNULL, "stdout": self.said_in, "stderr": self.errors_in, **how}
+        self.process = subprocess.Popen(room.words(*more), **how)
+        self.pid = self.process.pid
+        self.probe = room.path("probe.log")
+        self.probes = 0
+
+    def end(self):
+        if self.process.returncode is None:
+            self.process.kill()
+            self.process.wait()
+        self.said_in.close()
+        self.errors_in.close()
+
+    def text(self):
+        return os.pread(self.said_in.fileno(), 1 << 28, 0).decode()
+
+    def errors(self):
+        return os.pread(self.errors_in.fileno(), 1 << 16, 0).decode()
+
+    def whole_lines(self):
+        return [line.split(" ", 1)[1] for line in self.text().split("\n")[:-1]]
+
+    def said(self):
+        """The whole lines so far, without their seconds, and without those of probes."""
+        return [line for line in self.whole_lines() if "[probe]" not in line]
+
+    def count(self, line):
+        return self.whole_lines().count(line)
+
+    def wait_said(self, line, times=1):
+        """Waits until the line was said so many times, by a server that runs on."""
+
+        def is_there():
+            if self.count(line) >= times:
+                return True
+            ended = self.process.poll()
+            want(ended is None, f"ended with {ended}, behind {self.text()[-2000:]!r} {self.errors()[:2000]!r}")
+            return False
+
+        wait_for(is_there, f"{line!r} {times} times", lambda: self.text()[-500:])
+
+    def wait_ended(self, status):
+        """Waits until the server ended by itself, and wants this status."""
+        wait_for(lambda: self.process.poll() is not None, "the end")
+        same(self.process.returncode, status, f"status, behind {self.text()[-500:]!r}")
+
+    def moment(self, line):
+        """The second at which the line was said first."""
+        for each in self.text().splitlines():
+            second, text = each.split(" ", 1)
+            if text == line:
+                return int(second)
+        raise Failed(f"{line!r} was not said")
+
+    def signal(self, number):
+        self.process.send_signal(number)
+
+    def files(self):
+        return len(os.listdir(f"/proc/{self.pid}/fd"))
+
+    def turn(self):
+        """Waits until all logs were looked at once more: a turn that finds the second failure began behind the first."""
+        for _ in range(2):
+            self.probes += 1
+            address = f"198.18.{self.probes // 250}.{self.probes % 250 + 1}"
+            write(self.probe, failures(address), "a")
+            self.wait_said(f"INFO [probe] Found {address}")
