@@ -1,8 +1,10 @@
 mod RowJails
 mod StartRows
+mod ChildRows
 mod TreeRows
 mod TurnRows
 pub mod PointLemmas
+pub mod EntryLemmas
 pub mod StageLemmas
 pub mod SaidLemmas
 pub mod CauseLemmas

@@ -13,15 +13,15 @@ use Rattle.f2b_model.specs.Whole.{State, Now, now_of}
 use Rattle.f2b_model.specs.declared.jail_now.JailNow.{JailNow}
 use Rattle.f2b_world.specs.Told.{Standing, Called}
 use Rattle.f2b_world.specs.declared.event.Event.TheVariants.{Clock}
-use Rattle.log_set.specs.Logs.{next_look}
 use Rattle.run_law.specs.Clock.{tick_news}
 use Rattle.run_law.specs.Law.{Goes}
 use Rattle.run_law.specs.News.{brings, nothing, only}
 use Rattle.run_law.specs.Points.{AtClock, Run}
-use Rattle.run_law.specs.Server.{Server, is_stopping, log_jails, read_at}
-use Rattle.run_law.specs.Stages.{Brings, BringFails, IsAt, IsSaying, Moves, MoveFails}
-use Rattle.run_law.specs.Turn.{look_point, to_accept, to_children, to_end, to_logs, to_looks, to_starts}
+use Rattle.run_law.specs.Server.{Server, read_at}
+use Rattle.run_law.specs.Stages.{Brings, BringFails, IsAt, Moves, MoveFails}
+use Rattle.run_law.specs.Turn.{to_logs}
 use Rattle.run_law.specs.declared.status.Status.{Status}
+use Rattle.run_law.proofs.EntryLemmas.{saying_logs}
 use Rattle.run_law.proofs.JailLemmas.{tick_jails}
 use Rattle.run_law.proofs.PointLemmas.{turn_goes}
 use Rattle.run_law.proofs.StageLemmas.{brings_same, fails_same, halts_bringing, reaches_brought}
@@ -73,20 +73,7 @@ read_keeps before mid answer s reads keeps = record {
 }
 
 running_read : (before : Running) (mid : Clocked) (answer : Reading) (s : Server) → ReadsAt before.clocked answer mid → KeepsRunning s before → KeepsRunning (read_at answer s) (clocked_as before mid)
-running_read before mid answer s reads keeps = record { clocked = read_keeps before.clocked mid answer s reads keeps.clocked; logs = keeps.logs; left = keeps.left }
-
-saying_looks : (o : Option ℕ) (s : Server) → IsSaying (look_point o s)
-unfolding to_children to_accept to_starts to_end
-saying_looks None s = tt
-saying_looks (Some i) s = tt
-
-saying_either : (stopping : Bool) (s : Server) → IsSaying (cond stopping (to_children s) (to_looks 0 s))
-saying_either true s = saying_looks None s
-saying_either false s = saying_looks (next_look 0 (log_jails s) s.logs) s
-
-saying_logs : (s : Server) → IsSaying (to_logs s)
-unfolding to_logs
-saying_logs s = saying_either (is_stopping s) s
+running_read before mid answer s reads keeps = record { clocked = read_keeps before.clocked mid answer s reads keeps.clocked; logs = keeps.logs; children = keeps.children; left = keeps.left }
 
 module _ (a b c : Standing) (answer : Reading) (before : Running) (mid : Clocked) (what : Option What) (call : Called a (Clock answer) b) (reads : ReadsAt before.clocked answer mid) (is : what ≡ tick_of mid) where
   -- the clock leads to what a tick brings

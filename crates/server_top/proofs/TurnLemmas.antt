@@ -4,7 +4,7 @@ use Rattle.f2b_world.specs.Told.{Standing}
 use Rattle.run_law.specs.Points.{Point}
 use Rattle.run_law.specs.Server.{Server}
 use Rattle.run_law.specs.Stages.{Moves, MoveFails}
-use Rattle.run_law.specs.Turn.{to_accept, to_children, to_end, to_starts}
+use Rattle.run_law.specs.Turn.{to_accept, to_starts}
 use Rattle.run_law.specs.declared.status.Status.{Status}
 use Rattle.run_law.proofs.StageLemmas.{move_fails_on, moves_none, moves_trans}
 use Rattle.run_steps.specs.Keeping.{KeepsRunning}
@@ -13,10 +13,10 @@ use Rattle.run_steps.specs.declared.running.Running.{Running}
 pub turn_none : (a : Standing) (from : Server → Point) (kept : Running) → Moves KeepsRunning a a from from kept kept
 turn_none a from kept = moves_none KeepsRunning a from kept
 
--- behind the looks comes the pause
-pub turn_looked : (a b : Standing) (from : Server → Point) (before after : Running) → Moves KeepsRunning a b from to_children before after → Moves KeepsRunning a b from to_end before after
-unfolding to_children to_accept to_starts
-turn_looked a b from before after moves = moves
+-- as long as there are no clients, the commands to start come behind those that run
+pub turn_polled : (a b : Standing) (from : Server → Point) (before after : Running) → Moves KeepsRunning a b from to_accept before after → Moves KeepsRunning a b from to_starts before after
+unfolding to_accept
+turn_polled a b from before after moves = moves
 
 pub turn_on : (a b c : Standing) (from mid to : Server → Point) (before between after : Running) → Moves KeepsRunning a b from mid before between → Moves KeepsRunning b c mid to between after
     → Moves KeepsRunning a c from to before after
@@ -26,4 +26,4 @@ pub turn_fails_on : (a b c : Standing) (from mid : Server → Point) (before bet
     → MoveFails KeepsRunning a c from before status
 turn_fails_on a b c from mid before between status p q = move_fails_on KeepsRunning a b c from mid before between status p q
 
-pub ruleset turning = (turn_none, turn_looked, turn_on, turn_fails_on)
+pub ruleset turning = (turn_none, turn_polled, turn_on, turn_fails_on)

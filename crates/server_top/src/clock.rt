@@ -56,6 +56,7 @@ pub fn read_clock<'f, W: World>(
     let Running {
         clocked,
         logs,
+        children,
         left,
     } = running;
     let reading = world.clock();
@@ -65,6 +66,7 @@ pub fn read_clock<'f, W: World>(
     Ok(Running {
         clocked,
         logs,
+        children,
         left,
     })
 }

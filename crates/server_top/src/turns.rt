@@ -8,15 +8,16 @@ ghost use Rattle.server_top.specs.Ticks.{at_clock};
 
 use crate::clock::read_clock;
 use crate::pause::{last_pause, pause};
-use f2b_world::World;
+use f2b_world::{Children, World};
 use run_law::Status;
 use run_steps::Running;
 use std::alloc::Global;
+use turn_children::{poll_children, start_children};
 use turn_logs::look_at_logs;
 
-// What a turn does before its pause: the clock, and the logs.
+// What a turn does before its pause: the clock, the logs, the commands that run, and those that are to be started.
 #[tactic(auto, using(crate::proofs::TurnLemmas::turning, run_law::proofs::CauseLemmas::counting))]
-fn work<'f, W: World>(
+fn work<'f, W: World + Children>(
     alloc: Global,
     world: &mut W,
     running: Running<'f>,
@@ -29,12 +30,14 @@ fn work<'f, W: World>(
 {
     let running = read_clock(alloc, world, running)?;
     let running = look_at_logs(alloc, world, running)?;
+    let running = poll_children(alloc, world, running)?;
+    let running = start_children(alloc, world, running)?;
     Ok(running)
 }
 
 // A turn that is not the last.
 #[tactic(auto, using(crate::proofs::TurnLemmas::turning, run_law::proofs::CauseLemmas::counting))]
-fn turn<'f, W: World>(
+fn turn<'f, W: World + Children>(
     alloc: Global,
     world: &mut W,
     running: Running<'f>,
@@ -52,7 +55,7 @@ fn turn<'f, W: World>(
 
 // The last turn.
 #[tactic(auto, using(crate::proofs::TurnLemmas::turning))]
-fn last_turn<W: World>(alloc: Global, world: &mut W, running: Running<'_>) -> Result<(), Status>
+fn last_turn<W: World + Children>(alloc: Global, world: &mut W, running: Running<'_>) -> Result<(), Status>
     requires { running.left ≡ 1 }
     ensures ok { OnOk result (MoveFails KeepsRunning (W.stands world.old) (W.stands world.new) at_clock running.entry AllTurns) }
     ensures err { IfErr result (MoveFails KeepsRunning (W.stands world.old) (W.stands world.new) at_clock running.entry) }
@@ -65,7 +68,7 @@ fn last_turn<W: World>(alloc: Global, world: &mut W, running: Running<'_>) -> Re
 
 /// Makes the turns that are left, and ends the run.
 #[tactic(auto, using(crate::proofs::TurnLemmas::turning, run_law::proofs::CauseLemmas::counting))]
-pub fn make_turns<W: World>(alloc: Global, world: &mut W, first: Running<'_>) -> Result<(), Status>
+pub fn make_turns<W: World + Children>(alloc: Global, world: &mut W, first: Running<'_>) -> Result<(), Status>
     requires { 1 ≤ first.left }
     ensures ok { OnOk result (MoveFails KeepsRunning (W.stands world.old) (W.stands world.new) at_clock first.entry AllTurns) }
     ensures err { IfErr result (MoveFails KeepsRunning (W.stands world.old) (W.stands world.new) at_clock first.entry) }
