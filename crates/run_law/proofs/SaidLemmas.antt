@@ -31,21 +31,21 @@ use Rattle.run_law.specs.Law.{Free, Ends, IsOver, MayCome, begin, begin_with, ca
 use Rattle.run_law.specs.Looks.{log_call, look_news, look_taken, looked, looked_at, now_is, unread_news}
 use Rattle.run_law.specs.News.{News, brings, brings_by, entered}
 use Rattle.run_law.specs.Paths.{Path, Naming, first_naming, named, with_paths}
-use Rattle.run_law.specs.Patterns.{Pattern, is_any_action}
+use Rattle.run_law.specs.Patterns.{Pattern}
 use Rattle.run_law.specs.Points.{Place, AtClock, AtLook, AtPoll, AtKill, AtStart, AtPause, Point, AtTree, AtMakes, AtFirst, AtNames, AtTurn, Over, Run}
 use Rattle.run_law.specs.Polls.{end_news, ended_as, gone, has_succeeded, killed_at, polled_at}
 use Rattle.run_law.specs.Said.{joined}
 use Rattle.run_law.specs.Served.{SaysAll, SaysInOrder, lines_by, run_after, said_by}
 use Rattle.run_law.specs.Server.{Server, begun, is_spent, read_at}
 use Rattle.run_law.specs.Stages.{IsSaying}
-use Rattle.run_law.specs.Start.{accepted, defined, first_turn, made, make_call, makes_on, names_call, names_in, start_news, to_names, tree_read, unread_by}
+use Rattle.run_law.specs.Start.{defined, first_turn, made, make_call, makes_on, names_call, names_in, start_news, to_names, tree_read, unread_by}
 use Rattle.run_law.specs.Starts.{child_started, without_child}
 use Rattle.run_law.specs.Turn.{to_logs, to_looks, to_polls, to_starts}
 use Rattle.run_law.specs.Words.{plan_of}
 use Rattle.run_law.proofs.PointLemmas.{paid_call, saying_call}
 use Rattle.run_law.specs.declared.plan.Plan.{Plan}
 use Rattle.run_law.specs.declared.status.Status.{Status}
-use Rattle.run_law.specs.declared.status.Status.TheVariants.{Stopped, TurnsSpent, WorkloadDone, Usage, ConfFault, ConfRefused, DiskFault, NotAJournal, JournalFull, GateFault, SinkFault, ConfTooLarge, PatternRefused, NumbersSpent, NotBuilt, NoMemory}
+use Rattle.run_law.specs.declared.status.Status.TheVariants.{Stopped, TurnsSpent, WorkloadDone, Usage, ConfFault, ConfRefused, DiskFault, NotAJournal, JournalFull, GateFault, SinkFault, ConfTooLarge, PatternRefused, NumbersSpent, NoMemory}
 
 -- ---- an event that is no say leaves what was said
 
@@ -62,12 +62,8 @@ pub brings_says : (news : News) (next : Server → Point) (s : Server) (r : Run)
 unfolding brings
 brings_says news next s r = brings_by_says news.what news next s r
 
-accepted_says : (action : Bool) (settings : Settings) (r : Run) → (accepted action settings r).said ≡ r.said
-accepted_says true settings r = refl
-accepted_says false settings r = refl
-
 defined_says : (o : Result Settings ConfError) (r : Run) → (defined o r).said ≡ r.said
-defined_says (Ok settings) r = accepted_says (is_any_action settings.defs) settings r
+defined_says (Ok settings) r = refl
 defined_says (Err error) r = refl
 
 tree_says : (answer : TreeAnswer) (r : Run) → (tree_read answer r).said ≡ r.said
@@ -195,7 +191,6 @@ owed_call plan (Over SinkFault) line lines = inl refl
 owed_call plan (Over ConfTooLarge) line lines = inr refl
 owed_call plan (Over (PatternRefused jail place kind)) line lines = inr refl
 owed_call plan (Over NumbersSpent) line lines = inr refl
-owed_call plan (Over NotBuilt) line lines = inr refl
 owed_call plan (Over NoMemory) line lines = inr refl
 
 -- what is said is all that is owed
@@ -293,7 +288,6 @@ says_all words SinkFault es st over = tt
 says_all words ConfTooLarge es st over = over_all words ConfTooLarge es tt st over
 says_all words (PatternRefused jail place kind) es st over = over_all words (PatternRefused jail place kind) es tt st over
 says_all words NumbersSpent es st over = over_all words NumbersSpent es tt st over
-says_all words NotBuilt es st over = over_all words NotBuilt es tt st over
 says_all words NoMemory es st over = tt
 
 whole : (es : List Event) → take (length es) es ≡ es

@@ -9,7 +9,7 @@ use Rattle.run_law.specs.Stages.{HasCause, Refuses}
 use Rattle.run_law.specs.Words.{plan_of}
 use Rattle.run_law.specs.declared.plan.Plan.{Plan}
 use Rattle.run_law.specs.declared.status.Status.{Status}
-use Rattle.run_law.specs.declared.status.Status.TheVariants.{Stopped, TurnsSpent, WorkloadDone, Usage, ConfFault, ConfRefused, DiskFault, NotAJournal, JournalFull, GateFault, SinkFault, ConfTooLarge, PatternRefused, NumbersSpent, NotBuilt, NoMemory}
+use Rattle.run_law.specs.declared.status.Status.TheVariants.{Stopped, TurnsSpent, WorkloadDone, Usage, ConfFault, ConfRefused, DiskFault, NotAJournal, JournalFull, GateFault, SinkFault, ConfTooLarge, PatternRefused, NumbersSpent, NoMemory}
 use Rattle.run_law.proofs.PointLemmas.{halts_here}
 use Rattle.run_law.proofs.SaidLemmas.{says_in_order}
 
@@ -61,7 +61,6 @@ caused words old new SinkFault cause = cause
 caused words old new ConfTooLarge cause = cause
 caused words old new (PatternRefused jail place kind) cause = cause
 caused words old new NumbersSpent cause = cause
-caused words old new NotBuilt cause = cause
 caused words old new NoMemory cause = cause
 
 pub ruleset running = (run_memory)

@@ -33,7 +33,7 @@ use Rattle.run_law.specs.Clock.{tick_news}
 use Rattle.run_law.specs.Law.{Free, Ends, IsOver, MayCome, call_of, feed, moved, opening, point_call, turns}
 use Rattle.run_law.specs.Looks.{log_call, look_news, look_taken, looked, looked_at, now_is, unread_news}
 use Rattle.run_law.specs.News.{News, after_news, brings, brings_by, entered, goes_to, lines_in, owing, refused, server_after}
-use Rattle.run_law.specs.Patterns.{Pattern, is_any_action, patterns_of}
+use Rattle.run_law.specs.Patterns.{Pattern, patterns_of}
 use Rattle.run_law.specs.Paths.{Path, Naming, first_naming, named, with_paths}
 use Rattle.run_law.specs.Pause.{paused, turned}
 use Rattle.run_law.specs.Polls.{end_news, ended_as, gone, gone_passed, has_succeeded, killed_at, polled_at, still_point}
@@ -41,14 +41,14 @@ use Rattle.run_law.specs.Points.{Place, AtClock, AtLook, AtPoll, AtKill, AtStart
 use Rattle.run_law.specs.Refusals.{status_lines}
 use Rattle.run_law.specs.Served.{CountsTurns, pauses_in}
 use Rattle.run_law.specs.Server.{Server, begun, is_spent, is_stopping, jobs, lanes_up, log_jails, read_at}
-use Rattle.run_law.specs.Start.{accepted, defined, first_turn, made, make_call, makes_on, names_call, names_in, start_news, to_makes, to_names, tree_read, unread_by}
+use Rattle.run_law.specs.Start.{defined, first_turn, made, make_call, makes_on, names_call, names_in, start_news, to_makes, to_names, tree_read, unread_by}
 use Rattle.run_law.specs.Starts.{child_started, with_child, without_child}
 use Rattle.run_law.specs.Turn.{look_point, start_place, start_point, to_accept, to_children, to_end, to_logs, to_looks, to_polls, to_starts}
 use Rattle.run_law.proofs.PointLemmas.{paid_call}
 use Rattle.run_law.proofs.SaidLemmas.{pause_next}
 use Rattle.run_law.specs.declared.plan.Plan.{Plan}
 use Rattle.run_law.specs.declared.status.Status.{Status}
-use Rattle.run_law.specs.declared.status.Status.TheVariants.{Stopped, TurnsSpent, WorkloadDone, Usage, ConfFault, ConfRefused, DiskFault, NotAJournal, JournalFull, GateFault, SinkFault, ConfTooLarge, PatternRefused, NumbersSpent, NotBuilt, NoMemory}
+use Rattle.run_law.specs.declared.status.Status.TheVariants.{Stopped, TurnsSpent, WorkloadDone, Usage, ConfFault, ConfRefused, DiskFault, NotAJournal, JournalFull, GateFault, SinkFault, ConfTooLarge, PatternRefused, NumbersSpent, NoMemory}
 
 -- ---- where the entries of a turn lead: to a place of it, with the same server
 
@@ -165,12 +165,8 @@ module _ (all : ℕ) (some : 1 ≤ all) (r : Run) (plan : r.plan.turns ≡ all) 
   makes_fits settings [] = record { plan = plan; point = refl; paid = tt }
   makes_fits settings (p ∷ ps) = record { plan = plan; point = refl; paid = tt }
 
-  accepted_fits : (action : Bool) (settings : Settings) → Fits all 0 (accepted action settings r)
-  accepted_fits true settings = refused_fits NotBuilt early tt
-  accepted_fits false settings = makes_fits settings (patterns_of settings.defs)
-
   defined_fits : (o : Result Settings ConfError) → Fits all 0 (defined o r)
-  defined_fits (Ok settings) = accepted_fits (is_any_action settings.defs) settings
+  defined_fits (Ok settings) = makes_fits settings (patterns_of settings.defs)
   defined_fits (Err error) = refused_fits (ConfRefused error) early tt
 
   tree_fits : (answer : TreeAnswer) → Fits all 0 r → Fits all 0 (tree_read answer r)
@@ -361,7 +357,6 @@ say_sooner all made some plan (Over SinkFault) owed event point paid next = poin
 say_sooner all made some plan (Over ConfTooLarge) owed event point paid next = point
 say_sooner all made some plan (Over (PatternRefused jail place kind)) owed event point paid next = point
 say_sooner all made some plan (Over NumbersSpent) owed event point paid next = point
-say_sooner all made some plan (Over NotBuilt) owed event point paid next = point
 say_sooner all made some plan (Over NoMemory) owed event point paid next = point
 
 paid_none : (p : Point) → IsPaid p []
@@ -414,7 +409,6 @@ over_fits all made SinkFault other point = point
 over_fits all made ConfTooLarge other point = point
 over_fits all made (PatternRefused jail place kind) other point = point
 over_fits all made NumbersSpent other point = point
-over_fits all made NotBuilt other point = point
 over_fits all made NoMemory other point = point
 
 ends_over : (status : Status) (r : Run) → status ≢ NoMemory → Ends status r → r.point ≡ Over status
@@ -433,7 +427,6 @@ ends_over SinkFault r loud ends = ends.point
 ends_over ConfTooLarge r loud ends = ends.point
 ends_over (PatternRefused jail place kind) r loud ends = ends.point
 ends_over NumbersSpent r loud ends = ends.point
-ends_over NotBuilt r loud ends = ends.point
 
 -- a run that was planned ends for its turns exactly where it has made as many pauses
 pub counts_turns : (plan : Plan) (status : Status) (g : History) (es : List Event) → 1 ≤ plan.turns → Along feed MayCome Free (opening plan) g es → Ends status (after feed MayCome Free (opening plan) es)

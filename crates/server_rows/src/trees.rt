@@ -99,7 +99,7 @@ const ROWS: [Row; 8] = [
         status: 0,
         said: "1700001000 INFO Server ready\n1700001000 INFO [web] Found 192.0.2.7\n1700001000 INFO [web] rotated /log/web\n1700001000 INFO [web] Found 192.0.2.9\n",
     },
-    // No command is run yet.
+    // A command that ends well is run without a word.
     Row {
         conf: &[
             (
@@ -114,8 +114,8 @@ const ROWS: [Row; 8] = [
         ],
         changes: &[],
         fails: &[],
-        status: 13,
-        said: "0 ERROR not built\n",
+        status: 0,
+        said: "1700001000 INFO Server ready\n",
     },
     // The first fault of a tree is told, and the file that has it.
     Row {
