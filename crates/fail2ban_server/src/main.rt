@@ -6,6 +6,7 @@
 #![tactic(auto)]
 
 mod clock;
+mod commands;
 mod fault;
 mod look;
 mod names;
@@ -37,7 +38,12 @@ fn main(rt: HostRuntime) -> ExitCode {
         Ok(Call::Help) => print(&rt, words::HELP),
         Ok(Call::Version) => print(&rt, words::VERSION),
         Ok(Call::Server(words)) => {
-            server(rt.alloc(), words.as_slice(), &mut RealWorld::new(rt)).number()
+            let alloc = rt.alloc();
+            let errors = rt.stderr();
+            let mut world = RealWorld::new(rt, errors);
+            let status = server(alloc, words.as_slice(), &mut world).number();
+            world.end_commands();
+            status
         }
         Err(_) => NO_MEMORY,
     })

@@ -3,52 +3,66 @@
 //! It tells no history. It counts its faults, and each call keeps what the traits of the outside say of it.
 
 use crate::clock;
+use crate::commands::Commands;
 use crate::fault::Fault;
 use crate::look::look_at;
 use crate::names::list_names;
 use crate::tree::{TreeFault, read_tree};
 use f2b_base::{FileLook, Reading, TreeAnswer};
 use f2b_world::{
-    Configuration, Directories, Faults, Logs, Look, Made, NamesAnswer, Outside, Patterns, Said,
-    Sink, Time, World, build_pattern, raised,
+    Children, Configuration, Directories, Faults, Logs, Look, Made, NamesAnswer, Outside, Patterns,
+    PollAnswer, Said, Sink, StartAnswer, Time, World, build_pattern, raised,
 };
 use std::alloc::AllocGlobal;
+use std::env::Env;
 use std::io::Print;
-use std::rt::Files;
+use std::process::Processes;
+use std::rt::{Files, Stderr};
 use std::time::Clock;
 
 /// The operating system.
 #[derive(Drop)]
 pub struct RealWorld<R>
 where
-    R: Files + Clock + Print + AllocGlobal + Clone + Drop,
+    R: Files + Clock + Print + Env + Processes + AllocGlobal + Clone + Drop,
 {
     rt: R,
     faults: Faults,
     /// The last reading of the clock, 0 and 0 where there was none.
     last: Reading,
+    /// Where the commands write.
+    errors: Stderr,
+    commands: Commands<R::Started>,
     /// Whether a look since the last pause gave as many bytes as it was asked for, so that there may be more to read at once.
     is_behind: bool,
 }
 
 impl<R> RealWorld<R>
 where
-    R: Files + Clock + Print + AllocGlobal + Clone + Drop,
+    R: Files + Clock + Print + Env + Processes + AllocGlobal + Clone + Drop,
 {
-    /// A world without a fault so far.
-    pub fn new(rt: R) -> RealWorld<R> {
+    /// A world without a fault so far, whose commands write to standard error.
+    pub fn new(rt: R, errors: Stderr) -> RealWorld<R> {
+        let commands = Commands::new(rt.alloc());
         RealWorld {
             rt,
+            errors,
+            commands,
             faults: Faults::NONE,
             last: Reading { secs: 0, word: 0 },
             is_behind: false,
         }
     }
+
+    /// Ends the commands that still run.
+    pub fn end_commands(&mut self) {
+        self.commands.kill_all(&self.rt);
+    }
 }
 
 impl<R> Outside for RealWorld<R>
 where
-    R: Files + Clock + Print + AllocGlobal + Clone + Drop,
+    R: Files + Clock + Print + Env + Processes + AllocGlobal + Clone + Drop,
 {
     ghost use Rattle.std.specs.Prelude.{None};
     ghost use Rattle.fail2ban_server.specs.Counted.{counts};
@@ -58,7 +72,7 @@ where
 
 impl<R> Sink for RealWorld<R>
 where
-    R: Files + Clock + Print + AllocGlobal + Clone + Drop,
+    R: Files + Clock + Print + Env + Processes + AllocGlobal + Clone + Drop,
 {
     /// Writes to standard output, at once.
     fn say(&mut self, bytes: &[u8]) -> Said {
@@ -74,7 +88,7 @@ where
 
 impl<R> Patterns for RealWorld<R>
 where
-    R: Files + Clock + Print + AllocGlobal + Clone + Drop,
+    R: Files + Clock + Print + Env + Processes + AllocGlobal + Clone + Drop,
 {
     fn make(&mut self, text: &str) -> Made {
         let made = build_pattern(self.rt.alloc(), text);
@@ -87,25 +101,36 @@ where
 
 impl<R> Time for RealWorld<R>
 where
-    R: Files + Clock + Print + AllocGlobal + Clone + Drop,
+    R: Files + Clock + Print + Env + Processes + AllocGlobal + Clone + Drop,
 {
     fn clock(&mut self) -> Reading {
         self.last = clock::read_clock(&self.rt, self.last);
         self.last
     }
 
-    /// Ends at once where a look since the last pause was full, so that a long log is read as fast as it can be searched.
+    /// Ends at once where a look since the last pause was full, so that a long log is read as fast as it can be searched, and as soon as
+    /// a command has ended, so that its lane goes on.
     fn pause(&mut self, ms: u32) {
-        if !self.is_behind {
-            clock::sleep(&self.rt, ms);
+        if self.is_behind {
+            self.is_behind = false;
+            return;
         }
-        self.is_behind = false;
+        if self.commands.is_empty() {
+            clock::sleep(&self.rt, ms);
+            return;
+        }
+        for _ in 0..ms {
+            if self.commands.has_ended() {
+                return;
+            }
+            clock::sleep(&self.rt, 1);
+        }
     }
 }
 
 impl<R> Configuration for RealWorld<R>
 where
-    R: Files + Clock + Print + AllocGlobal + Clone + Drop,
+    R: Files + Clock + Print + Env + Processes + AllocGlobal + Clone + Drop,
 {
     fn config(&mut self, root: &str) -> TreeAnswer {
         match read_tree(&self.rt, root) {
@@ -122,7 +147,7 @@ where
 
 impl<R> Logs for RealWorld<R>
 where
-    R: Files + Clock + Print + AllocGlobal + Clone + Drop,
+    R: Files + Clock + Print + Env + Processes + AllocGlobal + Clone + Drop,
 {
     fn look(&mut self, path: &str, head: u32, from: u64, max: u32) -> Look {
         match look_at(&self.rt, path, head, from, max) {
@@ -144,7 +169,7 @@ where
 
 impl<R> Directories for RealWorld<R>
 where
-    R: Files + Clock + Print + AllocGlobal + Clone + Drop,
+    R: Files + Clock + Print + Env + Processes + AllocGlobal + Clone + Drop,
 {
     fn names(&mut self, dir: &str) -> NamesAnswer {
         match list_names(&self.rt, dir) {
@@ -159,9 +184,37 @@ where
     }
 }
 
+impl<R> Children for RealWorld<R>
+where
+    R: Files + Clock + Print + Env + Processes + AllocGlobal + Clone + Drop,
+{
+    fn child_start(&mut self, job: u64, text: &str) -> StartAnswer {
+        match self.commands.start(&self.rt, self.errors, job, text) {
+            Ok(()) => StartAnswer::Started,
+            Err(Fault::NoMemory) => StartAnswer::NoMemory,
+            Err(Fault::Absent | Fault::Failed) => {
+                self.faults.children = raised(self.faults.children);
+                StartAnswer::Failed
+            }
+        }
+    }
+
+    fn child_poll(&mut self, job: u64) -> PollAnswer {
+        let answer = self.commands.poll(job);
+        if let PollAnswer::Failed = answer {
+            self.faults.children = raised(self.faults.children);
+        }
+        answer
+    }
+
+    fn child_kill(&mut self, job: u64) {
+        self.commands.kill(&self.rt, job);
+    }
+}
+
 impl<R> World for RealWorld<R>
 where
-    R: Files + Clock + Print + AllocGlobal + Clone + Drop,
+    R: Files + Clock + Print + Env + Processes + AllocGlobal + Clone + Drop,
 {}
 
 /// Whether a look gave as many bytes as it was asked for.

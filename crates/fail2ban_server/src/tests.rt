@@ -37,7 +37,7 @@ fn looks_at_files(rt: HostRuntime) -> Result<(), Fail> {
     let place = folder(&rt, "looks")?;
     let log = within(&rt, &place, "log")?;
     fs::write(&rt, log.as_str(), "0123456789")?;
-    let mut world = RealWorld::new(rt.clone()?);
+    let mut world = RealWorld::new(rt.clone()?, rt.stderr());
     let Look::File(seen) = world.look(log.as_str(), 64, 7, 4) else {
         return Err(Fail::from("no file"));
     };
@@ -76,7 +76,7 @@ fn reads_the_files_of_a_configuration(rt: HostRuntime) -> Result<(), Fail> {
         fs::write(&rt, within(&rt, &place, file)?.as_str(), file)?;
     }
     symlink(&rt, "nowhere", within(&rt, &place, "link.conf")?.as_str())?;
-    let mut world = RealWorld::new(rt.clone()?);
+    let mut world = RealWorld::new(rt.clone()?, rt.stderr());
     let answer = world.config(place.as_str());
     assert_eq!(rt;
         paths(&rt, &answer)?.as_str(),
@@ -92,7 +92,7 @@ fn reads_the_files_of_a_configuration(rt: HostRuntime) -> Result<(), Fail> {
 fn refuses_more_bytes_than_a_configuration_may_have(rt: HostRuntime) -> Result<(), Fail> {
     let place = folder(&rt, "bytes")?;
     let path = within(&rt, &place, "a.conf")?;
-    let mut world = RealWorld::new(rt.clone()?);
+    let mut world = RealWorld::new(rt.clone()?, rt.stderr());
     let file = fs::File::create(&rt, path.as_str())?;
     file.set_len(16_777_216)?;
     assert!(rt; matches!(world.config(place.as_str()), TreeAnswer::Tree(_)));
@@ -109,7 +109,7 @@ fn lists_the_names_of_a_directory(rt: HostRuntime) -> Result<(), Fail> {
     for file in ["b", "a2", "a10"] {
         fs::write(&rt, within(&rt, &place, file)?.as_str(), file)?;
     }
-    let mut world = RealWorld::new(rt.clone()?);
+    let mut world = RealWorld::new(rt.clone()?, rt.stderr());
     let NamesAnswer::Names(names) = world.names(place.as_str()) else {
         return Err(Fail::from("no names"));
     };
