@@ -7,6 +7,7 @@ pub mod PointLemmas
 pub mod EntryLemmas
 pub mod StageLemmas
 pub mod SaidLemmas
+pub mod StartedLemmas
 pub mod CauseLemmas
 pub mod ServeLemmas
 pub mod TurnLemmas

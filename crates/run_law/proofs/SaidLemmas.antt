@@ -209,6 +209,13 @@ pause_next plan point (line ∷ lines) ms next =
     let P : Option Call → Type 0 = λ c. IsNext c (Pause ms) in
     elim (owed_call plan point line lines) [ inl none ↦ absurd (subst P none next) | inr says ↦ absurd (subst P says next) ]
 
+-- so does a start of a command
+pub start_next : (plan : Plan) (point : Point) (owed : List (List ℕ)) (job : ℕ) (text : List ℕ) (answer : StartAnswer) → IsNext (call_of plan point owed) (ChildStart job text answer) → owed ≡ []
+start_next plan point [] job text answer next = refl
+start_next plan point (line ∷ lines) job text answer next =
+    let P : Option Call → Type 0 = λ c. IsNext c (ChildStart job text answer) in
+    elim (owed_call plan point line lines) [ inl none ↦ absurd (subst P none next) | inr says ↦ absurd (subst P says next) ]
+
 -- ---- lines that were said
 
 -- so much was said
@@ -243,7 +250,7 @@ walk r said g (event ∷ es) st along (suc k) =
     let P : List ℕ → Type 0 = λ b. Stands (after feed MayCome Free (feed r event) (take k es)) b in
     subst P (append_assoc said (said_by (event ∷ [])) (said_by (take k es)) ∙ ap (λ b. said ++ b) (sym (said_on event (take k es)))) rest
 
-may_at : (r : Run) (g : History) (es : List Event) (k : ℕ) (event : Event) → Along feed MayCome Free r g es → slice_get es k ≡ Some event → MayCome (after feed MayCome Free r (take k es)) event
+pub may_at : (r : Run) (g : History) (es : List Event) (k : ℕ) (event : Event) → Along feed MayCome Free r g es → slice_get es k ≡ Some event → MayCome (after feed MayCome Free r (take k es)) event
 may_at r g [] k event along is = absurd (cc)
 may_at r g (first ∷ es) zero event along is = let same : first ≡ event = cc in let P : Event → Type 0 = λ e. MayCome r e in subst P same along.0.allowed
 may_at r g (first ∷ es) (suc k) event along is = may_at (feed r first) (grown g (first ∷ [])) es k event along.1 is
