@@ -1,5 +1,5 @@
 -- What is started next, by what the code keeps.
-use Rattle.std.proofs.Common.{ℕ, ◌≡◌, ◌<◌, ◌≤◌, Bool, true, false, nat_lt, List, length, Option, Some, None, refl, sym, ap, ◌∙◌, subst}
+use Rattle.std.proofs.Common.{ℕ, ◌≡◌, ◌<◌, ◌≤◌, Bool, true, false, cond, List, length, Option, Some, None, refl, sym, ap, ◌∙◌, subst}
 use Rattle.std.specs.Prelude.{option_map}
 use Rattle.std.proofs.lemmas.Bool.{lt-ltb, le-ltb}
 use Rattle.f2b_base.specs.declared.job.Job.{Job}
@@ -50,31 +50,43 @@ no_place : (now : ℕ) (job : Job) (lane : Option UpLane) (o : Option Launch) �
 no_place now job None o is none = refl
 no_place now job (Some lane) o is none = absurd (let e : None ≡ Some (start_place now job (Some lane)) = ap (option_map place_of) (sym none) ∙ is in cc)
 
+-- what is started for a job, by whether a check has passed for this try
+abbrev place_if : Running → Job → Bool → Place
+place_if kept job passed = start_place kept.clocked.now job (cond passed None (check_of kept.clocked.core.lanes.up job.id kept.clocked.core.lanes.jobs))
+
 module _ (kept : Running) (job : Job) (passed : Bool) (passed_is : passed ≡ has_passed job.id kept.children) where
   -- a check has passed for this try
   pub launch_passed : (p : Place) → passed ≡ true → p ≡ start_place kept.clocked.now job None → p ≡ place_for kept job
-  launch_passed p yes is = rw (sym passed_is ∙ yes) is
+  launch_passed p yes is = is ∙ ap (place_if kept job) (sym yes ∙ passed_is)
 
   module _ (no : passed ≡ false) (o : Option Launch)
       (is : option_map place_of o ≡ option_map (λ (u : UpLane). start_place kept.clocked.now job (Some u)) (check_of kept.clocked.core.lanes.up job.id kept.clocked.core.lanes.jobs)) where
     pub launch_checked : (l : Launch) → o ≡ Some l → place_of l ≡ place_for kept job
-    launch_checked l some = rw (sym passed_is ∙ no) (same_place kept.clocked.now job (check_of kept.clocked.core.lanes.up job.id kept.clocked.core.lanes.jobs) o l is some)
+    launch_checked l some =
+        same_place kept.clocked.now job (check_of kept.clocked.core.lanes.up job.id kept.clocked.core.lanes.jobs) o l is some ∙ ap (place_if kept job) (sym no ∙ passed_is)
 
     pub launch_unchecked : (p : Place) → o ≡ None → p ≡ start_place kept.clocked.now job None → p ≡ place_for kept job
-    launch_unchecked p none at = rw (sym passed_is ∙ no) (at ∙ no_place kept.clocked.now job (check_of kept.clocked.core.lanes.up job.id kept.clocked.core.lanes.jobs) o is none)
+    launch_unchecked p none at =
+        at ∙ no_place kept.clocked.now job (check_of kept.clocked.core.lanes.up job.id kept.clocked.core.lanes.jobs) o is none ∙ ap (place_if kept job) (sym no ∙ passed_is)
 
 pub ruleset launching = (launch_passed, launch_checked, launch_unchecked)
 
 -- ---- the next one
 
+-- the job that comes next, by whether there is room
+abbrev job_if : Running → Bool → Option Job
+job_if kept room = cond room (next_due kept.clocked.now (jobs_of kept.children.running) kept.clocked.core.lanes.jobs) None
+
 module _ (kept : Running) where
   -- there is no room
   pub next_full : most_children ≤ length kept.children.running → None ≡ next_start kept
-  next_full full = rw (le-ltb (length kept.children.running) most_children full) refl
+  next_full full = ap (λ (b : Bool). option_map (place_for kept) (job_if kept b)) (sym (le-ltb (length kept.children.running) most_children full))
 
   module _ (room : length kept.children.running < most_children) (jobs : List ℕ) (jobs_are : jobs ≡ jobs_of kept.children.running) where
     due_is : next_job kept ≡ next_due kept.clocked.now jobs kept.clocked.core.lanes.jobs
-    due_is = rw (lt-ltb (length kept.children.running) most_children room) (ap (λ (js : List ℕ). next_due kept.clocked.now js kept.clocked.core.lanes.jobs) (sym jobs_are))
+    due_is =
+        ap (job_if kept) (lt-ltb (length kept.children.running) most_children room)
+        ∙ ap (λ (js : List ℕ). next_due kept.clocked.now js kept.clocked.core.lanes.jobs) (sym jobs_are)
 
     pub next_found : (job : Job) (p : Place) → next_due kept.clocked.now jobs kept.clocked.core.lanes.jobs ≡ Some job → p ≡ place_for kept job → Some p ≡ next_start kept
     next_found job p due is = ap (λ (q : Place). Some q) is ∙ ap (option_map (place_for kept)) (sym (due_is ∙ due))

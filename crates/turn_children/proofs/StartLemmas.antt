@@ -1,5 +1,5 @@
 -- The start of one child: how the run goes on over it, and why starts come to an end.
-use Rattle.std.proofs.Common.{ℕ, ◌≡◌, ◌+◌, ◌-◌, ◌<◌, ◌≤◌, Bool, true, false, cond, not, nat_lt, List, [], ◌∷◌, length, Option, Some, None, refl, sym, ap, ◌∙◌, subst, arith}
+use Rattle.std.proofs.Common.{ℕ, ◌≡◌, ◌+◌, ◌-◌, ◌<◌, ◌≤◌, ◌&&◌, ◌==◌, Bool, true, false, not, nat_le, nat_lt, List, [], ◌∷◌, length, Option, Some, None, refl, sym, ap, ◌∙◌, subst, arith}
 use Rattle.std.specs.Prelude.{option_map, find}
 use Rattle.std.specs.List.{list_any}
 use Rattle.std.proofs.lemmas.Bool.{and_parts, ltb-true}
@@ -9,8 +9,8 @@ use Rattle.f2b_base.specs.declared.job.UpLane.{UpLane}
 use Rattle.f2b_model.specs.Checks.{check_of}
 use Rattle.f2b_model.specs.Jobs.{AreById, is_head, next_due}
 use Rattle.f2b_model.specs.Lists.{placed}
-use Rattle.f2b_model.specs.Starts.{checks_left, jobs_then, tries_left}
-use Rattle.f2b_model.specs.Whole.{Now}
+use Rattle.f2b_model.specs.Starts.{checks_left, jobs_then, tries_left, unchecked, unstarted}
+use Rattle.f2b_model.specs.Whole.{Now, step_now}
 use Rattle.f2b_model.proofs.ListLemmas.{by_test}
 use Rattle.f2b_model.proofs.StartLemmas.{starts_end}
 use Rattle.f2b_world.specs.Told.{Asked, Called, Standing, start_event}
@@ -79,10 +79,15 @@ not_true : (b : Bool) → not b ≡ true → b ≡ false
 not_true true is = absurd (let e : false ≡ true = is in cc)
 not_true false is = refl
 
+-- the first of its lane, due, and not running
+abbrev may_start : ℕ → List ℕ → List Job → Job → Bool
+may_start now running jobs job = is_head jobs job && (nat_le job.due now && not (list_any (λ id. id == job.id) running))
+
 not_running : (now : ℕ) (running : List ℕ) (jobs : List Job) (job : Job) → next_due now running jobs ≡ Some job → has job.id running ≡ false
 not_running now running jobs job due =
-    let passes = found_passes _ jobs job due in
-    not_true (has job.id running) (and_parts _ _ (and_parts _ _ passes).1).1
+    let passes : may_start now running jobs job ≡ true = found_passes (may_start now running jobs) jobs job due in
+    let waits : not (has job.id running) ≡ true = (and_parts (nat_le job.due now) (not (has job.id running)) (and_parts (is_head jobs job) (nat_le job.due now && not (has job.id running)) passes).1).1 in
+    not_true (has job.id running) waits
 
 -- the child is for that job
 child_is : (now : ℕ) (job : Job) (lane : Option UpLane) (child : Child) (text : List ℕ) → start_place now job lane ≡ AtStart child text → child.job ≡ job.id
@@ -109,8 +114,10 @@ pub start_apart : (kept : Running) (child : Child) (text : List ℕ) → next_st
 start_apart kept child text is =
     let of = start_of kept child text is in
     let due = (due_of kept.clocked.now kept.children kept.clocked.core.lanes.jobs of.job of.next).1 in
-    let same = child_is kept.clocked.now of.job _ child text of.place in
-    rw same (not_running kept.clocked.now (jobs_of kept.children.running) kept.clocked.core.lanes.jobs of.job due)
+    let first = checked_first kept.children kept.clocked.core.lanes.up kept.clocked.core.lanes.jobs of.job.id in
+    let same = child_is kept.clocked.now of.job first child text of.place in
+    let P : ℕ → Type 0 = λ id. has id (jobs_of kept.children.running) ≡ false in
+    subst P (sym same) (not_running kept.clocked.now (jobs_of kept.children.running) kept.clocked.core.lanes.jobs of.job due)
 
 -- ---- where a run stands that may start a child
 
@@ -269,14 +276,16 @@ module _ (before mid after : Running) (launch : Launch) (next : next_start befor
       let P : ℕ → Type 0 = λ id. Makes before.clocked (Some (end_of Command id NotStarted)) after.clocked in
       let made = subst P same makes in
       let law = starts_end.tried before.clocked.core before.clocked.now before.clocked.word (jobs_of before.children.running) of.job made.1 by_id due in
-      let core : after.clocked.core ≡ _ = made.0 in
-      let checks : checks_then after ≡ _ = ap (λ (n : Now). checks_left (jobs_then after.clocked.now n)) core in
-      let tries : tries_left (jobs_then after.clocked.now after.clocked.core) ≡ _ = ap (λ (n : Now). tries_left (jobs_then after.clocked.now n)) core in
-      let fewer_checks = law.0 in
-      let fewer_tries = law.1 in
+      let stepped : Now = step_now before.clocked.core (unstarted before.clocked.now before.clocked.word of.job.id) in
+      let core : after.clocked.core ≡ stepped = made.0 in
+      let checks : checks_then after ≡ checks_left (jobs_then before.clocked.now stepped) = λ i. checks_left (jobs_then (now_is i) (core i)) in
+      let tries : tries_left (jobs_then after.clocked.now after.clocked.core) ≡ tries_left (jobs_then before.clocked.now stepped) = λ i. tries_left (jobs_then (now_is i) (core i)) in
+      let Q : ℕ → Type 0 = λ n. n ≤ checks_then before in
+      let R : ℕ → Type 0 = λ n. n < tries_left (jobs_then before.clocked.now before.clocked.core) in
+      let fewer_tries : tries_left (jobs_then after.clocked.now after.clocked.core) < tries_left (jobs_then before.clocked.now before.clocked.core) = subst R (sym tries) law.1 in
       record {
-        checks = rw (checks, now_is) fewer_checks;
-        steps = λ no. rw (as_many, tries, now_is) (omega (arith, fewer_tries));
+        checks = subst Q (sym checks) law.0;
+        steps = λ no. omega (arith, as_many, fewer_tries);
         fewer = λ yes. absurd (let e : false ≡ true = yes in cc);
       }
 
@@ -288,13 +297,16 @@ module _ (before mid after : Running) (launch : Launch) (next : next_start befor
       let checked : check_of before.clocked.core.lanes.up of.job.id before.clocked.core.lanes.jobs ≡ Some lane.0 = checks_of before.children before.clocked.core.lanes.up before.clocked.core.lanes.jobs of.job.id lane.0 lane.1 in
       let P : ℕ → Type 0 = λ id. Makes before.clocked (Some (end_of Check id NotStarted)) after.clocked in
       let made = subst P same makes in
-      let fewer_checks = starts_end.checked before.clocked.core before.clocked.now before.clocked.word of.job.id lane.0 made.1 by_id checked in
-      let core : after.clocked.core ≡ _ = made.0 in
-      let checks : checks_then after ≡ _ = ap (λ (n : Now). checks_left (jobs_then after.clocked.now n)) core in
+      let law = starts_end.checked before.clocked.core before.clocked.now before.clocked.word of.job.id lane.0 made.1 by_id checked in
+      let stepped : Now = step_now before.clocked.core (unchecked before.clocked.now before.clocked.word of.job.id) in
+      let core : after.clocked.core ≡ stepped = made.0 in
+      let checks : checks_then after ≡ checks_left (jobs_then before.clocked.now stepped) = λ i. checks_left (jobs_then (now_is i) (core i)) in
+      let Q : ℕ → Type 0 = λ n. n < checks_then before in
+      let fewer : checks_then after < checks_then before = subst Q (sym checks) law in
       record {
-        checks = rw (checks, now_is) (omega (arith, fewer_checks));
+        checks = omega (arith, fewer);
         steps = λ no. absurd (let e : true ≡ false = no in cc);
-        fewer = λ yes. rw (checks, now_is) fewer_checks;
+        fewer = λ yes. fewer;
       }
 
   by_task : (task : Task) → task ≡ launch.child.task → Makes before.clocked (Some (end_of task launch.child.job NotStarted)) after.clocked → ComesNearer before after (is_check task)

@@ -1,5 +1,6 @@
 -- One start behind the other.
-use Rattle.std.proofs.Common.{ℕ, ◌≡◌, ◌<◌, ◌≤◌, Bool, true, false, Option, Some, None, refl, sym, arith}
+use Rattle.std.proofs.Common.{ℕ, ◌≡◌, ◌<◌, ◌≤◌, Bool, true, false, Option, Some, None, refl, sym, ap, ◌∙◌, arith}
+use Rattle.std.specs.Prelude.{option_map}
 use Rattle.f2b_world.specs.Told.{Standing}
 use Rattle.run_law.specs.Stages.{MoveFails, Moves}
 use Rattle.run_law.specs.Turn.{to_end, to_starts}
@@ -17,10 +18,10 @@ pub starts_begin : (a : Standing) (kept : Running) → Moves KeepsRunning a a to
 starts_begin a kept = moves_none KeepsRunning a to_starts kept
 
 pub next_is : (kept : Running) (o : Option Launch) (launch : Launch) → IsNextStart kept o → o ≡ Some launch → next_start kept ≡ Some (place_of launch)
-next_is kept o launch next is = cc
+next_is kept o launch next is = sym next ∙ ap (λ (x : Option Launch). option_map place_of x) is
 
 pub next_none : (kept : Running) (o : Option Launch) → IsNextStart kept o → o ≡ None → next_start kept ≡ None
-next_none kept o next is = cc
+next_none kept o next is = sym next ∙ ap (λ (x : Option Launch). option_map place_of x) is
 
 module _ (a b : Standing) (before between : Running) (moves : Moves KeepsRunning a b to_starts to_starts before between) where
   pub starts_on : (c : Standing) (after : Running) → Moves KeepsRunning b c to_starts to_starts between after → Moves KeepsRunning a c to_starts to_starts before after
