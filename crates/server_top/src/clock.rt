@@ -16,6 +16,7 @@ const FORGOTTEN_A_TURN: u64 = 10_000;
 
 // Takes over a reading of the clock. Now never goes back, and a reading above the latest counts as it. What no longer matters of
 // failures gives its memory back.
+#[tactic(auto, using(run_steps::proofs::NumberLemmas::same_numbered))]
 fn at_reading(clocked: Clocked, reading: Reading) -> Clocked
     ensures { ReadsAt clocked reading result }
 {
