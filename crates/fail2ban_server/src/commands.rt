@@ -111,7 +111,11 @@ impl<P: OpenProcess + Drop> Commands<P> {
     }
 
     /// Ends the command of a job with the children of its shell, and waits until the shell is gone.
-    pub(crate) fn kill<R: Processes<Started = P> + Files + AllocGlobal>(&mut self, rt: &R, job: u64) {
+    pub(crate) fn kill<R: Processes<Started = P> + Files + AllocGlobal>(
+        &mut self,
+        rt: &R,
+        job: u64,
+    ) {
         let Some(place) = self.running.iter().position(|other| other.job == job) else {
             return;
         };

@@ -42,7 +42,11 @@ fn prepare<W: World + Directories + Children>(
 
 // What the plan asks for.
 #[tactic(auto, using(crate::proofs::ServeLemmas::serving, run_law::proofs::CauseLemmas::counting))]
-fn serve<W: World + Directories + Children>(alloc: Global, world: &mut W, plan: &Plan) -> Result<(), Status>
+fn serve<W: World + Directories + Children>(
+    alloc: Global,
+    world: &mut W,
+    plan: &Plan,
+) -> Result<(), Status>
     requires { 1 ≤ plan.now.turns }
     ensures ok { OnOk result (Halts (W.stands world.old).told (W.stands world.new).told (opening plan.now) AllTurns) }
     ensures err { IfErr result (Halts (W.stands world.old).told (W.stands world.new).told (opening plan.now)) }
@@ -62,7 +66,11 @@ fn serve<W: World + Directories + Children>(alloc: Global, world: &mut W, plan: 
 
 // Reads the words, and does what they ask for.
 #[tactic(auto, using(crate::proofs::UsageLemmas::running))]
-fn run<W: World + Directories + Children>(alloc: Global, words: &[String], world: &mut W) -> Result<(), Status>
+fn run<W: World + Directories + Children>(
+    alloc: Global,
+    words: &[String],
+    world: &mut W,
+) -> Result<(), Status>
     ensures ok { OnOk result (IsRun (W.stands world.old).told (W.stands world.new).told (map string_bytes words.now) AllTurns) }
     ensures err { IfErr result (IsRun (W.stands world.old).told (W.stands world.new).told (map string_bytes words.now)) }
     ensures cause { IfErr result (IsCaused (map string_bytes words.now) (W.stands world.old) (W.stands world.new)) }
@@ -80,7 +88,11 @@ fn run<W: World + Directories + Children>(alloc: Global, words: &[String], world
 ///
 /// Each call on the outside is the one that the law gives after the calls before it, and the run ends where the law gives none. Lines
 /// are said in the order of what happened, all that an event tells in one call, before any other call.
-pub fn server<W: World + Directories + Children>(alloc: Global, words: &[String], world: &mut W) -> Status
+pub fn server<W: World + Directories + Children>(
+    alloc: Global,
+    words: &[String],
+    world: &mut W,
+) -> Status
     ensures law { IsRun (W.stands world.old).told (W.stands world.new).told (map string_bytes words.now) result }
 
     // In every world, told or not.

@@ -55,7 +55,11 @@ fn turn<'f, W: World + Children>(
 
 // The last turn.
 #[tactic(auto, using(crate::proofs::TurnLemmas::turning))]
-fn last_turn<W: World + Children>(alloc: Global, world: &mut W, running: Running<'_>) -> Result<(), Status>
+fn last_turn<W: World + Children>(
+    alloc: Global,
+    world: &mut W,
+    running: Running<'_>,
+) -> Result<(), Status>
     requires { running.left ≡ 1 }
     ensures ok { OnOk result (MoveFails KeepsRunning (W.stands world.old) (W.stands world.new) at_clock running.entry AllTurns) }
     ensures err { IfErr result (MoveFails KeepsRunning (W.stands world.old) (W.stands world.new) at_clock running.entry) }
@@ -68,7 +72,11 @@ fn last_turn<W: World + Children>(alloc: Global, world: &mut W, running: Running
 
 /// Makes the turns that are left, and ends the run.
 #[tactic(auto, using(crate::proofs::TurnLemmas::turning, run_law::proofs::CauseLemmas::counting))]
-pub fn make_turns<W: World + Children>(alloc: Global, world: &mut W, first: Running<'_>) -> Result<(), Status>
+pub fn make_turns<W: World + Children>(
+    alloc: Global,
+    world: &mut W,
+    first: Running<'_>,
+) -> Result<(), Status>
     requires { 1 ≤ first.left }
     ensures ok { OnOk result (MoveFails KeepsRunning (W.stands world.old) (W.stands world.new) at_clock first.entry AllTurns) }
     ensures err { IfErr result (MoveFails KeepsRunning (W.stands world.old) (W.stands world.new) at_clock first.entry) }

@@ -164,8 +164,8 @@ module _ (kept : Running) (launch : Launch) (next : next_start kept ≡ Some (pl
   start_goes a b answer r s call at = turn_goes a b (ChildStart launch.child.job launch.text answer) r (place_of launch) s call at (refl, refl) refl
 
   module _ (a b : Standing) (answer : StartAnswer) (asked : Asked a (start_event launch.child.job launch.text answer) b) where
-    as : (to : StartAnswer) → answer ≡ to → Asked a (start_event launch.child.job launch.text to) b
-    as to is = called a b launch.child.job launch.text answer to is asked
+    answered : (to : StartAnswer) → answer ≡ to → Asked a (start_event launch.child.job launch.text to) b
+    answered to is = called a b launch.child.job launch.text answer to is asked
 
     -- the child runs
     pub start_done : (after : Running) → answer ≡ Started → HasStarted launch.child kept after → Moves KeepsRunning a b to_starts to_starts kept after
@@ -175,7 +175,7 @@ module _ (kept : Running) (launch : Launch) (next : next_start kept ≡ Some (pl
           record {
             to = child_started Started launch.child s r;
             server = with_child launch.child s;
-            goes = start_goes a b Started r s (as Started is) at_start;
+            goes = start_goes a b Started r s (answered Started is) at_start;
             at = record { point = refl; paid = at.paid };
             keeps = started_keeps kept after launch.child s runs_now keeps;
           };
@@ -186,14 +186,14 @@ module _ (kept : Running) (launch : Launch) (next : next_start kept ≡ Some (pl
     start_lost is = record {
       runs = λ r s at keeps.
           let at_start = here r s at keeps in
-          halts_after a.told b.told b.told r (child_started Started launch.child s r) NoMemory (start_goes a b Started r s (as Started is) at_start)
+          halts_after a.told b.told b.told r (child_started Started launch.child s r) NoMemory (start_goes a b Started r s (answered Started is) at_start)
           (halts_here b.told (child_started Started launch.child s r));
     }
 
     -- memory ran out before it
     pub start_memory : answer ≡ StartNoMemory → MoveFails KeepsRunning a b to_starts kept NoMemory
     start_memory is =
-        let same : b ≡ a = as StartNoMemory is in
+        let same : b ≡ a = answered StartNoMemory is in
         let P : Standing → Type 0 = λ x. MoveFails KeepsRunning a x to_starts kept NoMemory in
         subst P (sym same) (move_fails_here KeepsRunning a to_starts kept)
 
@@ -218,7 +218,7 @@ module _ (kept : Running) (launch : Launch) (next : next_start kept ≡ Some (pl
             record {
               to = one.to;
               server = after_news (end_news launch.child NotStarted) t;
-              goes = goes_trans a.told b.told c.told r (child_started StartFailed launch.child s r) one.to (start_goes a b StartFailed r s (as StartFailed is) at_start) one.goes;
+              goes = goes_trans a.told b.told c.told r (child_started StartFailed launch.child s r) one.to (start_goes a b StartFailed r s (answered StartFailed is) at_start) one.goes;
               at = one.at;
               keeps = one.keeps;
             };
@@ -228,7 +228,7 @@ module _ (kept : Running) (launch : Launch) (next : next_start kept ≡ Some (pl
       start_fails status fails = record {
         runs = λ r s at keeps.
             let at_start = here r s at keeps in
-            halts_after a.told b.told c.told r (child_started StartFailed launch.child s r) status (start_goes a b StartFailed r s (as StartFailed is) at_start)
+            halts_after a.told b.told c.told r (child_started StartFailed launch.child s r) status (start_goes a b StartFailed r s (answered StartFailed is) at_start)
             (fails.runs r (λ u. AtTurn (place_of launch) s) to_starts (without_child launch.child s) saying_starts at_start (not_started_keeps kept mid launch.child s not_now keeps));
       }
 
