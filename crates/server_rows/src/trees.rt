@@ -1,6 +1,6 @@
 //! Runs of configurations of several files, jails and logs.
 use f2b_base::{Bytes, Reading, Seq, Text, Tree, TreeAnswer, TreeFile};
-use f2b_mem::{FileChange, Image, MemWorld, Script};
+use f2b_mem::{ChildPlan, FileChange, Image, MemWorld, Script};
 use f2b_world::{Event, Said};
 use server_top::server;
 use std::alloc::Global;
@@ -15,6 +15,8 @@ struct Row {
     conf: &'static [File],
     /// What becomes of other files after so many pauses: their content, or that they go.
     changes: &'static [(u64, &'static str, Option<&'static str>)],
+    /// What the commands end with that are started, in order; those after the last end with 0.
+    children: &'static [i32],
     /// The places of the calls that fail.
     fails: &'static [u64],
     status: u8,
@@ -30,10 +32,25 @@ const FAIL: File = (
 const TWO_JAILS: &str =
     "[DEFAULT]\nenabled = true\nfilter = fail\n[web]\nlogpath = /log/web\nmaxretry = 2\n[mail]\nlogpath = /log/mail\nmaxretry = 1\n[ftp]\nenabled = false\nlogpath = /log/web\nmaxretry = 1\n";
 
+const ONE_JAIL: &str =
+    "[web]\nenabled = true\nfilter = fail\nlogpath = /log/web\nmaxretry = 1\naction = note\n";
+
+/// An action whose commands say what they are called with.
+const NOTE: File = (
+    "action.d/note.conf",
+    "[Definition]\nactionban = echo <ip>\n",
+);
+
+/// The same with a check.
+const CHECKED: File = (
+    "action.d/note.conf",
+    "[Definition]\nactionban = echo <ip>\nactioncheck = test -e /x\n",
+);
+
 const WILD: &str =
     "[web]\nenabled = true\nfilter = fail\nlogpath = /log/a*\n  /log/b\nmaxretry = 9\n";
 
-const ROWS: [Row; 8] = [
+const ROWS: [Row; 10] = [
     // Each jail its own log, in the order of the jails; a jail that is not enabled is none.
     Row {
         conf: &[FAIL, ("jail.conf", TWO_JAILS)],
@@ -45,6 +62,7 @@ const ROWS: [Row; 8] = [
             ),
             (0, "/log/mail", Some("1700000992 fail from 192.0.2.8\n")),
         ],
+        children: &[],
         fails: &[],
         status: 0,
         said: "1700001000 INFO Server ready\n1700001000 INFO [web] Found 192.0.2.7\n1700001000 INFO [web] Found 192.0.2.7\n1700001000 NOTICE [web] Ban 192.0.2.7\n1700001000 INFO [mail] Found 192.0.2.8\n1700001000 NOTICE [mail] Ban 192.0.2.8\n",
@@ -59,6 +77,7 @@ const ROWS: [Row; 8] = [
             (0, "/log/c", Some("1700000990 fail from 192.0.2.12\n")),
             (1, "/log/a3", Some("1700000990 fail from 192.0.2.3\n")),
         ],
+        children: &[],
         fails: &[],
         status: 0,
         said: "1700001000 INFO Server ready\n1700001000 INFO [web] Found 192.0.2.10\n1700001000 INFO [web] Found 192.0.2.2\n1700001000 INFO [web] Found 192.0.2.11\n",
@@ -70,6 +89,7 @@ const ROWS: [Row; 8] = [
             (0, "/log/a2", Some("1700000990 fail from 192.0.2.2\n")),
             (0, "/log/b", Some("1700000990 fail from 192.0.2.11\n")),
         ],
+        children: &[],
         fails: &[4],
         status: 0,
         said: "1700001000 WARNING [web] cannot read /log/a*\n1700001000 INFO Server ready\n1700001000 INFO [web] Found 192.0.2.11\n",
@@ -82,6 +102,7 @@ const ROWS: [Row; 8] = [
             ("jail.local", "[mail]\nlogpath = /log/web\nmaxretry = 5\n"),
         ],
         changes: &[(0, "/log/web", Some("1700000990 fail from 192.0.2.7\n"))],
+        children: &[],
         fails: &[],
         status: 0,
         said: "1700001000 INFO Server ready\n1700001000 INFO [web] Found 192.0.2.7\n1700001000 INFO [mail] Found 192.0.2.7\n",
@@ -95,6 +116,7 @@ const ROWS: [Row; 8] = [
             (1, "/log/web", Some("1700000992 fail from 192.0.2.9\n")),
             (1, "/log/mail", None),
         ],
+        children: &[],
         fails: &[],
         status: 0,
         said: "1700001000 INFO Server ready\n1700001000 INFO [web] Found 192.0.2.7\n1700001000 INFO [web] rotated /log/web\n1700001000 INFO [web] Found 192.0.2.9\n",
@@ -113,9 +135,28 @@ const ROWS: [Row; 8] = [
             ),
         ],
         changes: &[],
+        children: &[],
         fails: &[],
         status: 0,
         said: "1700001000 INFO Server ready\n",
+    },
+    // The command of a ban fails: its action was started in the first turn, and the ban in the second.
+    Row {
+        conf: &[NOTE, FAIL, ("jail.conf", ONE_JAIL)],
+        changes: &[(0, "/log/web", Some("1700000990 fail from 192.0.2.7\n"))],
+        children: &[0, 1],
+        fails: &[],
+        status: 0,
+        said: "1700001000 INFO Server ready\n1700001000 INFO [web] Found 192.0.2.7\n1700001000 NOTICE [web] Ban 192.0.2.7\n1700001000 ERROR [web/note] ban failed: status 1\n",
+    },
+    // The check before it fails, and the action starts anew.
+    Row {
+        conf: &[CHECKED, FAIL, ("jail.conf", ONE_JAIL)],
+        changes: &[(0, "/log/web", Some("1700000990 fail from 192.0.2.7\n"))],
+        children: &[0, 1],
+        fails: &[],
+        status: 0,
+        said: "1700001000 INFO Server ready\n1700001000 INFO [web] Found 192.0.2.7\n1700001000 NOTICE [web] Ban 192.0.2.7\n1700001000 WARNING [web/note] check failed: status 1\n1700001000 INFO [web/note] restart\n",
     },
     // The first fault of a tree is told, and the file that has it.
     Row {
@@ -124,6 +165,7 @@ const ROWS: [Row; 8] = [
             "[web]\nenabled = true\nfilter = none\nbantime = x\n",
         )],
         changes: &[],
+        children: &[],
         fails: &[],
         status: 4,
         said: "0 ERROR Configuration refused: filter.d/none.conf [web] filter: MissingFile\n",
@@ -140,6 +182,7 @@ const ROWS: [Row; 8] = [
             ("jail.local", "[mail]\nfilter = other\n"),
         ],
         changes: &[],
+        children: &[],
         fails: &[],
         status: 11,
         said: "0 ERROR Pattern refused: mail failregex 2 Syntax\n",
@@ -173,6 +216,17 @@ fn changes(alloc: Global, row: &Row) -> Result<Seq<FileChange>, Fail> {
     Ok(changes)
 }
 
+fn plans(alloc: Global, row: &Row) -> Result<Seq<ChildPlan>, Fail> {
+    let mut plans = Seq::new(alloc);
+    for status in row.children {
+        plans.push(ChildPlan {
+            polls: 0,
+            status: Some(*status),
+        })?;
+    }
+    Ok(plans)
+}
+
 fn world(alloc: Global, row: &Row) -> Result<MemWorld, Fail> {
     let mut readings = Seq::new(alloc);
     readings.push(Reading {
@@ -185,7 +239,7 @@ fn world(alloc: Global, row: &Row) -> Result<MemWorld, Fail> {
         readings,
         trees,
         changes: changes(alloc, row)?,
-        children: Seq::new(alloc),
+        children: plans(alloc, row)?,
         clients: Seq::new(alloc),
         fails: Seq::from(row.fails.to_vec(alloc)?),
         image: Image {
