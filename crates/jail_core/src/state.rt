@@ -172,16 +172,6 @@ impl Core {
         self.actions.check_text(job)
     }
 
-    /// How long that check may run, in seconds, if there is a check before a try of the job. Takes no memory.
-    pub fn check_timeout(&self, job: u64) -> Option<u64>
-        ensures { result ≡ option_map (λ (lane : UpLane). lane.action.timeout) (check_of self.now.lanes.up job self.now.lanes.jobs) }
-    {
-        match self.actions.check_of(job) {
-            Some(lane) => Some(lane.action.timeout),
-            None => None,
-        }
-    }
-
     /// A copy of the definitions.
     pub fn defs(&self) -> Result<Defs, NoMemory>
         ensures { IfOk result (λ defs. defs ≡ defs_of self.now.jails) }

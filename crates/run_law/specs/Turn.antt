@@ -15,10 +15,10 @@ use Rattle.run_law.specs.Server.{Server, is_stopping, jobs, lanes_up, log_jails}
 unfoldable pub to_end : Server → Point
 to_end s = AtTurn AtPause s
 
--- at the start of a job's command, or of the check of its lane
+-- at the start of a job's command, or of the check of its lane, which may take as long
 abbrev pub start_place : ℕ → Job → Option UpLane → Place
 start_place now job None = AtStart (record { job = job.id; task = Command; since = now; timeout = job.timeout }) job.text
-start_place now job (Some lane) = AtStart (record { job = job.id; task = Check; since = now; timeout = lane.action.timeout }) (check_text lane)
+start_place now job (Some lane) = AtStart (record { job = job.id; task = Check; since = now; timeout = job.timeout }) (check_text lane)
 
 -- what is started for the next job, or what comes behind all starts
 abbrev pub start_point : Option Job → Server → Point

@@ -7,6 +7,7 @@ use Rattle.f2b_base.specs.declared.job.UpLane.{UpLane}
 use Rattle.f2b_model.specs.Checks.{check_of}
 use Rattle.f2b_model.specs.Jobs.{next_due}
 use Rattle.child_table.specs.Children.{has_passed, jobs_of, most_children}
+use Rattle.child_table.specs.declared.child.Child.{Child}
 use Rattle.child_table.specs.declared.child.Task.TheVariants.{Check}
 use Rattle.lane_moves.specs.CheckText.{check_text, check_text_of}
 use Rattle.run_law.specs.Points.{Place, AtStart}
@@ -17,26 +18,19 @@ use Rattle.turn_children.specs.declared.launch.Launch.{Launch}
 
 -- ---- the check of a lane
 
-pub check_found : (now : ℕ) (job : Job) (lane : Option UpLane) (timeout : Option ℕ) (text : Option (List ℕ)) (secs : ℕ) (bytes : List ℕ)
-    → timeout ≡ option_map (λ (l : UpLane). l.action.timeout) lane → timeout ≡ Some secs → text ≡ check_text_of lane → text ≡ Some bytes
-    → Some (AtStart (record { job = job.id; task = Check; since = now; timeout = secs }) bytes) ≡ option_map (λ (l : UpLane). start_place now job (Some l)) lane
-check_found now job None timeout text secs bytes timeout_is secs_is text_is bytes_is = absurd (let none : None ≡ Some secs = sym timeout_is ∙ secs_is in cc)
-check_found now job (Some lane) timeout text secs bytes timeout_is secs_is text_is bytes_is =
-    let secs_are : secs ≡ lane.action.timeout = (let e : Some secs ≡ Some lane.action.timeout = sym secs_is ∙ timeout_is in cc) in
+pub check_found : (now : ℕ) (job : Job) (lane : Option UpLane) (text : Option (List ℕ)) (bytes : List ℕ) (child : Child) → text ≡ check_text_of lane → text ≡ Some bytes
+    → child ≡ record { job = job.id; task = Check; since = now; timeout = job.timeout } → Some (AtStart child bytes) ≡ option_map (λ (l : UpLane). start_place now job (Some l)) lane
+check_found now job None text bytes child text_is bytes_is child_is = absurd (let none : None ≡ Some bytes = sym text_is ∙ bytes_is in cc)
+check_found now job (Some lane) text bytes child text_is bytes_is child_is =
     let bytes_are : bytes ≡ check_text lane = (let e : Some bytes ≡ Some (check_text lane) = sym bytes_is ∙ text_is in cc) in
-    λ i. Some (AtStart (record { job = job.id; task = Check; since = now; timeout = secs_are i }) (bytes_are i))
+    λ i. Some (AtStart (child_is i) (bytes_are i))
 
-pub check_untimed : (now : ℕ) (job : Job) (lane : Option UpLane) (timeout : Option ℕ) → timeout ≡ option_map (λ (l : UpLane). l.action.timeout) lane → timeout ≡ None
+pub check_none : (now : ℕ) (job : Job) (lane : Option UpLane) (text : Option (List ℕ)) → text ≡ check_text_of lane → text ≡ None
     → None ≡ option_map (λ (l : UpLane). start_place now job (Some l)) lane
-check_untimed now job None timeout timeout_is none = refl
-check_untimed now job (Some lane) timeout timeout_is none = absurd (let e : Some lane.action.timeout ≡ None = sym timeout_is ∙ none in cc)
+check_none now job None text text_is none = refl
+check_none now job (Some lane) text text_is none = absurd (let e : Some (check_text lane) ≡ None = sym text_is ∙ none in cc)
 
-pub check_untold : (now : ℕ) (job : Job) (lane : Option UpLane) (text : Option (List ℕ)) → text ≡ check_text_of lane → text ≡ None
-    → None ≡ option_map (λ (l : UpLane). start_place now job (Some l)) lane
-check_untold now job None text text_is none = refl
-check_untold now job (Some lane) text text_is none = absurd (let e : Some (check_text lane) ≡ None = sym text_is ∙ none in cc)
-
-pub ruleset checking = (check_found, check_untimed, check_untold)
+pub ruleset checking = (check_found, check_none)
 
 -- ---- what is started for a job
 

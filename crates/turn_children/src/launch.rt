@@ -17,17 +17,24 @@ pub(crate) struct Launch {
     pub text: Text,
 }
 
-// The job's own command, from a moment on.
+// A child for the job, from a moment on.
+fn child_of(job: &Job, task: Task, now: u64) -> Child
+    ensures { result ≡ record { job = job.now.id; task = task; since = now; timeout = job.now.timeout } }
+{
+    Child {
+        job: job.id,
+        task,
+        since: now,
+        timeout: job.timeout,
+    }
+}
+
+// The job's own command.
 fn command_launch(job: &Job, now: u64) -> Result<Launch, NoMemory>
     ensures { IfOk result (λ launch. place_of launch ≡ start_place now job.now None) }
 {
     Ok(Launch {
-        child: Child {
-            job: job.id,
-            task: Task::Command,
-            since: now,
-            timeout: job.timeout,
-        },
+        child: child_of(job, Task::Command, now),
         text: job.text.copy()?,
     })
 }
@@ -37,19 +44,13 @@ fn command_launch(job: &Job, now: u64) -> Result<Launch, NoMemory>
 fn check_launch(core: &Core, job: &Job, now: u64) -> Result<Option<Launch>, NoMemory>
     ensures { IfOk result (λ o. option_map place_of o ≡ option_map (λ (lane : UpLane). start_place now job.now (Some lane)) (check_of core.now.lanes.up job.now.id core.now.lanes.jobs)) }
 {
-    let Some(timeout) = core.check_timeout(job.id) else {
-        return Ok(None);
-    };
-    let Some(text) = core.check_text(job.id)? else {
-        return Ok(None);
-    };
-    let child = Child {
-        job: job.id,
-        task: Task::Check,
-        since: now,
-        timeout,
-    };
-    Ok(Some(Launch { child, text }))
+    match core.check_text(job.id)? {
+        Some(text) => Ok(Some(Launch {
+            child: child_of(job, Task::Check, now),
+            text,
+        })),
+        None => Ok(None),
+    }
 }
 
 // What is started for a job: the check of its lane where one comes first, and else its own command.
