@@ -1,0 +1,5 @@
+pub mod StartLemmas
+pub mod RunLemmas
+pub mod SlotLemmas
+pub mod TopLemmas
+mod Rows

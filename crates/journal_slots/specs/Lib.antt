@@ -1,0 +1,4 @@
+pub mod Starts
+pub mod Grammar
+pub mod Fronts
+pub mod Tops
