@@ -11,6 +11,7 @@ use Rattle.regex_tool.specs.Asks.{Asks}
 use Rattle.regex_tool.specs.Checks.{IsFew, IsTestable}
 use Rattle.regex_tool.specs.Definitions.{IsJailOf, filter_tree, first_of, lines_or, with_words}
 use Rattle.regex_tool.specs.Targets.{Target}
+use Rattle.regex_tool.specs.Zones.{IsNear}
 
 some_jail : JailDef → Option JailDef → JailDef
 some_jail other None = other
@@ -33,7 +34,7 @@ pub few_of : (settings : Settings) (jail : JailDef) → AreWithinLimits settings
 few_of settings jail limits is = few_first settings.defs.jails jail is limits.patterns
 
 -- it is the jail of the filter
-pub jail_of_filter : (target : Target) (tree own : Tree) (settings : Settings) (jail : JailDef) → own ≡ filter_tree target.name tree → conf own ≡ Ok settings
+pub jail_of_filter : (target : Target) (tree own : Tree) (settings : Settings) (jail : JailDef) → own ≡ filter_tree target tree → conf own ≡ Ok settings
     → first_of settings.defs.jails ≡ Some jail → IsJailOf target tree jail
 jail_of_filter target tree own settings jail is accepted first = record { settings = settings; accepted = ap conf (sym is) ∙ accepted; first = first }
 
@@ -42,8 +43,8 @@ few_lines None lines few = few
 few_lines (Some text) lines few = omega arith
 
 -- patterns of the words stand in place of others
-pub testable_with : (asks : Asks) (jail : JailDef) → IsFew jail → IsTestable (with_words asks jail)
-testable_with asks jail few = record { zone = refl; few = record { fail = few.fail; ignore_lines = few_lines asks.ignore jail.ignore_lines few.ignore_lines } }
+pub testable_with : (asks : Asks) (jail : JailDef) → IsNear asks.zone → IsFew jail → IsTestable (with_words asks jail)
+testable_with asks jail near few = record { zone = near; few = record { fail = few.fail; ignore_lines = few_lines asks.ignore jail.ignore_lines few.ignore_lines } }
 
 -- the jail at the first place
 pub first_at : (jails : List JailDef) (jail : JailDef) → slice_get jails 0 ≡ Some jail → first_of jails ≡ Some jail

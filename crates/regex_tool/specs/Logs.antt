@@ -28,4 +28,3 @@ last_line (byte ∷ rest) = line_of (byte ∷ rest) ∷ []
 -- all lines of a log, also a last one without LF
 unfoldable pub log_lines : List ℕ → List Line
 log_lines bytes = lines_of bytes ++ last_line (rest_of bytes)
-

@@ -52,11 +52,7 @@ fn push_line(text: &mut Bytes, line: &Line) -> Result<(), NoMemory>
 fn push_if(text: &mut Bytes, holds: bool, line: &Line) -> Result<(), NoMemory>
     ensures { OnOk result (text.new ≡ text.old ++ shown_if holds line.now) }
 {
-    if holds {
-        push_line(text, line)
-    } else {
-        Ok(())
-    }
+    if holds { push_line(text, line) } else { Ok(()) }
 }
 
 fn push_addr(text: &mut Bytes, addr: Addr) -> Result<(), NoMemory>
@@ -85,12 +81,7 @@ fn push_number(alloc: Global, text: &mut Bytes, number: u64) -> Result<(), NoMem
     text.push_slice(digits.as_bytes())
 }
 
-fn push_row(
-    alloc: Global,
-    text: &mut Bytes,
-    line: &Line,
-    finding: Finding,
-) -> Result<(), NoMemory>
+fn push_row(alloc: Global, text: &mut Bytes, line: &Line, finding: Finding) -> Result<(), NoMemory>
     ensures { OnOk result (text.new ≡ text.old ++ row_of line.now finding) }
 {
     let Finding::Failure { addr, time, .. } = finding else {
