@@ -11,3 +11,5 @@ mod refusals;
 mod reports;
 #[cfg(test)]
 mod row;
+#[cfg(test)]
+mod shown;
