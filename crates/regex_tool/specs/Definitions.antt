@@ -22,15 +22,15 @@ use Rattle.regex_tool.specs.Targets.{Target, target_in}
 abbrev pub no_rule : BanRule
 no_rule = record { base = pos 1; increment = false; factor = 1000; multipliers = []; maxtime = 1; rndtime = 0 }
 
--- a jail with this one pattern of failures
-abbrev pub pattern_jail : List ℕ → JailDef
-pattern_jail regex = record {
+-- a jail with these patterns of failures
+abbrev pub plain_jail : List (List ℕ) → JailDef
+plain_jail patterns = record {
   name = codes "regex";
   watches = [];
   zone = pos 0;
   date = Default;
   pref = None;
-  fail = regex ∷ [];
+  fail = patterns;
   ignore_lines = [];
   ignore = [];
   findtime = 1;
@@ -39,6 +39,10 @@ pattern_jail regex = record {
   rule = no_rule;
   actions = [];
 }
+
+-- a jail with this one
+abbrev pub pattern_jail : List ℕ → JailDef
+pattern_jail regex = plain_jail (regex ∷ [])
 
 -- ---- of a filter
 
@@ -61,15 +65,16 @@ jail_file target = record { path = codes "jail.conf"; content = jail_text target
 unfoldable pub filter_tree : Target → Tree → Tree
 filter_tree target tree = record { files = filter is_of_filters tree.files ++ jail_file target ∷ [] }
 
-abbrev pub first_of : List JailDef → Option JailDef
-first_of [] = None
-first_of (jail ∷ jails) = Some jail
+-- the first jail, or one without patterns where there is none
+abbrev pub first_of : List JailDef → JailDef
+first_of [] = plain_jail []
+first_of (jail ∷ jails) = jail
 
 -- the files come to this one jail
 pub record IsJailOf (target : Target) (tree : Tree) (jail : JailDef) : Type 0 where
   pub settings : Settings
   pub accepted : conf (filter_tree target tree) ≡ Ok settings
-  pub first : first_of settings.defs.jails ≡ Some jail
+  pub first : jail ≡ first_of settings.defs.jails
 
 -- those of the filter's directory do
 pub record IsOfFilter (shelf : Option Shelf) (target : Target) (jail : JailDef) : Type 0 where

@@ -1,7 +1,7 @@
 //! The jail that is tested.
 ghost use Rattle.std.specs.Prelude.{◌≡◌, ◌<◌, ◌++◌, ◌^◌, length, Some, option_copied, IfErr, IfOk, OnOk};
 ghost use Rattle.regex_tool.specs.Asks.{shown};
-ghost use Rattle.regex_tool.specs.Definitions.{pattern_jail, option_text, jail_text, jail_file, is_of_filters, filter_tree, first_of, date_spec, date_or, lines_or, with_words, target_for, IsBase, IsDefined, IsJailOf};
+ghost use Rattle.regex_tool.specs.Definitions.{plain_jail, pattern_jail, option_text, jail_text, jail_file, is_of_filters, filter_tree, first_of, date_spec, date_or, lines_or, with_words, target_for, IsBase, IsDefined, IsJailOf};
 ghost use Rattle.regex_tool.specs.Checks.{IsFew, IsTestable};
 ghost use Rattle.regex_tool.specs.Readings.{IsOpened};
 ghost use Rattle.regex_tool.specs.Runs.{HasTreeCause, IsConfFail, IsJailFail};
@@ -17,12 +17,10 @@ use f2b_world::Files;
 use jail_conf::{ConfFail, Fail, Settings, conf};
 use std::alloc::Global;
 
-/// A jail with this one pattern of failures.
-fn pattern_jail(alloc: Global, regex: &str) -> Result<JailDef, NoMemory>
-    ensures { IfOk result (λ jail. jail ≡ pattern_jail regex.now) }
+/// A jail with these patterns of failures.
+fn plain_jail(alloc: Global, fail: Seq<Text>) -> Result<JailDef, NoMemory>
+    ensures { IfOk result (λ jail. jail ≡ plain_jail fail) }
 {
-    let mut fail = Seq::new(alloc);
-    fail.push(Text::from_str(alloc, regex)?)?;
     Ok(JailDef {
         name: Text::from_str(alloc, "regex")?,
         watches: Seq::new(alloc),
@@ -45,6 +43,15 @@ fn pattern_jail(alloc: Global, regex: &str) -> Result<JailDef, NoMemory>
         },
         actions: Seq::new(alloc),
     })
+}
+
+/// A jail with this one.
+fn pattern_jail(alloc: Global, regex: &str) -> Result<JailDef, NoMemory>
+    ensures { IfOk result (λ jail. jail ≡ pattern_jail regex.now) }
+{
+    let mut fail = Seq::new(alloc);
+    fail.push(Text::from_str(alloc, regex)?)?;
+    plain_jail(alloc, fail)
 }
 
 fn push_options(text: &mut Bytes, options: Option<&str>) -> Result<(), NoMemory>
@@ -100,14 +107,14 @@ fn filter_tree(alloc: Global, target: Target<'_>, tree: &Tree) -> Result<Tree, N
     Ok(Tree { files })
 }
 
-/// The first jail of a configuration. That there is none is never so, and told as want of memory.
-#[tactic(auto, using(crate::proofs::DefinitionLemmas::first_at))]
-fn only_jail(settings: &Settings) -> Result<JailDef, NoMemory>
-    ensures { IfOk result (λ jail. first_of settings.now.defs.jails ≡ Some jail) }
+/// The first jail of a configuration, or one without patterns where there is none.
+#[tactic(auto, using(crate::proofs::DefinitionLemmas::first_at, crate::proofs::DefinitionLemmas::none_at))]
+fn only_jail(alloc: Global, settings: &Settings) -> Result<JailDef, NoMemory>
+    ensures { IfOk result (λ jail. jail ≡ first_of settings.now.defs.jails) }
 {
     match settings.defs.jails.as_slice().first() {
         Some(jail) => jail.copy(),
-        None => Err(NoMemory),
+        None => plain_jail(alloc, Seq::new(alloc)),
     }
 }
 
@@ -188,7 +195,7 @@ fn filter_jail(alloc: Global, target: Target<'_>, tree: &Tree) -> Result<JailDef
 {
     let own = filter_tree(alloc, target, tree)?;
     match conf(alloc, &own) {
-        Ok(settings) => Ok(only_jail(&settings)?),
+        Ok(settings) => Ok(only_jail(alloc, &settings)?),
         Err(fail) => Err(conf_fail(fail)),
     }
 }
