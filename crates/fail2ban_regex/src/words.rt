@@ -9,7 +9,7 @@ use std::{env, io};
 
 /// The text of `--help`.
 pub const HELP: &str = "\
-Usage: fail2ban-regex [-d PATTERN] LOG REGEX [IGNOREREGEX]
+Usage: fail2ban-regex [OPTIONS] LOG REGEX [IGNOREREGEX]
        fail2ban-regex --help | --version
 
 Tells which lines of a log a pattern or a filter finds.
@@ -18,8 +18,18 @@ Tells which lines of a log a pattern or a filter finds.
                one line that is tested
   REGEX        a pattern with one of <HOST>, <ADDR>, <IP4>, <IP6>, <DNS>;
                or a filter, by its file: DIR/filter.d/NAME.conf
+               or with -c by its name: NAME or NAME[OPTION=VALUE]
   IGNOREREGEX  a pattern of lines that are ignored, in place of the filter's
   -d PATTERN   how a line is dated, in place of the filter's datepattern
+  -c DIR       the directory of a configuration, where REGEX may be the
+               name of a filter
+  -o FORM      in place of the report: ip, the address of each failure; or
+               row, its address, its time in seconds and its line
+  --timezone ZONE
+               the zone of dates without one: Z, or UTC or GMT with nothing
+               behind it or +hhmm or -hhmm; else that of UTC
+  --print-all-matched, --print-all-ignored, --print-all-missed
+               behind that, all lines of this kind
   --help       print this help
   --version    print the version
 

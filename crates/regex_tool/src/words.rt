@@ -121,7 +121,7 @@ fn shows_of(matches: &ArgMatches<'_>, form: Form) -> Shows
 }
 
 /// What is asked for, by the values of the arguments.
-fn asked<'w>(matches: &ArgMatches<'w>) -> Option<Asked<'w>>
+fn asked_by<'w>(matches: &ArgMatches<'w>) -> Option<Asked<'w>>
     ensures { option_map shown result ≡ asks_by (first_value (found_of matches.now)) }
 {
     let log = matches.get_str("log")?;
@@ -147,7 +147,7 @@ pub(crate) fn read_words<'w>(alloc: Global, words: &'w [String]) -> Answer<'w>
         return Answer::NoMemory;
     };
     match command.try_get_matches_from(words) {
-        Ok(matches) => match asked(&matches) {
+        Ok(matches) => match asked_by(&matches) {
             Some(asked) => Answer::Asked(asked),
             None => Answer::Usage,
         },
