@@ -1,5 +1,5 @@
 //! The words that the tester is called with.
-ghost use Rattle.std.specs.Prelude.{◌≡◌, map, option_copied, option_map, string_bytes, IfOk};
+ghost use Rattle.std.specs.Prelude.{◌≡◌, false, map, option_copied, option_map, string_bytes, IfOk};
 ghost use Rattle.clap.specs.Words.{app_of, found_of, first_value, rule_of};
 ghost use Rattle.regex_tool.specs.Asks.{asks_by, bare_tool, flag, form_of, is_set, shows_of, shown, tool, with_flags, with_places, with_values, Answers};
 
@@ -48,7 +48,8 @@ fn with_values<'w>(alloc: Global, command: Command<'w>) -> Result<Command<'w>, A
 
 /// An option that has none.
 fn flag<'w>(alloc: Global, name: &'w str) -> Arg<'w>
-    ensures { rule_of result ≡ flag name.entry.now }
+    ensures rule { rule_of result ≡ flag name.entry.now }
+    ensures local { result.global ≡ false }
 {
     Arg::new(alloc, name).long(name).action(ArgAction::SetTrue)
 }
