@@ -23,12 +23,18 @@ const LINES: [Row; 4] = [
         status: 0,
         said: "Failregex: 1 total\n   1) [1] from <HOST>$\nIgnoreregex: 1 total\n   1) [1] user=test\nLines: 4 lines, 1 ignored, 1 matched, 2 missed\nMissed lines:\n   2024-03-01T10:00:02Z fine\n   no date from 192.0.2.9\n",
     },
+    // A kind without lines has its heading alone.
     Row {
-        words: &["/log", "from <HOST>$", "--print-all-matched"],
+        words: &[
+            "/log",
+            "from <HOST>$",
+            "--print-all-matched",
+            "--print-all-ignored",
+        ],
         status: 0,
-        said: "Failregex: 2 total\n   1) [2] from <HOST>$\nIgnoreregex: 0 total\nLines: 4 lines, 0 ignored, 2 matched, 2 missed\nMatched lines:\n   2024-03-01T10:00:00Z bad from 192.0.2.7\n   2024-03-01T10:00:01Z user=test from 192.0.2.8\n",
+        said: "Failregex: 2 total\n   1) [2] from <HOST>$\nIgnoreregex: 0 total\nLines: 4 lines, 0 ignored, 2 matched, 2 missed\nMatched lines:\n   2024-03-01T10:00:00Z bad from 192.0.2.7\n   2024-03-01T10:00:01Z user=test from 192.0.2.8\nIgnored lines:\n",
     },
-    // In this order, whatever the order of the words. A kind without lines has its heading alone.
+    // In this order, whatever the order of the words. What is ignored is looked for in the line without its date.
     Row {
         words: &[
             "--print-all-ignored",
@@ -36,10 +42,10 @@ const LINES: [Row; 4] = [
             "--print-all-matched",
             "/log",
             "from <HOST>$",
-            "2024",
+            "test|fine|2024",
         ],
         status: 0,
-        said: "Failregex: 0 total\nIgnoreregex: 3 total\n   1) [3] 2024\nLines: 4 lines, 3 ignored, 0 matched, 1 missed\nMatched lines:\nIgnored lines:\n   2024-03-01T10:00:00Z bad from 192.0.2.7\n   2024-03-01T10:00:01Z user=test from 192.0.2.8\n   2024-03-01T10:00:02Z fine\nMissed lines:\n   no date from 192.0.2.9\n",
+        said: "Failregex: 1 total\n   1) [1] from <HOST>$\nIgnoreregex: 2 total\n   1) [2] test|fine|2024\nLines: 4 lines, 2 ignored, 1 matched, 1 missed\nMatched lines:\n   2024-03-01T10:00:00Z bad from 192.0.2.7\nIgnored lines:\n   2024-03-01T10:00:01Z user=test from 192.0.2.8\n   2024-03-01T10:00:02Z fine\nMissed lines:\n   no date from 192.0.2.9\n",
     },
     Row {
         words: &["--print-all", "/log", "from <HOST>$"],
