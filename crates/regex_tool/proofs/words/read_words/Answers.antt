@@ -11,8 +11,8 @@ returns-in-Some c =
     let fault = fails_by (app_of c.in-Ok.command) c.in-Ok.ensures words (Ok m) c.in-Ok-try_get_matches_from.ensures.kinds in
     asks_as_found words m _ fault has c.in-Some.ensures
 
-pub returns-in-None : goal.returns-in-None
-returns-in-None c =
+pub returns-in-Ok-try_get_matches_from : goal.returns-in-Ok-try_get_matches_from
+returns-in-Ok-try_get_matches_from c =
     let words = map string_bytes c.args.words.now in
     let m = c.in-Ok-try_get_matches_from.matches in
     let has = has_matches (app_of c.in-Ok.command) c.in-Ok.ensures words m c.in-Ok-try_get_matches_from.ensures.matches in
