@@ -9,7 +9,7 @@ const FILES: &[File] = &[
     ),
     (
         "/hosts",
-        b"1709287200 from 2001:db8::9\n1709287201 from mx.example.org\n1709287300 from 192.0.2.7\n1 from 192.0.2.7\n",
+        b"1709287200 from 2001:db8::9\n1709287201 from mx.example.org\n1709287300 from 192.0.2.7\n1969-12-31T10:00:00Z from 192.0.2.7\n",
     ),
     (
         "/c/filter.d/mode.conf",
