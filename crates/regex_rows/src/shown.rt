@@ -66,6 +66,27 @@ fn shows_lines(rt: HostRuntime) -> Result<(), Fail> {
     Ok(())
 }
 
+const DETAILS: [Row; 1] = [
+    // With the number of the pattern, and the address and the time where it is a failure.
+    Row {
+        words: &["-v", "/hosts", "from <HOST>$"],
+        status: 0,
+        said: "Failregex: 4 total\n   1) [4] from <HOST>$\nIgnoreregex: 0 total\nLines: 4 lines, 0 ignored, 4 matched, 0 missed\nMatched lines:\n   1) 2001:db8::9 1709287200 1709287200 from 2001:db8::9\n   1) - - 1709287201 from mx.example.org\n   1) 192.0.2.7 1709287210 1709287300 from 192.0.2.7\n   1) - - 1969-12-31T10:00:00Z from 192.0.2.7\n",
+    },
+];
+
+#[test]
+fn shows_what_was_found(rt: HostRuntime) -> Result<(), Fail> {
+    for row in &DETAILS {
+        assert!(rt;
+            is_as_wanted(rt.alloc(), FILES, &NO_FAULTS, row)?,
+            "at {}",
+            row.said
+        );
+    }
+    Ok(())
+}
+
 const FAILURES: [Row; 4] = [
     // A name gives no address, no time is later than now, and the last line is too old.
     Row {

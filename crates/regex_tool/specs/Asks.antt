@@ -1,5 +1,5 @@
 -- The words of the tester: [OPTIONS] LOG REGEX [IGNOREREGEX].
-use Rattle.std.specs.Prelude.{◌≡◌, ℕ, ℤ, Bool, true, false, List, [], ◌∷◌, Option, Some, None, option_map, option_copied, codes, if◌then◌else◌}
+use Rattle.std.specs.Prelude.{◌≡◌, ◌||◌, ℕ, ℤ, Bool, true, false, List, [], ◌∷◌, Option, Some, None, option_map, option_copied, codes, if◌then◌else◌}
 use Rattle.std.specs.Str.{bytes_eq}
 use Rattle.clap.specs.Words.{App, Rule, Text, new_app, new_rule, with_rule, fault_of, matches_of, first_of, Kinds}
 use Rattle.clap.specs.Simple.{on_top}
@@ -22,6 +22,10 @@ letter name code = record (new_rule name) { short = Some code }
 abbrev pub named : Text → Rule
 named name = record (new_rule name) { long = Some name }
 
+-- an option of one letter, which has none
+abbrev pub mark : Text → (code : ℕ) → Rule
+mark name code = record (new_rule name) { short = Some code; action = Some SetTrue }
+
 -- an option by its name, which has none
 abbrev pub flag : Text → Rule
 flag name = record (new_rule name) { long = Some name; action = Some SetTrue }
@@ -36,8 +40,9 @@ bare_tool = on_top (λ s. record s { no_binary_name = true }) (new_app (codes "f
 abbrev pub with_values : App → App
 with_values app = with_rule (with_rule (with_rule (with_rule app (letter (codes "date") 100)) (letter (codes "conf") 99)) (letter (codes "out") 111)) (named (codes "timezone"))
 
+-- -v, and what is shown of lines
 abbrev pub with_flags : App → App
-with_flags app = with_rule (with_rule (with_rule app (flag (codes "print-all-matched"))) (flag (codes "print-all-ignored"))) (flag (codes "print-all-missed"))
+with_flags app = with_rule (with_rule (with_rule (with_rule app (mark (codes "detail") 118)) (flag (codes "print-all-matched"))) (flag (codes "print-all-ignored"))) (flag (codes "print-all-missed"))
 
 -- LOG, REGEX, and perhaps IGNOREREGEX
 abbrev pub with_places : App → App
@@ -74,7 +79,8 @@ form_of (Some text) = if bytes_eq text (codes "row") then Some Rows else if byte
 abbrev pub shows_of : (Text → Option Text) → Form → Shows
 shows_of given form = record {
   form = form;
-  matched = is_set (given (codes "print-all-matched"));
+  detail = is_set (given (codes "detail"));
+  matched = is_set (given (codes "detail")) || is_set (given (codes "print-all-matched"));
   ignored = is_set (given (codes "print-all-ignored"));
   missed = is_set (given (codes "print-all-missed"));
 }

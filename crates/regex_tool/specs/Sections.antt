@@ -1,5 +1,5 @@
 -- The lines that are shown of a log, and how.
-use Rattle.std.specs.Prelude.{ℕ, ◌++◌, Bool, List, [], ◌∷◌, is_some, codes, if◌then◌else◌}
+use Rattle.std.specs.Prelude.{ℕ, ◌++◌, Bool, List, [], ◌∷◌, Option, None, Some, is_some, codes, if◌then◌else◌}
 use Rattle.std.specs.Fmt.{decimal}
 use Rattle.f2b_base.specs.Addresses.{printed}
 use Rattle.filter_regex.specs.Rules.{Rules}
@@ -10,7 +10,7 @@ use Rattle.log_follow.specs.declared.line.Line.TheVariants.{Whole, Long}
 use Rattle.regex_tool.specs.Counts.{by_fail, by_ignore, is_missed}
 use Rattle.regex_tool.specs.Logs.{finding_of}
 use Rattle.regex_tool.specs.declared.section.Kind.{Kind}
-use Rattle.regex_tool.specs.declared.section.Kind.TheVariants.{Nothing, Matched, Ignored, Missed, Address, Row}
+use Rattle.regex_tool.specs.declared.section.Kind.TheVariants.{Nothing, Matched, Detail, Ignored, Missed, Address, Row}
 use Rattle.regex_tool.specs.declared.section.Section.{Section}
 use Rattle.regex_tool.specs.declared.sections.Sections.{Sections}
 use Rattle.regex_tool.specs.declared.shows.Form.{Form}
@@ -31,6 +31,16 @@ shown_line line = codes "   " ++ line_text line ++ codes "\n"
 abbrev pub shown_if : Bool → Line → List ℕ
 shown_if holds line = if holds then shown_line line else []
 
+-- `ADDRESS SECONDS`, of a failure
+abbrev pub who_of : Finding → List ℕ
+who_of (Failure addr time number) = printed addr ++ codes " " ++ decimal time
+who_of _ = codes "- -"
+
+-- `   NUMBER) ADDRESS SECONDS LINE`, with the number of the pattern that matched the line
+abbrev pub detail_of : Option ℕ → Line → Finding → List ℕ
+detail_of None line finding = []
+detail_of (Some number) line finding = codes "   " ++ decimal number ++ codes ") " ++ who_of finding ++ codes " " ++ line_text line ++ codes "\n"
+
 -- `ADDRESS`, of a failure
 abbrev pub address_of : Finding → List ℕ
 address_of (Failure addr time number) = printed addr ++ codes "\n"
@@ -45,6 +55,7 @@ row_of line _ = []
 abbrev pub piece : Kind → Line → Finding → List ℕ
 piece Nothing line finding = []
 piece Matched line finding = shown_if (is_some (by_fail finding)) line
+piece Detail line finding = detail_of (by_fail finding) line finding
 piece Ignored line finding = shown_if (is_some (by_ignore finding)) line
 piece Missed line finding = shown_if (is_missed finding) line
 piece Address line finding = address_of finding
@@ -77,6 +88,10 @@ kind_of Report = Nothing
 kind_of Rows = Row
 kind_of Addresses = Address
 
+-- how matched lines are shown
+abbrev pub matched_kind : (detail : Bool) → Kind
+matched_kind detail = if detail then Detail else Matched
+
 abbrev pub kind_if : Bool → Kind → Kind
 kind_if holds kind = if holds then kind else Nothing
 
@@ -84,7 +99,7 @@ kind_if holds kind = if holds then kind else Nothing
 abbrev pub no_sections : Shows → Sections
 no_sections shows = record {
   first = empty_section (kind_of shows.form);
-  matched = empty_section (kind_if shows.matched Matched);
+  matched = empty_section (kind_if shows.matched (matched_kind shows.detail));
   ignored = empty_section (kind_if shows.ignored Ignored);
   missed = empty_section (kind_if shows.missed Missed);
 }

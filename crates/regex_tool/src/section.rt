@@ -2,7 +2,8 @@
 ghost use Rattle.std.specs.Prelude.{◌≡◌, ◌++◌, codes, OnOk};
 ghost use Rattle.std.specs.Fmt.{decimal};
 ghost use Rattle.f2b_base.specs.Addresses.{printed};
-ghost use Rattle.regex_tool.specs.Sections.{address_of, empty_section, line_text, piece, row_of, section_after, shown_if, shown_line};
+ghost use Rattle.regex_tool.specs.Sections.{address_of, detail_of, empty_section, line_text, piece, row_of, section_after, shown_if, shown_line, who_of};
+ghost use Rattle.regex_tool.specs.Counts.{by_fail};
 
 use crate::counts::{by_fail, by_ignore, is_missed};
 use f2b_base::{Addr, Bytes, NoMemory};
@@ -16,6 +17,8 @@ pub(crate) enum Kind {
     Nothing,
     /// Each line that a pattern of failures matched.
     Matched,
+    /// The same, each with the number of the pattern, its address and its time.
+    Detail,
     Ignored,
     Missed,
     /// The address of each failure.
@@ -63,6 +66,39 @@ fn push_addr(text: &mut Bytes, addr: Addr) -> Result<(), NoMemory>
     text.push_slice(&printed[..len])
 }
 
+/// Whose failure it is, and when.
+fn push_who(alloc: Global, text: &mut Bytes, finding: Finding) -> Result<(), NoMemory>
+    ensures { OnOk result (text.new ≡ text.old ++ who_of finding) }
+{
+    let Finding::Failure { addr, time, .. } = finding else {
+        return text.push_slice(b"- -");
+    };
+    push_addr(text, addr)?;
+    text.push_slice(b" ")?;
+    push_number(alloc, text, time)
+}
+
+/// A line with the number of the pattern that matched it, if one did.
+fn push_detail(
+    alloc: Global,
+    text: &mut Bytes,
+    line: &Line,
+    finding: Finding,
+) -> Result<(), NoMemory>
+    ensures { OnOk result (text.new ≡ text.old ++ detail_of (by_fail finding) line.now finding) }
+{
+    let Some(number) = by_fail(finding) else {
+        return Ok(());
+    };
+    text.push_slice(b"   ")?;
+    push_number(alloc, text, u64::from(number))?;
+    text.push_slice(b") ")?;
+    push_who(alloc, text, finding)?;
+    text.push_slice(b" ")?;
+    text.push_slice(line_text(line))?;
+    text.push_slice(b"\n")
+}
+
 fn push_address(text: &mut Bytes, finding: Finding) -> Result<(), NoMemory>
     ensures { OnOk result (text.new ≡ text.old ++ address_of finding) }
 {
@@ -107,6 +143,7 @@ fn push_piece(
     match kind {
         Kind::Nothing => Ok(()),
         Kind::Matched => push_if(text, by_fail(finding).is_some(), line),
+        Kind::Detail => push_detail(alloc, text, line, finding),
         Kind::Ignored => push_if(text, by_ignore(finding).is_some(), line),
         Kind::Missed => push_if(text, is_missed(finding), line),
         Kind::Address => push_address(text, finding),

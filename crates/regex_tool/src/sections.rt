@@ -1,6 +1,6 @@
 //! All lines that are shown.
 ghost use Rattle.std.specs.Prelude.{◌≡◌, OnOk};
-ghost use Rattle.regex_tool.specs.Sections.{kind_if, kind_of, no_sections, sections_after};
+ghost use Rattle.regex_tool.specs.Sections.{kind_if, kind_of, matched_kind, no_sections, sections_after};
 
 use crate::section::{Kind, Section};
 use crate::shows::{Form, Shows};
@@ -35,6 +35,13 @@ fn kind_if(holds: bool, kind: Kind) -> Kind
     if holds { kind } else { Kind::Nothing }
 }
 
+/// How matched lines are shown.
+fn matched_kind(detail: bool) -> Kind
+    ensures { result ≡ matched_kind detail }
+{
+    if detail { Kind::Detail } else { Kind::Matched }
+}
+
 impl Sections {
     /// No line yet.
     pub(crate) fn new(alloc: Global, shows: Shows) -> Sections
@@ -42,7 +49,7 @@ impl Sections {
     {
         Sections {
             first: Section::new(alloc, kind_of(shows.form)),
-            matched: Section::new(alloc, kind_if(shows.matched, Kind::Matched)),
+            matched: Section::new(alloc, kind_if(shows.matched, matched_kind(shows.detail))),
             ignored: Section::new(alloc, kind_if(shows.ignored, Kind::Ignored)),
             missed: Section::new(alloc, kind_if(shows.missed, Kind::Missed)),
         }

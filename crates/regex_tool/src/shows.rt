@@ -14,6 +14,8 @@ pub(crate) enum Form {
 #[derive(Clone, Copy)]
 pub(crate) struct Shows {
     pub form: Form,
+    /// Lines that a pattern of failures matched are shown with what was found in them.
+    pub detail: bool,
     /// Behind that, all lines that a pattern of failures matched.
     pub matched: bool,
     /// Then those that were ignored.

@@ -1,7 +1,7 @@
 //! The words that the tester is called with.
 ghost use Rattle.std.specs.Prelude.{◌≡◌, false, map, option_copied, option_map, string_bytes, IfOk};
 ghost use Rattle.clap.specs.Words.{app_of, found_of, first_value, rule_of};
-ghost use Rattle.regex_tool.specs.Asks.{asks_by, bare_tool, flag, form_of, is_set, shows_of, shown, tool, with_flags, with_places, with_values, Answers};
+ghost use Rattle.regex_tool.specs.Asks.{asks_by, bare_tool, flag, form_of, is_set, mark, shows_of, shown, tool, with_flags, with_places, with_values, Answers};
 
 use crate::shows::{Form, Shows};
 use crate::zone::{Zone, zone_or_utc};
@@ -46,6 +46,16 @@ fn with_values<'w>(alloc: Global, command: Command<'w>) -> Result<Command<'w>, A
     command.arg(date)?.arg(conf)?.arg(out)?.arg(zone)
 }
 
+/// An option of one letter that has none.
+fn mark<'w>(alloc: Global, name: &'w str, letter: char) -> Arg<'w>
+    ensures rule { rule_of result ≡ mark name.entry.now letter }
+    ensures local { result.global ≡ false }
+{
+    Arg::new(alloc, name)
+        .short(letter)
+        .action(ArgAction::SetTrue)
+}
+
 /// An option that has none.
 fn flag<'w>(alloc: Global, name: &'w str) -> Arg<'w>
     ensures rule { rule_of result ≡ flag name.entry.now }
@@ -58,10 +68,11 @@ fn flag<'w>(alloc: Global, name: &'w str) -> Arg<'w>
 fn with_flags<'w>(alloc: Global, command: Command<'w>) -> Result<Command<'w>, AllocError>
     ensures { IfOk result (λ c. app_of c ≡ with_flags (app_of command.entry)) }
 {
+    let detail = mark(alloc, "detail", 'v');
     let matched = flag(alloc, "print-all-matched");
     let ignored = flag(alloc, "print-all-ignored");
     let missed = flag(alloc, "print-all-missed");
-    command.arg(matched)?.arg(ignored)?.arg(missed)
+    command.arg(detail)?.arg(matched)?.arg(ignored)?.arg(missed)
 }
 
 /// The words that stand alone.
@@ -113,9 +124,11 @@ fn form_of(given: Option<&str>) -> Option<Form>
 fn shows_of(matches: &ArgMatches<'_>, form: Form) -> Shows
     ensures { result ≡ shows_of (first_value (found_of matches.now)) form }
 {
+    let detail = is_set(matches.get_str("detail"));
     Shows {
         form,
-        matched: is_set(matches.get_str("print-all-matched")),
+        detail,
+        matched: detail || is_set(matches.get_str("print-all-matched")),
         ignored: is_set(matches.get_str("print-all-ignored")),
         missed: is_set(matches.get_str("print-all-missed")),
     }
