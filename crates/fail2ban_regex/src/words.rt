@@ -30,6 +30,8 @@ Tells which lines of a log a pattern or a filter finds.
                behind it or +hhmm or -hhmm; else that of UTC
   --print-all-matched, --print-all-ignored, --print-all-missed
                behind that, all lines of this kind
+  -v           all matched lines, each with the number of its pattern, its
+               address and its time in seconds
   --help       print this help
   --version    print the version
 
