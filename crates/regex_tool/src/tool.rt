@@ -70,13 +70,15 @@ fn test<F: Files, K: Sink>(
     }
 }
 
-/// Tests a pattern or a filter on a log, as the words ask: `[-d PATTERN] LOG REGEX [IGNOREREGEX]`.
+/// Tests a pattern or a filter on a log, as the words ask: `[OPTIONS] LOG REGEX [IGNOREREGEX]`.
 ///
 /// LOG is the path of a file, and where there is none the one line itself. REGEX is a filter where it ends in
-/// `filter.d/NAME.conf`, and else a pattern of failures. IGNOREREGEX and PATTERN stand in place of the filter's. Lines count as they do
-/// at `now`, in seconds since 1970, with the zone of UTC, no address left out, and failures of the last hundred years.
+/// `filter.d/NAME.conf`, or with `-c DIR` where it is a filter's name, and else a pattern of failures. IGNOREREGEX and `-d PATTERN`
+/// stand in place of the filter's. Lines count as they do at `now`, in seconds since 1970, with the zone of UTC or of
+/// `--timezone ZONE`, no address left out, and failures of the last hundred years.
 ///
-/// One text is said: the report, or why the test is refused.
+/// One text is said: the report, or with `-o ip` and `-o row` a line for each failure, and behind it the lines that `-v`,
+/// `--print-all-matched`, `--print-all-ignored` and `--print-all-missed` show; or why the test is refused.
 pub fn regex_tool<F: Files, K: Sink>(
     alloc: Global,
     words: &[String],
