@@ -1,6 +1,7 @@
 //! All jails of the server as code keeps them: their definitions, and what is kept of each beside it.
 //!
-//! A caller sees `Jails` as the model's middle state of the jails. What changes it is a part of the model's step: the ends by time, what
+//! A caller sees `Jails` as the model's middle state of the jails, and beside it of how many addresses failures are kept though none matters
+//! any more, and until when sweeps, which forget those, rest. What changes the state is a part of the model's step: the ends by time, what
 //! happened to the jails alone, a configuration, and the drops; what was done is told, in order. What is stored of the jails is the
 //! model's too, and so is what is taken up again of what was stored. A change takes time by the input, by how many jails there are and by
 //! what it changes, and not by what stands in a jail: a failure is one look into the windows of its jail, and a ban that ends costs
