@@ -83,6 +83,48 @@ fn an_input_that_is_cut_is_bad_at_the_field_that_is_cut(rt: HostRuntime) {
     }
 }
 
+// An input with one byte turned is bad somewhere, or is another input, spelt just so.
+fn turned(rt: &impl Abort, alloc: Global, bytes: &[u8], at: usize, turn: u8) -> Result<(), Fail> {
+    let mut turned = Bytes::new(alloc);
+    let (front, rest) = bytes.split_at_checked(at).ok_or("past the end")?;
+    let (first, behind) = rest.split_first().ok_or("past the end")?;
+    turned.push_slice(front)?;
+    turned.push(*first ^ turn)?;
+    turned.push_slice(behind)?;
+    match read_input(alloc, turned.as_slice()) {
+        Ok((input, len)) => {
+            let spelling = turned.as_slice().get(..len as usize).ok_or("too long")?;
+            assert!(rt;
+                is_spelt_as(alloc, &input, spelling)?,
+                "byte {at} of {bytes:?}"
+            );
+        }
+        Err(error) => assert!(rt; error != ReadError::NoMemory),
+    }
+    Ok(())
+}
+
+// The same for each of its bytes.
+fn each_byte_turned(rt: &impl Abort, alloc: Global, bytes: &[u8]) -> Result<(), Fail> {
+    for at in 0..bytes.len() {
+        turned(rt, alloc, bytes, at, 0x80)?;
+        turned(rt, alloc, bytes, at, 1)?;
+        turned(rt, alloc, bytes, at, 0xff)?;
+    }
+    Ok(())
+}
+
+#[test]
+fn an_input_with_a_turned_byte_has_no_second_spelling(rt: HostRuntime) -> Result<(), Fail> {
+    let alloc = rt.alloc();
+    each_byte_turned(&rt, alloc, &LOOK)?;
+    for what in KINDS {
+        let bytes = input_of(alloc, what)?;
+        each_byte_turned(&rt, alloc, bytes.as_slice())?;
+    }
+    Ok(())
+}
+
 // What happened as it is broken, and the place that is bad then.
 const BROKEN: [(&[u8], u64); 9] = [
     (&[14], 3),
