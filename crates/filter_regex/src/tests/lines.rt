@@ -98,12 +98,23 @@ fn are_found(
     Ok(())
 }
 
+/// The same, of a searcher of a jail and the masks of hosts that are never banned.
+fn jail_finds(
+    rt: &impl Abort,
+    alloc: Global,
+    parts: Parts<'_>,
+    masks: &str,
+    rows: &[(&str, Finding)],
+) -> Result<(), Fail> {
+    let filter = filter(alloc, parts)?;
+    let mut searcher = filter.searcher(alloc)?;
+    let ignore = ignoring(alloc, masks)?;
+    are_found(rt, &mut searcher, &ignore, rows)
+}
+
 #[test]
 fn lines_of_sshd(rt: HostRuntime) -> Result<(), Fail> {
-    let filter = filter(rt.alloc(), SSHD)?;
-    let mut searcher = filter.searcher(rt.alloc())?;
-    let ignore = ignoring(rt.alloc(), "10.0.0.0/8\n::1")?;
-    are_found(&rt, &mut searcher, &ignore, &LINES_OF_SSHD)
+    jail_finds(&rt, rt.alloc(), SSHD, "10.0.0.0/8\n::1", &LINES_OF_SSHD)
 }
 
 const LINE: &str = "1700000100 fail from 192.0.2.7";
@@ -183,18 +194,25 @@ fn are_found_then(
     Ok(())
 }
 
+/// The same, of a jail with one pattern.
+fn times_are(
+    rt: &impl Abort,
+    alloc: Global,
+    rows: &[(&str, u64, u64, Finding)],
+) -> Result<(), Fail> {
+    let parts = Parts {
+        fail: "^ fail from <IP4>$",
+        ..NONE
+    };
+    let filter = filter(alloc, parts)?;
+    let mut searcher = filter.searcher(alloc)?;
+    let none = ignoring(alloc, "")?;
+    are_found_then(rt, &mut searcher, &none, rows)
+}
+
 #[test]
 fn times(rt: HostRuntime) -> Result<(), Fail> {
-    let filter = filter(
-        rt.alloc(),
-        Parts {
-            fail: "^ fail from <IP4>$",
-            ..NONE
-        },
-    )?;
-    let mut searcher = filter.searcher(rt.alloc())?;
-    let none = ignoring(rt.alloc(), "")?;
-    are_found_then(&rt, &mut searcher, &none, &TIMES)
+    times_are(&rt, rt.alloc(), &TIMES)
 }
 
 const IGNORED_ADDRESSES: [(&str, Finding); 6] = [
@@ -220,22 +238,6 @@ const IGNORED_ADDRESSES: [(&str, Finding); 6] = [
     ("from host.example.org", Finding::NameOnly(1)),
 ];
 
-#[test]
-fn ignored_addresses(rt: HostRuntime) -> Result<(), Fail> {
-    let parts = Parts {
-        dated: Dated::NoDate,
-        fail: "from <HOST>$",
-        ..NONE
-    };
-    let filter = filter(rt.alloc(), parts)?;
-    let mut searcher = filter.searcher(rt.alloc())?;
-    let ignore = ignoring(rt.alloc(), "10.0.0.0/8")?;
-    are_found(&rt, &mut searcher, &ignore, &IGNORED_ADDRESSES)?;
-    // The same filter with another list.
-    let other = ignoring(rt.alloc(), "11.0.0.0/8")?;
-    are_found(&rt, &mut searcher, &other, &IGNORED_BY_ANOTHER_LIST)
-}
-
 const IGNORED_BY_ANOTHER_LIST: [(&str, Finding); 2] = [
     ("from 11.0.0.0", Finding::IgnoredAddr(1)),
     (
@@ -247,6 +249,25 @@ const IGNORED_BY_ANOTHER_LIST: [(&str, Finding); 2] = [
         },
     ),
 ];
+
+const FROM_A_HOST: Parts<'static> = Parts {
+    dated: Dated::NoDate,
+    fail: "from <HOST>$",
+    ..NONE
+};
+
+#[test]
+fn ignored_addresses(rt: HostRuntime) -> Result<(), Fail> {
+    let alloc = rt.alloc();
+    jail_finds(&rt, alloc, FROM_A_HOST, "10.0.0.0/8", &IGNORED_ADDRESSES)?;
+    jail_finds(
+        &rt,
+        alloc,
+        FROM_A_HOST,
+        "11.0.0.0/8",
+        &IGNORED_BY_ANOTHER_LIST,
+    )
+}
 
 fn found(alloc: Global, pref: &str, line: &str) -> Result<Finding, Fail> {
     let filter = filter(
