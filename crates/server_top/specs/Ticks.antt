@@ -5,9 +5,12 @@ use Rattle.f2b_base.specs.declared.input.What.{What}
 use Rattle.f2b_base.specs.declared.input.What.TheVariants.{Tick}
 use Rattle.f2b_base.specs.declared.outside.Reading.{Reading}
 use Rattle.f2b_model.specs.Steps.{is_ban_due, moves_now}
+use Rattle.f2b_world.specs.Told.{Called, Standing}
+use Rattle.f2b_world.specs.declared.event.Event.TheVariants.{Clock}
 use Rattle.run_law.specs.Points.{Point, AtTurn, AtClock}
 use Rattle.run_law.specs.Server.{Server}
 use Rattle.run_steps.specs.declared.clocked.Clocked.{Clocked}
+use Rattle.run_steps.specs.declared.running.Running.{Running}
 
 -- the beginning of a turn
 abbrev pub at_clock : Server → Point
@@ -18,6 +21,14 @@ pub record ReadsAt (before : Clocked) (answer : Reading) (after : Clocked) : Typ
   pub core : after.core ≡ before.core
   pub now : after.now ≡ max before.now (min answer.secs latest_reading)
   pub word : after.word ≡ answer.word
+
+-- the clock was read, and besides nothing is changed of what the code keeps
+pub record ReadsClock (old new : Standing) (before after : Running) : Type 0 where
+  pub answer : Reading
+  pub call : Called old (Clock answer) new
+  pub reads : ReadsAt before.clocked answer after.clocked
+  pub logs : after.logs ≡ before.logs
+  pub left : after.left ≡ before.left
 
 -- a tick, where a ban is due
 abbrev pub tick_of : Clocked → Option What

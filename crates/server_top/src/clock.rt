@@ -1,9 +1,9 @@
 //! The clock of a turn.
-ghost use Rattle.std.specs.Prelude.{◌≡◌, IfErr, IfOk};
-ghost use Rattle.run_law.specs.Stages.{HasCause, IsSteady, Moves, MoveFails};
+ghost use Rattle.std.specs.Prelude.{◌≡◌, [], IfErr, IfOk, Some};
+ghost use Rattle.run_law.specs.Stages.{Brings, BringFails, HasCause, IsSteady, Moves, MoveFails};
 ghost use Rattle.run_law.specs.Turn.{to_logs};
-ghost use Rattle.run_steps.specs.Keeping.{KeepsRunning};
-ghost use Rattle.server_top.specs.Ticks.{ReadsAt, at_clock, tick_of};
+ghost use Rattle.run_steps.specs.Keeping.{KeepsRunning, news_of};
+ghost use Rattle.server_top.specs.Ticks.{ReadsAt, ReadsClock, at_clock, tick_of};
 
 use f2b_base::{LATEST_READING, Reading, What};
 use f2b_world::World;
@@ -29,19 +29,73 @@ fn at_reading(clocked: Clocked, reading: Reading) -> Clocked
     }
 }
 
-// A tick, where a ban is due.
-fn tick_of(clocked: &Clocked) -> Option<What>
-    ensures { result ≡ tick_of clocked.entry.now }
+// Reads the clock. The logs and the turns that are left stay as they are.
+#[tactic(auto, using(crate::proofs::ClockLemmas::clock_reads, run_law::proofs::CauseLemmas::counting))]
+fn read<'f, W: World>(world: &mut W, running: Running<'f>) -> Running<'f>
+    ensures reads { ReadsClock (W.stands world.old) (W.stands world.new) running.entry result }
+    ensures steady { IsSteady (W.stands world.old) (W.stands world.new) }
 {
-    if clocked.core.ban_due(clocked.now) {
-        Some(What::Tick)
-    } else {
-        None
+    let reading = world.clock();
+    let Running {
+        clocked,
+        logs,
+        left,
+    } = running;
+    Running {
+        clocked: at_reading(clocked, reading),
+        logs,
+        left,
     }
 }
 
+// Takes a tick, which ends the bans that are due.
+#[tactic(auto, using(crate::proofs::ClockLemmas::ticking, run_steps::proofs::BringLemmas::unbrought_cause, run_law::proofs::CauseLemmas::counting))]
+fn tick<'f, W: World>(
+    alloc: Global,
+    world: &mut W,
+    running: Running<'f>,
+) -> Result<Running<'f>, Status>
+    ensures ok { IfOk result (Brings KeepsRunning (W.stands world.old) (W.stands world.new) (news_of [] (Some What.Tick) []) running.entry) }
+    ensures err { IfErr result (BringFails KeepsRunning (W.stands world.old) (W.stands world.new) (news_of [] (Some What.Tick) []) running.entry) }
+    ensures cause { IfErr result (HasCause (W.stands world.old) (W.stands world.new)) }
+    ensures steady { IsSteady (W.stands world.old) (W.stands world.new) }
+    ensures left { IfOk result (λ after. after.left ≡ running.entry.left) }
+{
+    let Running {
+        clocked,
+        logs,
+        left,
+    } = running;
+    let clocked = bring(alloc, world, clocked, &[], Some(What::Tick), &[])?;
+    Ok(Running {
+        clocked,
+        logs,
+        left,
+    })
+}
+
+// Takes a tick where a ban is due. Where none is due no memory is asked for.
+#[tactic(auto, using(crate::proofs::ClockLemmas::ending, run_law::proofs::CauseLemmas::counting))]
+fn end_due<'f, W: World>(
+    alloc: Global,
+    world: &mut W,
+    running: Running<'f>,
+) -> Result<Running<'f>, Status>
+    ensures ok { IfOk result (Brings KeepsRunning (W.stands world.old) (W.stands world.new) (news_of [] (tick_of running.entry.clocked) []) running.entry) }
+    ensures err { IfErr result (BringFails KeepsRunning (W.stands world.old) (W.stands world.new) (news_of [] (tick_of running.entry.clocked) []) running.entry) }
+    ensures due { IfErr result (λ status. tick_of running.entry.clocked ≡ Some What.Tick) }
+    ensures cause { IfErr result (HasCause (W.stands world.old) (W.stands world.new)) }
+    ensures steady { IsSteady (W.stands world.old) (W.stands world.new) }
+    ensures left { IfOk result (λ after. after.left ≡ running.entry.left) }
+{
+    if running.clocked.core.ban_due(running.clocked.now) {
+        return tick(alloc, world, running);
+    }
+    Ok(running)
+}
+
 /// Reads the clock, and ends the bans that are due.
-#[tactic(auto, using(crate::proofs::ClockLemmas::reading, run_steps::proofs::BringLemmas::unbrought_cause, run_law::proofs::CauseLemmas::counting))]
+#[tactic(auto, using(crate::proofs::ClockLemmas::reading, run_law::proofs::CauseLemmas::counting))]
 pub fn read_clock<'f, W: World>(
     alloc: Global,
     world: &mut W,
@@ -53,18 +107,7 @@ pub fn read_clock<'f, W: World>(
     ensures steady { IsSteady (W.stands world.old) (W.stands world.new) }
     ensures left { IfOk result (λ after. after.left ≡ running.entry.left) }
 {
-    let Running {
-        clocked,
-        logs,
-        left,
-    } = running;
-    let reading = world.clock();
-    let clocked = at_reading(clocked, reading);
-    let what = tick_of(&clocked);
-    let clocked = bring(alloc, world, clocked, &[], what, &[])?;
-    Ok(Running {
-        clocked,
-        logs,
-        left,
-    })
+    let running = read(world, running);
+    let running = end_due(alloc, world, running)?;
+    Ok(running)
 }
