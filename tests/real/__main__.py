@@ -14,6 +14,7 @@ import traceback
 from concurrent.futures import ThreadPoolExecutor
 
 import clock
+import commands
 import configuration
 import ends
 import logs
@@ -24,7 +25,15 @@ from room import Failed, Room, Skipped
 # So many checks are made side by side: most of each is waiting.
 SIDE_BY_SIDE = 6
 
-CHECKS = [*ends.CHECKS, *clock.CHECKS, *configuration.CHECKS, *logs.CHECKS, *output.CHECKS, *tester.CHECKS]
+CHECKS = [
+    *ends.CHECKS,
+    *clock.CHECKS,
+    *configuration.CHECKS,
+    *logs.CHECKS,
+    *output.CHECKS,
+    *commands.CHECKS,
+    *tester.CHECKS,
+]
 
 
 def sentence(check):

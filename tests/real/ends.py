@@ -10,11 +10,13 @@ USAGE = ["ERROR usage"]
 
 
 def help_is_asked_for(room):
-    """--help and --version are answered with their text, and status 0"""
-    status, said, errors = room.run("--help")
-    same((status, said[:28], errors), (0, "Usage: fail2ban-server --con", ""), "help")
-    status, said, errors = room.run("--version")
-    same((status, said[:16], said.count("\n"), errors), (0, "fail2ban-server ", 1, ""), "version")
+    """--help and --version, or -h and -V, are answered with their text, and status 0"""
+    for word in ["--help", "-h"]:
+        status, said, errors = room.run(word)
+        same((status, said[:28], errors), (0, "Usage: fail2ban-server --con", ""), word)
+    for word in ["--version", "-V"]:
+        status, said, errors = room.run(word)
+        same((status, said[:16], said.count("\n"), errors), (0, "fail2ban-server ", 1, ""), word)
 
 
 def words_are_wrong(room):
@@ -70,14 +72,6 @@ def pattern_is_refused(room):
     room.ends(11, ["ERROR Pattern refused: web failregex 2 TooBig"], "--conf", room.conf)
 
 
-def jail_has_an_action(room):
-    """a jail with an action is status 13"""
-    room.configure(more="action = note\n")
-    os.mkdir(room.path("conf/action.d"))
-    write(room.path("conf/action.d/note.conf"), "[Definition]\nactionban = true\n")
-    room.ends(13, ["ERROR not built"], "--conf", room.conf)
-
-
 def memory_runs_out(room):
     """a server that finds no memory ends with status 71, and says nothing"""
     # The program with checks asks for far more room than it uses, so there the size of one piece is limited.
@@ -123,7 +117,6 @@ CHECKS = [
     configuration_is_not_read,
     configuration_is_refused,
     pattern_is_refused,
-    jail_has_an_action,
     memory_runs_out,
     a_signal_ends,
     a_stop_and_go_on,

@@ -57,27 +57,41 @@ def reader_has_gone(room):
         process.wait()
 
 
-def reader_is_slow(room):
-    """where the reader of a pipe is slow the server waits, and each line comes whole and in order"""
+def slow(room, blocking):
+    """Reads a small pipe slowly, whose end that the server writes to waits or would block."""
     addresses = [f"198.51.{number // 250}.{number % 250 + 1}" for number in range(10_000)]
-    process = subprocess.Popen(room.words(), stdin=subprocess.DEVNULL, stdout=subprocess.PIPE)
+    read_end, write_end = os.pipe()
+    os.set_blocking(write_end, blocking)
+    process = subprocess.Popen(room.words(), stdin=subprocess.DEVNULL, stdout=write_end)
+    os.close(write_end)
     try:
-        fcntl.fcntl(process.stdout, getattr(fcntl, "F_SETPIPE_SZ", 1031), PAGE)
-        want(process.stdout.readline().endswith(b" INFO Server ready\n"), "no first line")
-        write(room.log, failures(*addresses), "a")
-        time.sleep(2)
-        said = b""
-        while said.count(b"\n") < len(addresses):
-            piece = os.read(process.stdout.fileno(), PAGE)
-            want(piece, f"the server ended with {process.poll()}")
-            said += piece
-        found = [line.split(" ", 1)[1] for line in said.decode().splitlines()]
-        want(found == [f"INFO [web] Found {address}" for address in addresses], "lines are lost, cut or in another order")
-        write(room.log, failures("192.0.2.7"), "a")
-        want(process.stdout.readline().endswith(b" INFO [web] Found 192.0.2.7\n"), "no line behind the others")
+        fcntl.fcntl(read_end, getattr(fcntl, "F_SETPIPE_SZ", 1031), PAGE)
+        with os.fdopen(read_end, "rb", buffering=0) as said_by:
+            want(said_by.readline().endswith(b" INFO Server ready\n"), "no first line")
+            write(room.log, failures(*addresses), "a")
+            time.sleep(2)
+            said = b""
+            while said.count(b"\n") < len(addresses):
+                piece = said_by.read(PAGE)
+                want(piece, f"the server ended with {process.poll()}")
+                said += piece
+            found = [line.split(" ", 1)[1] for line in said.decode().splitlines()]
+            want(found == [f"INFO [web] Found {address}" for address in addresses], "lines are lost, cut or in another order")
+            write(room.log, failures("192.0.2.7"), "a")
+            want(said_by.readline().endswith(b" INFO [web] Found 192.0.2.7\n"), "no line behind the others")
     finally:
         process.kill()
         process.wait()
+
+
+def reader_is_slow(room):
+    """where the reader of a pipe is slow the server waits, and each line comes whole and in order"""
+    slow(room, blocking=True)
+
+
+def output_would_block(room):
+    """where standard output would block the server waits too, and each line comes whole and in order"""
+    slow(room, blocking=False)
 
 
 def input_is_closed(room):
@@ -95,4 +109,4 @@ def input_is_closed(room):
     same(lines, ["INFO Server ready", "INFO [web] Found 192.0.2.7"], "said")
 
 
-CHECKS = [output_is_full, output_becomes_full, output_is_closed, reader_has_gone, reader_is_slow, input_is_closed]
+CHECKS = [output_is_full, output_becomes_full, output_is_closed, reader_has_gone, reader_is_slow, output_would_block, input_is_closed]

@@ -29,3 +29,4 @@ mod tries;
 
 pub use checks::CheckEnd;
 pub use lanes::Lanes;
+pub use tries::is_success;

@@ -1,7 +1,7 @@
 //! Worked rows: tries and their pauses, lanes and their order, and the last moment. A row names its lanes by letters.
 
 use crate::Lanes;
-use f2b_base::{Family, Job, JobKind, LAST_MOMENT, LaneId, Outcome, Plain, Settled, Text};
+use f2b_base::{Family, Job, JobKind, LAST_MOMENT, LaneId, Outcome, Settled, Text};
 use std::alloc::Global;
 use std::process::Abort;
 use std::test::Fail;
@@ -102,6 +102,13 @@ fn take_row(rt: &impl Abort, alloc: Global, name: &str, steps: &[Step]) -> Resul
     Ok(())
 }
 
+fn take_rows(rt: &impl Abort, alloc: Global, rows: &[(&str, &[Step])]) -> Result<(), Fail> {
+    for (name, steps) in rows {
+        take_row(rt, alloc, name, steps)?;
+    }
+    Ok(())
+}
+
 const FAILED: Outcome = Outcome::Status(1);
 
 const SUCCEEDED: Outcome = Outcome::Status(0);
@@ -109,7 +116,7 @@ const SUCCEEDED: Outcome = Outcome::Status(0);
 #[test]
 fn a_job_has_three_tries(rt: HostRuntime) -> Result<(), Fail> {
     use Step::{Count, Ends, Next, Push};
-    let rows: [(&str, &[Step]); 4] = [
+    const ROWS: [(&str, &[Step]); 4] = [
         (
             "the third try succeeds",
             &[
@@ -163,16 +170,13 @@ fn a_job_has_three_tries(rt: HostRuntime) -> Result<(), Fail> {
             ],
         ),
     ];
-    for (name, steps) in rows {
-        take_row(&rt, rt.alloc(), name, steps)?;
-    }
-    Ok(())
+    take_rows(&rt, rt.alloc(), &ROWS)
 }
 
 #[test]
 fn lanes_do_not_wait_for_each_other(rt: HostRuntime) -> Result<(), Fail> {
     use Step::{Count, Ends, Next, Push};
-    let rows: [(&str, &[Step]); 4] = [
+    const ROWS: [(&str, &[Step]); 4] = [
         (
             "of equal moments the least id comes first, and one job of a lane at a time",
             &[
@@ -236,43 +240,107 @@ fn lanes_do_not_wait_for_each_other(rt: HostRuntime) -> Result<(), Fail> {
             ],
         ),
     ];
-    for (name, steps) in rows {
-        take_row(&rt, rt.alloc(), name, steps)?;
+    take_rows(&rt, rt.alloc(), &ROWS)
+}
+
+/// A lane of the action `a`.
+#[derive(Clone, Copy)]
+enum Which {
+    Named,
+    OfOtherJail,
+    OfOtherFamily,
+}
+
+fn lane(alloc: Global, which: Which) -> Result<LaneId, Fail> {
+    let mut lane = lane_of(alloc, "a")?;
+    match which {
+        Which::Named => (),
+        Which::OfOtherJail => lane.jail = Text::from_str(alloc, "nginx")?,
+        Which::OfOtherFamily => lane.family = Family::Inet6,
+    }
+    Ok(lane)
+}
+
+fn push_each(
+    rt: &impl Abort,
+    alloc: Global,
+    lanes: &mut Lanes,
+    rows: &[(u64, Which)],
+) -> Result<(), Fail> {
+    for &(id, which) in rows {
+        push(
+            rt,
+            alloc,
+            lanes,
+            job_of(alloc, id, lane(alloc, which)?, 100),
+        )?;
     }
     Ok(())
 }
+
+/// Rows of a lane and the id of its first job.
+fn are_heads(
+    rt: &impl Abort,
+    alloc: Global,
+    lanes: &Lanes,
+    rows: &[(Which, u64)],
+) -> Result<(), Fail> {
+    for &(which, want) in rows {
+        let head = lanes.head(&lane(alloc, which)?).map(|job| job.id);
+        assert_eq!(rt; head, Some(want), "at {want}");
+    }
+    Ok(())
+}
+
+/// Rows of a job's id, its tries and when it is due.
+fn are_jobs(
+    rt: &impl Abort,
+    alloc: Global,
+    lanes: &Lanes,
+    rows: &[(u64, u8, u64)],
+) -> Result<(), Fail> {
+    let jobs = lanes.jobs(alloc)?;
+    assert_eq!(rt; jobs.len(), rows.len());
+    for (job, row) in jobs.as_slice().iter().zip(rows) {
+        assert_eq!(rt; (job.id, job.tries, job.due), *row);
+    }
+    Ok(())
+}
+
+const PUSHED: [(u64, Which); 4] = [
+    (1, Which::Named),
+    (2, Which::OfOtherJail),
+    (3, Which::OfOtherFamily),
+    (9, Which::Named),
+];
+
+const HEADS: [(Which, u64); 3] = [
+    (Which::Named, 1),
+    (Which::OfOtherJail, 2),
+    (Which::OfOtherFamily, 3),
+];
+
+const JOBS: [(u64, u8, u64); 4] = [(1, 1, 102), (2, 0, 100), (3, 0, 100), (9, 0, 100)];
 
 #[test]
 fn finds_heads_of_lanes(rt: HostRuntime) -> Result<(), Fail> {
     let alloc = rt.alloc();
     let mut lanes = Lanes::new(alloc);
-    let named = lane_of(alloc, "a")?;
-    let mut other_jail = lane_of(alloc, "a")?;
-    other_jail.jail = Text::from_str(alloc, "nginx")?;
-    let mut other_family = lane_of(alloc, "a")?;
-    other_family.family = Family::Inet6;
-    for (id, lane) in [
-        (1, &named),
-        (2, &other_jail),
-        (3, &other_family),
-        (9, &named),
-    ] {
-        push(&rt, alloc, &mut lanes, job_of(alloc, id, lane.copy()?, 100))?;
-    }
-    for (lane, want) in [(&named, 1), (&other_jail, 2), (&other_family, 3)] {
-        assert_eq!(rt; lanes.head(lane).map(|job| job.id), Some(want), "at {want}");
-    }
+    push_each(&rt, alloc, &mut lanes, &PUSHED)?;
+    are_heads(&rt, alloc, &lanes, &HEADS)?;
     assert_eq!(rt; lanes.head(&lane_of(alloc, "b")?), None);
+    settle(&rt, &mut lanes, 1, FAILED, 100);
+    are_jobs(&rt, alloc, &lanes, &JOBS)
+}
+
+#[test]
+fn finds_jobs(rt: HostRuntime) -> Result<(), Fail> {
+    let alloc = rt.alloc();
+    let mut lanes = Lanes::new(alloc);
+    push_each(&rt, alloc, &mut lanes, &PUSHED)?;
     assert_eq!(rt; lanes.find(9).map(|job| job.id), Some(9));
     assert_eq!(rt; lanes.find(4), None);
     assert!(rt; !lanes.is_head(9) && !lanes.is_head(4));
     assert!(rt; !lanes.is_above_all(9) && lanes.is_above_all(10));
-    settle(&rt, &mut lanes, 1, FAILED, 100);
-    let jobs = lanes.jobs(alloc)?;
-    let shown = [(1, 1, 102), (2, 0, 100), (3, 0, 100), (9, 0, 100)];
-    assert_eq!(rt; jobs.len(), shown.len());
-    for (job, (id, tries, due)) in jobs.as_slice().iter().zip(shown) {
-        assert_eq!(rt; (job.id, job.tries, job.due), (id, tries, due));
-    }
     Ok(())
 }

@@ -76,11 +76,18 @@ fn take_row(rt: &impl Abort, alloc: Global, name: &str, steps: &[Step]) -> Resul
     Ok(())
 }
 
+fn take_rows(rt: &impl Abort, alloc: Global, rows: &[(&str, &[Step])]) -> Result<(), Fail> {
+    for (name, steps) in rows {
+        take_row(rt, alloc, name, steps)?;
+    }
+    Ok(())
+}
+
 #[test]
 fn a_failed_check_voids_its_lane_up_to_a_stop(rt: HostRuntime) -> Result<(), Fail> {
     use JobKind::{Ban, Reban, Start, Stop, Unban};
     use Step::{Checked, Closing, Ends, Fails, Left, Push};
-    let rows: [(&str, &[Step]); 4] = [
+    const ROWS: [(&str, &[Step]); 4] = [
         (
             "the lane is restarted, and a Reban has no check",
             &[
@@ -170,8 +177,5 @@ fn a_failed_check_voids_its_lane_up_to_a_stop(rt: HostRuntime) -> Result<(), Fai
             ],
         ),
     ];
-    for (name, steps) in rows {
-        take_row(&rt, rt.alloc(), name, steps)?;
-    }
-    Ok(())
+    take_rows(&rt, rt.alloc(), &ROWS)
 }

@@ -4,6 +4,7 @@ use crate::Lanes;
 use crate::tests::{job_of, lane_of, push, settle};
 use f2b_base::{LaneId, NoMemory, Outcome, Plain, Settled};
 use std::alloc::Global;
+use std::process::Abort;
 use std::test::Fail;
 
 const JOBS: u64 = 1_000_000;
@@ -27,32 +28,48 @@ fn start(lanes: &Lanes, running: &mut Vec<u64>) -> Result<(), NoMemory> {
     Ok(())
 }
 
-#[test]
-fn a_million_jobs_settle_within_seconds(rt: HostRuntime) -> Result<(), Fail> {
-    let alloc = rt.alloc();
+fn lanes_of(alloc: Global, actions: &[&str]) -> Result<Vec<LaneId>, Fail> {
     let mut ids: Vec<LaneId> = Vec::new(alloc);
-    for action in ACTIONS {
+    for action in actions {
         ids.push(lane_of(alloc, action)?)?;
     }
+    Ok(ids)
+}
+
+// All jobs, pushed into the lanes in turn.
+fn all_pushed(rt: &impl Abort, alloc: Global) -> Result<Lanes, Fail> {
+    let ids = lanes_of(alloc, &ACTIONS)?;
     let mut lanes = Lanes::new(alloc);
     for id in 0..JOBS {
         let lane = ids.get((id % 32) as usize).ok_or("no lane")?;
-        push(
-            &rt,
-            alloc,
-            &mut lanes,
-            job_of(alloc, id, lane.copy()?, 1000),
-        )?;
+        push(rt, alloc, &mut lanes, job_of(alloc, id, lane.copy()?, 1000))?;
     }
     assert_eq!(rt; lanes.count(), JOBS);
-    let mut running = Vec::new(alloc);
+    Ok(lanes)
+}
+
+// Settles the job that was started first of those that run.
+fn settle_next(
+    rt: &impl Abort,
+    lanes: &mut Lanes,
+    running: &mut Vec<u64>,
+    want: u64,
+) -> Result<(), Fail> {
+    start(lanes, running)?;
+    assert!(rt; !running.is_empty(), "at job {want}");
+    let id = running.remove(0);
+    assert_eq!(rt; id, want);
+    let settled = settle(rt, lanes, id, Outcome::Status(0), 1000);
+    assert_eq!(rt; settled, Settled::Done);
+    Ok(())
+}
+
+#[test]
+fn a_million_jobs_settle_within_seconds(rt: HostRuntime) -> Result<(), Fail> {
+    let mut lanes = all_pushed(&rt, rt.alloc())?;
+    let mut running = Vec::new(rt.alloc());
     for want in 0..JOBS {
-        start(&lanes, &mut running)?;
-        assert!(rt; !running.is_empty(), "at job {want}");
-        let id = running.remove(0);
-        assert_eq!(rt; id, want);
-        let settled = settle(&rt, &mut lanes, id, Outcome::Status(0), 1000);
-        assert_eq!(rt; settled, Settled::Done);
+        settle_next(&rt, &mut lanes, &mut running, want)?;
     }
     assert_eq!(rt; lanes.count(), 0);
     Ok(())

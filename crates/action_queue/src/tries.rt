@@ -25,7 +25,7 @@ pub(crate) fn settled_as(job: &Job, id: u64, outcome: Outcome, now: u64) -> Sett
 }
 
 /// Whether the try succeeded: its command ended with status 0.
-fn is_success(outcome: Outcome) -> bool
+pub fn is_success(outcome: Outcome) -> bool
     ensures { result ≡ is_success outcome }
 {
     match outcome {

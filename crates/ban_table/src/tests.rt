@@ -5,6 +5,7 @@ ghost use Rattle.f2b_base.specs.Limits.{last_moment};
 use crate::{BanLists, BanTable};
 use f2b_base::{Addr, Ban, LAST_MOMENT, NoMemory, Past, Seq, Until};
 use std::alloc::Global;
+use std::process::Abort;
 use std::test::Fail;
 
 /// A table in which these bans began one after the other, with serials from 0 on. Who is banned is passed over.
@@ -78,53 +79,68 @@ fn ended_at(alloc: Global, table: &mut BanTable, now: u64) -> Result<Vec<u64>, N
     Ok(serials)
 }
 
-#[test]
-fn bans_end_by_end_and_then_by_serial(rt: HostRuntime) -> Result<(), Fail> {
-    let bans = [
-        (Addr::V4(1), Until::At(20)),
-        (Addr::V4(2), Until::At(10)),
-        (Addr::V4(3), Until::Never),
-        (Addr::V6(2), Until::At(10)),
-        (Addr::V6(1), Until::At(30)),
-    ];
-    let mut table = table_of(rt.alloc(), &bans)?;
-    let rows: [(u64, &[u64]); 6] = [
-        (9, &[]),
-        (10, &[1, 3]),
-        (19, &[]),
-        (25, &[0]),
-        (40, &[4]),
-        (LAST_MOMENT, &[]),
-    ];
-    for (now, serials) in rows {
-        let ended = ended_at(rt.alloc(), &mut table, now)?;
+/// Rows of a moment and the serials of the bans that are ended at it.
+fn are_ended(
+    rt: &impl Abort,
+    alloc: Global,
+    table: &mut BanTable,
+    rows: &[(u64, &[u64])],
+) -> Result<(), Fail> {
+    for &(now, serials) in rows {
+        let ended = ended_at(alloc, table, now.min(LAST_MOMENT))?;
         assert_eq!(rt; ended.as_slice(), serials, "at {now}");
     }
-    let lists = table.lists()?;
-    let mut ends = Vec::new(rt.alloc());
-    for entry in lists.past.as_slice() {
+    Ok(())
+}
+
+/// The ends of the past bans, in their order.
+fn past_ends(alloc: Global, table: &BanTable) -> Result<Vec<u64>, NoMemory> {
+    let mut ends = Vec::new(alloc);
+    for entry in table.lists()?.past.as_slice() {
         ends.push(entry.end)?;
     }
+    Ok(ends)
+}
+
+const FIVE_BANS: [(Addr, Until); 5] = [
+    (Addr::V4(1), Until::At(20)),
+    (Addr::V4(2), Until::At(10)),
+    (Addr::V4(3), Until::Never),
+    (Addr::V6(2), Until::At(10)),
+    (Addr::V6(1), Until::At(30)),
+];
+
+const ENDED: [(u64, &[u64]); 6] = [
+    (9, &[]),
+    (10, &[1, 3]),
+    (19, &[]),
+    (25, &[0]),
+    (40, &[4]),
+    (LAST_MOMENT, &[]),
+];
+
+#[test]
+fn bans_end_by_end_and_then_by_serial(rt: HostRuntime) -> Result<(), Fail> {
+    let mut table = table_of(rt.alloc(), &FIVE_BANS)?;
+    are_ended(&rt, rt.alloc(), &mut table, &ENDED)?;
+    let ends = past_ends(rt.alloc(), &table)?;
     assert_eq!(rt; ends.as_slice(), [10, 10, 25, 40].as_slice());
-    assert_eq!(rt; lists.active.len(), 1);
+    assert_eq!(rt; table.lists()?.active.len(), 1);
     assert!(rt; table.active(Addr::V4(3)).is_some());
     assert!(rt; table.active(Addr::V4(2)).is_none());
     assert!(rt; table.end(Addr::V4(2), 50).is_none());
     Ok(())
 }
 
-#[test]
-fn past_entries_count_until_they_are_purged(rt: HostRuntime) -> Result<(), Fail> {
-    let bans = [(Addr::V4(1), Until::At(20)), (Addr::V4(2), Until::At(10))];
-    let mut table = table_of(rt.alloc(), &bans)?;
-    let rows = [
-        (19, 0, 1, 0),
-        (20, 1, 1, 18),
-        (30, 1, 0, 19),
-        (30, 0, 0, 20),
-    ];
-    for (now, first, second, limit) in rows {
-        let _ = ended_at(rt.alloc(), &mut table, now)?;
+/// Rows of a moment, the past bans that two addresses have after a purge, and its limit.
+fn are_counted(
+    rt: &impl Abort,
+    alloc: Global,
+    table: &mut BanTable,
+    rows: &[(u64, u32, u32, u64)],
+) -> Result<(), Fail> {
+    for &(now, first, second, limit) in rows {
+        let _ = ended_at(alloc, table, now.min(LAST_MOMENT))?;
         table.purge(limit);
         assert_eq!(rt;
             (table.past(Addr::V4(1)), table.past(Addr::V4(2))),
@@ -135,69 +151,105 @@ fn past_entries_count_until_they_are_purged(rt: HostRuntime) -> Result<(), Fail>
     Ok(())
 }
 
+const TWO_BANS: [(Addr, Until); 2] = [(Addr::V4(1), Until::At(20)), (Addr::V4(2), Until::At(10))];
+
+const PURGED: [(u64, u32, u32, u64); 4] = [
+    (19, 0, 1, 0),
+    (20, 1, 1, 18),
+    (30, 1, 0, 19),
+    (30, 0, 0, 20),
+];
+
 #[test]
-fn each_address_has_its_own_past_bans(rt: HostRuntime) -> Result<(), Fail> {
-    // Each address is banned one to four times, by its number, and each third one once more, which does not end.
-    let mut steps = Vec::new(rt.alloc());
-    for round in 0..4_u32 {
-        for number in 0..200_u32 {
-            if round <= number % 4 {
-                steps.push(Step::Start(Addr::V4(number)))?;
-            }
-        }
-        for number in 0..200_u32 {
-            steps.push(Step::End(Addr::V4(number), round * 10))?;
+fn past_entries_count_until_they_are_purged(rt: HostRuntime) -> Result<(), Fail> {
+    let mut table = table_of(rt.alloc(), &TWO_BANS)?;
+    are_counted(&rt, rt.alloc(), &mut table, &PURGED)
+}
+
+/// Each address whose number has a greater rest by 4, or the same one, is banned, and the bans of all end at a moment.
+fn push_round(steps: &mut Vec<Step>, round: u32, at: u32) -> Result<(), NoMemory> {
+    for number in 0..200_u32 {
+        if round <= number % 4 {
+            steps.push(Step::Start(Addr::V4(number)))?;
         }
     }
+    for number in 0..200_u32 {
+        steps.push(Step::End(Addr::V4(number), at))?;
+    }
+    Ok(())
+}
+
+/// Each third address is banned.
+fn push_last(steps: &mut Vec<Step>) -> Result<(), NoMemory> {
     for number in 0..200_u32 {
         if number % 3 == 0 {
             steps.push(Step::Start(Addr::V4(number)))?;
         }
     }
-    let mut table = table_after(rt.alloc(), steps.as_slice())?;
-    let rows: [(u64, u32); 5] = [(0, 1), (9, 1), (10, 2), (29, 3), (30, 4)];
-    for (limit, gone) in rows {
-        table.purge(limit);
-        for number in 0..200_u32 {
-            assert_eq!(rt;
-                table.past(Addr::V4(number)),
-                (number % 4 + 1).saturating_sub(gone),
-                "of {number} at {limit}"
-            );
-        }
-        assert_eq!(rt; table.past(Addr::V6(3)), 0);
+    Ok(())
+}
+
+/// A purge at this limit leaves each address so many past bans less.
+fn are_left(rt: &impl Abort, table: &mut BanTable, limit: u64, gone: u32) {
+    table.purge(limit);
+    for number in 0..200_u32 {
+        assert_eq!(rt;
+            table.past(Addr::V4(number)),
+            (number % 4 + 1).saturating_sub(gone),
+            "of {number} at {limit}"
+        );
     }
+    assert_eq!(rt; table.past(Addr::V6(3)), 0);
+}
+
+fn are_left_each(rt: &impl Abort, table: &mut BanTable, rows: &[(u64, u32)]) {
+    for &(limit, gone) in rows {
+        are_left(rt, table, limit, gone);
+    }
+}
+
+const GONE: [(u64, u32); 5] = [(0, 1), (9, 1), (10, 2), (29, 3), (30, 4)];
+
+#[test]
+fn each_address_has_its_own_past_bans(rt: HostRuntime) -> Result<(), Fail> {
+    // Each address is banned one to four times, by its number, and each third one once more, which does not end.
+    let mut steps = Vec::new(rt.alloc());
+    for round in 0..4_u32 {
+        push_round(&mut steps, round, round * 10)?;
+    }
+    push_last(&mut steps)?;
+    let mut table = table_after(rt.alloc(), steps.as_slice())?;
+    are_left_each(&rt, &mut table, &GONE);
     assert_eq!(rt; table.bans()?.len(), 67);
     Ok(())
 }
 
-#[test]
-fn entries_in_another_order_are_purged_too(rt: HostRuntime) -> Result<(), Fail> {
-    let mut past = Seq::new(rt.alloc());
-    for (number, end) in [(1, 7), (2, 3), (1, 9), (2, 4), (3, 5), (2, 8)] {
+/// A table without active bans, with past ones of these addresses that ended so.
+fn table_of_past(alloc: Global, rows: &[(u32, u64)]) -> Result<BanTable, NoMemory> {
+    let mut past = Seq::new(alloc);
+    for &(number, end) in rows {
         past.push(Past {
             addr: Addr::V4(number),
             end,
         })?;
     }
     let lists = BanLists {
-        active: Seq::new(rt.alloc()),
+        active: Seq::new(alloc),
         past,
     };
-    let mut table = BanTable::of(rt.alloc(), &lists)?;
-    let rows: [(u64, &[u64], [u32; 3]); 5] = [
-        (2, &[7, 3, 9, 4, 5, 8], [2, 3, 1]),
-        (4, &[7, 9, 5, 8], [2, 1, 1]),
-        (7, &[9, 8], [1, 1, 0]),
-        (8, &[9], [1, 0, 0]),
-        (9, &[], [0, 0, 0]),
-    ];
-    for (limit, left, counts) in rows {
+    BanTable::of(alloc, &lists)
+}
+
+/// Rows of a limit, the ends that are left after a purge, and how many past bans three addresses have.
+fn are_purged(
+    rt: &impl Abort,
+    alloc: Global,
+    table: &mut BanTable,
+    rows: &[(u64, &[u64], [u32; 3])],
+) -> Result<(), Fail> {
+    for &(limit, left, counts) in rows {
         table.purge(limit);
-        let mut ends = Vec::new(rt.alloc());
-        for entry in table.lists()?.past.as_slice() {
-            ends.push(entry.end)?;
-        }
+        let ends = past_ends(alloc, table)?;
         assert_eq!(rt; ends.as_slice(), left, "at {limit}");
         assert_eq!(rt;
             [
@@ -210,6 +262,22 @@ fn entries_in_another_order_are_purged_too(rt: HostRuntime) -> Result<(), Fail> 
         );
     }
     Ok(())
+}
+
+const UNORDERED: [(u32, u64); 6] = [(1, 7), (2, 3), (1, 9), (2, 4), (3, 5), (2, 8)];
+
+const UNORDERED_PURGED: [(u64, &[u64], [u32; 3]); 5] = [
+    (2, &[7, 3, 9, 4, 5, 8], [2, 3, 1]),
+    (4, &[7, 9, 5, 8], [2, 1, 1]),
+    (7, &[9, 8], [1, 1, 0]),
+    (8, &[9], [1, 0, 0]),
+    (9, &[], [0, 0, 0]),
+];
+
+#[test]
+fn entries_in_another_order_are_purged_too(rt: HostRuntime) -> Result<(), Fail> {
+    let mut table = table_of_past(rt.alloc(), &UNORDERED)?;
+    are_purged(&rt, rt.alloc(), &mut table, &UNORDERED_PURGED)
 }
 
 #[test]
@@ -247,30 +315,37 @@ fn a_table_of_lists_stands_as_they_do(rt: HostRuntime) -> Result<(), Fail> {
     Ok(())
 }
 
-#[test]
-fn active_bans_are_found_from_a_serial_on(rt: HostRuntime) -> Result<(), Fail> {
-    let bans = [
-        (Addr::V4(3), Until::Never),
-        (Addr::V4(2), Until::At(10)),
-        (Addr::V6(1), Until::Never),
-        (Addr::V4(1), Until::At(30)),
-    ];
-    let mut table = table_of(rt.alloc(), &bans)?;
-    let _ = table.end(Addr::V4(2), 10);
-    let rows = [
-        (0, Some(0)),
-        (1, Some(2)),
-        (2, Some(2)),
-        (3, Some(3)),
-        (4, None),
-    ];
-    for (serial, found) in rows {
+/// Rows of a serial and that of the first ban from it on.
+fn are_found(rt: &impl Abort, table: &BanTable, rows: &[(u64, Option<u64>)]) {
+    for &(serial, found) in rows {
         assert_eq!(rt;
             table.from(serial).map(|ban| ban.serial),
             found,
             "from {serial}"
         );
     }
+}
+
+const FOUR_BANS: [(Addr, Until); 4] = [
+    (Addr::V4(3), Until::Never),
+    (Addr::V4(2), Until::At(10)),
+    (Addr::V6(1), Until::Never),
+    (Addr::V4(1), Until::At(30)),
+];
+
+const FOUND: [(u64, Option<u64>); 5] = [
+    (0, Some(0)),
+    (1, Some(2)),
+    (2, Some(2)),
+    (3, Some(3)),
+    (4, None),
+];
+
+#[test]
+fn active_bans_are_found_from_a_serial_on(rt: HostRuntime) -> Result<(), Fail> {
+    let mut table = table_of(rt.alloc(), &FOUR_BANS)?;
+    let _ = table.end(Addr::V4(2), 10);
+    are_found(&rt, &table, &FOUND);
     Ok(())
 }
 

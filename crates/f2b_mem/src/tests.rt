@@ -1,4 +1,4 @@
-ghost use Rattle.std.specs.Prelude.{◌≡◌, []};
+ghost use Rattle.std.specs.Prelude.{◌≡◌, [], length, IfOk};
 
 use super::*;
 use f2b_base::{Bytes, NoMemory, Reading, Seq, Text, TreeAnswer, TreeFile};
@@ -8,6 +8,7 @@ use f2b_world::{
     Piece, PollAnswer, Said, Sink, StartAnswer, Store, StoreAnswer, Synced, Time, Wrote,
 };
 use std::alloc::Global;
+use std::process::Abort;
 use std::test::Fail;
 
 fn image(alloc: Global) -> Image {
@@ -22,17 +23,29 @@ fn readings(alloc: Global) -> Result<Seq<Reading>, NoMemory> {
     Ok(Seq::from(readings.to_vec(alloc)?))
 }
 
-fn changes(alloc: Global) -> Result<Seq<FileChange>, NoMemory> {
-    let path = Text::from_str(alloc, "/log")?;
-    let content = Some(Bytes::from_slice(alloc, b"abcdef")?);
+/// Rows of after how many pauses a file changes, its path, and its content, or none where it goes.
+fn changes_of(
+    alloc: Global,
+    rows: &[(u64, &str, Option<&[u8]>)],
+) -> Result<Seq<FileChange>, NoMemory> {
     let mut changes = Seq::new(alloc);
-    changes.push(FileChange {
-        pauses: 1,
-        path,
-        content,
-    })?;
+    for &(pauses, path, content) in rows {
+        let path = Text::from_str(alloc, path)?;
+        let content = match content {
+            Some(content) => Some(Bytes::from_slice(alloc, content)?),
+            None => None,
+        };
+        changes.push(FileChange {
+            pauses,
+            path,
+            content,
+        })?;
+    }
     Ok(changes)
 }
+
+/// The file comes with the first pause.
+const LOG: [(u64, &str, Option<&[u8]>); 1] = [(1, "/log", Some(b"abcdef"))];
 
 fn script(
     alloc: Global,
@@ -53,58 +66,148 @@ fn script(
     }
 }
 
-// Says twice, of which the second fails, and makes a pattern twice, and so on.
-fn says_and_makes(world: &mut MemWorld) -> bool {
-    let said = [world.say(b"a"), world.say(b"b")];
-    let made = [world.make("a+"), world.make("a+")];
-    let trees = [world.config("/c"), world.config("/c")];
-    said == [Said::Done, Said::Failed]
-        && matches!(made, [Made::Built(_), Made::TooBig])
-        && matches!(trees, [TreeAnswer::Tree(_), TreeAnswer::Failed])
+/// A call on a world that is told, and what it answers.
+enum Call {
+    /// A text is said.
+    Say(&'static [u8], Said),
+    /// Whether the pattern `a+` is built or too big.
+    Make(bool),
+    /// Whether the tree of `/c` is given.
+    Config(bool),
+    /// No file is at `/log`.
+    LookAbsent,
+    /// The file there has six bytes.
+    LookFile,
+    Pause,
+    /// The seconds that the clock reads.
+    Clock(u64),
+    /// The store is kept.
+    Store,
 }
 
-// The file comes with the first pause, and the last reading stays.
-fn looks_and_reads(world: &mut MemWorld) -> bool {
-    let absent = world.look("/log", 2, 0, 4);
-    world.pause(250);
-    let seen = match world.look("/log", 2, 1, 4) {
+fn looks(world: &mut MemWorld) -> bool {
+    match world.look("/log", 2, 1, 4) {
         Look::File(file) => {
             file.size == 6
                 && file.head.as_slice() == b"ab".as_slice()
                 && file.bytes.as_slice() == b"bcde".as_slice()
         }
         _ => false,
-    };
-    let secs = [world.clock().secs, world.clock().secs, world.clock().secs];
-    absent == Look::Absent && seen && secs == [7, 9, 9]
+    }
 }
 
-fn plays(alloc: Global) -> Result<bool, NoMemory> {
-    let fails = Seq::from([1, 3, 5].to_vec(alloc)?);
-    let script = script(alloc, readings(alloc)?, changes(alloc)?, fails);
-    let mut world = MemWorld::new(alloc, script)?;
-    let made = says_and_makes(&mut world);
-    let seen = looks_and_reads(&mut world);
-    let kept = world.store_at("/s") == StoreAnswer::Kept;
-    Ok(made && seen && kept && world.is_told() && world.events().len() == 13)
+fn makes(world: &mut MemWorld) -> Option<bool> {
+    match world.make("a+") {
+        Made::Built(_) => Some(true),
+        Made::TooBig => Some(false),
+        _ => None,
+    }
 }
+
+fn configures(world: &mut MemWorld) -> Option<bool> {
+    match world.config("/c") {
+        TreeAnswer::Tree(_) => Some(true),
+        TreeAnswer::Failed => Some(false),
+        _ => None,
+    }
+}
+
+fn make_call(rt: &impl Abort, world: &mut MemWorld, call: &Call) {
+    match *call {
+        Call::Say(bytes, want) => assert_eq!(rt; world.say(bytes), want),
+        Call::Make(want) => assert_eq!(rt; makes(world), Some(want)),
+        Call::Config(want) => assert_eq!(rt; configures(world), Some(want)),
+        Call::LookAbsent => assert_eq!(rt; world.look("/log", 2, 0, 4), Look::Absent),
+        Call::LookFile => assert!(rt; looks(world)),
+        Call::Pause => world.pause(250),
+        Call::Clock(want) => assert_eq!(rt; world.clock().secs, want),
+        Call::Store => assert_eq!(rt; world.store_at("/s"), StoreAnswer::Kept),
+    }
+}
+
+fn make_calls(rt: &impl Abort, world: &mut MemWorld, calls: &[Call]) {
+    for call in calls {
+        make_call(rt, world, call);
+    }
+}
+
+/// A world in which the calls at these places fail.
+fn world_of(alloc: Global, fails: &[u64]) -> Result<MemWorld, NoMemory> {
+    let fails = Seq::from(fails.to_vec(alloc)?);
+    let script = script(alloc, readings(alloc)?, changes_of(alloc, &LOG)?, fails);
+    MemWorld::new(alloc, script)
+}
+
+/// How many events a world tells of, or none where it does not tell them.
+fn told(world: &MemWorld) -> Option<usize> {
+    if !world.is_told() {
+        return None;
+    }
+    Some(world.events().len())
+}
+
+const PLAYS: [Call; 13] = [
+    // Of two calls of each kind the second fails.
+    Call::Say(b"a", Said::Done),
+    Call::Say(b"b", Said::Failed),
+    Call::Make(true),
+    Call::Make(false),
+    Call::Config(true),
+    Call::Config(false),
+    // The file comes with the first pause, and the last reading stays.
+    Call::LookAbsent,
+    Call::Pause,
+    Call::LookFile,
+    Call::Clock(7),
+    Call::Clock(9),
+    Call::Clock(9),
+    Call::Store,
+];
 
 #[test]
 fn plays_its_script_and_tells_it(rt: HostRuntime) -> Result<(), Fail> {
-    assert!(rt; plays(rt.alloc())?);
+    let mut world = world_of(rt.alloc(), &[1, 3, 5])?;
+    make_calls(&rt, &mut world, &PLAYS);
+    assert_eq!(rt; told(&world), Some(13));
     Ok(())
 }
 
-fn writes(world: &mut MemWorld) -> bool {
-    let first = world.disk_write(0, 0, b"abcd");
-    let synced = world.disk_sync(0);
-    let failed = world.disk_write(0, 0, b"xy");
-    let none = match world.disk_read(0, 0, 0) {
+/// A call on the first slot, and what it answers.
+enum DiskCall {
+    /// Bytes are written at its beginning.
+    Write(&'static [u8], Wrote),
+    Sync(Synced),
+    /// None are read.
+    ReadNone,
+}
+
+fn reads_none(world: &mut MemWorld) -> bool {
+    match world.disk_read(0, 0, 0) {
         Piece::Bytes(bytes) => bytes.is_empty(),
         _ => false,
-    };
-    none && first == Wrote::Done && synced == Synced::Done && failed == Wrote::Failed
+    }
 }
+
+fn call_disk(rt: &impl Abort, world: &mut MemWorld, call: &DiskCall) {
+    match *call {
+        DiskCall::Write(bytes, want) => assert_eq!(rt; world.disk_write(0, 0, bytes), want),
+        DiskCall::Sync(want) => assert_eq!(rt; world.disk_sync(0), want),
+        DiskCall::ReadNone => assert!(rt; reads_none(world)),
+    }
+}
+
+fn call_disk_each(rt: &impl Abort, world: &mut MemWorld, calls: &[DiskCall]) {
+    for call in calls {
+        call_disk(rt, world, call);
+    }
+}
+
+const WRITES: [DiskCall; 4] = [
+    DiskCall::Write(b"abcd", Wrote::Done),
+    DiskCall::Sync(Synced::Done),
+    DiskCall::Write(b"xy", Wrote::Failed),
+    DiskCall::ReadNone,
+];
 
 // What is torn of a world that has written, or nothing where it is not told.
 fn torn(world: &MemWorld) -> Result<Option<Image>, NoMemory> {
@@ -115,22 +218,11 @@ fn torn(world: &MemWorld) -> Result<Option<Image>, NoMemory> {
     Ok(Some(world.torn(count as u64, 1, 0)?))
 }
 
-fn tears(alloc: Global) -> Result<bool, NoMemory> {
+/// A world in which the third call fails.
+fn failing_third(alloc: Global) -> Result<MemWorld, NoMemory> {
     let fails = Seq::from([2].to_vec(alloc)?);
     let script = script(alloc, Seq::new(alloc), Seq::new(alloc), fails);
-    let mut world = MemWorld::new(alloc, script)?;
-    let written = writes(&mut world);
-    let Some(image) = torn(&world)? else {
-        return Ok(false);
-    };
-    let kept = image.slot0.as_slice() == b"x\0cd".as_slice();
-    Ok(written && kept && len_on(alloc, image)? == Len::Bytes(4))
-}
-
-#[test]
-fn tears_a_slot_and_reopens_it(rt: HostRuntime) -> Result<(), Fail> {
-    assert!(rt; tears(rt.alloc())?);
-    Ok(())
+    MemWorld::new(alloc, script)
 }
 
 // The length of the first slot of a world that begins on an image.
@@ -138,6 +230,16 @@ fn len_on(alloc: Global, image: Image) -> Result<Len, NoMemory> {
     let script = script(alloc, Seq::new(alloc), Seq::new(alloc), Seq::new(alloc));
     let mut world = MemWorld::reopened(alloc, image, script)?;
     Ok(world.disk_len(0))
+}
+
+#[test]
+fn tears_a_slot_and_reopens_it(rt: HostRuntime) -> Result<(), Fail> {
+    let mut world = failing_third(rt.alloc())?;
+    call_disk_each(&rt, &mut world, &WRITES);
+    let image = torn(&world)?.ok_or("not told")?;
+    assert_eq!(rt; image.slot0.as_slice(), b"x\0cd".as_slice());
+    assert_eq!(rt; len_on(rt.alloc(), image)?, Len::Bytes(4));
+    Ok(())
 }
 
 fn gives(world: &mut MemWorld, want: &[u8]) -> bool {
@@ -148,18 +250,47 @@ fn gives(world: &mut MemWorld, want: &[u8]) -> bool {
     }
 }
 
-// A client comes with the first pause, and gives its bytes in pieces.
-fn serves(world: &mut MemWorld) -> bool {
-    let before = world.gate_accept();
-    world.pause(250);
-    let accepted = [world.gate_accept(), world.gate_accept()];
-    let given = [gives(world, b"ab"), gives(world, b"c"), gives(world, b"")];
-    let took = world.gate_write(0, b"hi");
-    world.gate_close(0);
-    before == Accept::Quiet
-        && accepted == [Accept::Conn(0), Accept::Quiet]
-        && given == [true, true, true]
-        && took == GateWrite::Took(2)
+/// A call on a world with a client and a command, and what it answers.
+enum ClientCall {
+    Accept(Accept),
+    Pause,
+    /// Bytes that the client gives, or none.
+    Give(&'static [u8]),
+    /// The client takes `hi`.
+    Take(GateWrite),
+    Close,
+    Start(StartAnswer),
+    Poll(PollAnswer),
+    Kill,
+    /// `/` has one name.
+    Names,
+}
+
+fn has_one_name(world: &mut MemWorld) -> bool {
+    match world.names("/") {
+        NamesAnswer::Names(names) => names.len() == 1,
+        _ => false,
+    }
+}
+
+fn call_client(rt: &impl Abort, world: &mut MemWorld, call: &ClientCall) {
+    match *call {
+        ClientCall::Accept(want) => assert_eq!(rt; world.gate_accept(), want),
+        ClientCall::Pause => world.pause(250),
+        ClientCall::Give(want) => assert!(rt; gives(world, want)),
+        ClientCall::Take(want) => assert_eq!(rt; world.gate_write(0, b"hi"), want),
+        ClientCall::Close => world.gate_close(0),
+        ClientCall::Start(want) => assert_eq!(rt; world.child_start(7, "true"), want),
+        ClientCall::Poll(want) => assert_eq!(rt; world.child_poll(7), want),
+        ClientCall::Kill => world.child_kill(7),
+        ClientCall::Names => assert!(rt; has_one_name(world)),
+    }
+}
+
+fn call_client_each(rt: &impl Abort, world: &mut MemWorld, calls: &[ClientCall]) {
+    for call in calls {
+        call_client(rt, world, call);
+    }
 }
 
 // Whether a listing has two names, in byte order.
@@ -173,38 +304,21 @@ fn lists(world: &mut MemWorld, first: &str, second: &str) -> bool {
     }
 }
 
-fn add_change(
-    alloc: Global,
-    changes: &mut Seq<FileChange>,
-    pauses: u64,
-    path: &str,
-    content: Option<Bytes>,
-) -> Result<(), NoMemory> {
-    let path = Text::from_str(alloc, path)?;
-    changes.push(FileChange {
-        pauses,
-        path,
-        content,
-    })
-}
-
 // The file `a` changes and stays, `c` is gone with the first pause, and `s/e` is not directly there.
-fn listed_changes(alloc: Global) -> Result<Seq<FileChange>, NoMemory> {
-    let mut changes = Seq::new(alloc);
-    add_change(alloc, &mut changes, 0, "/d/c", Some(Bytes::new(alloc)))?;
-    add_change(alloc, &mut changes, 0, "/d/b", Some(Bytes::new(alloc)))?;
-    add_change(alloc, &mut changes, 0, "/d/a", Some(Bytes::new(alloc)))?;
-    add_change(alloc, &mut changes, 0, "/d/s/e", Some(Bytes::new(alloc)))?;
-    add_change(alloc, &mut changes, 1, "/d/a", Some(Bytes::new(alloc)))?;
-    add_change(alloc, &mut changes, 1, "/d/c", None)?;
-    Ok(changes)
-}
+const LISTED: [(u64, &str, Option<&[u8]>); 6] = [
+    (0, "/d/c", Some(b"")),
+    (0, "/d/b", Some(b"")),
+    (0, "/d/a", Some(b"")),
+    (0, "/d/s/e", Some(b"")),
+    (1, "/d/a", Some(b"")),
+    (1, "/d/c", None),
+];
 
 fn lists_names(alloc: Global) -> Result<bool, NoMemory> {
     let script = script(
         alloc,
         Seq::new(alloc),
-        listed_changes(alloc)?,
+        changes_of(alloc, &LISTED)?,
         Seq::new(alloc),
     );
     let mut world = MemWorld::new(alloc, script)?;
@@ -218,39 +332,63 @@ fn lists_names_once_and_in_order(rt: HostRuntime) -> Result<(), Fail> {
     Ok(())
 }
 
-fn runs(world: &mut MemWorld) -> bool {
-    let started = world.child_start(7, "true");
-    let polls = [world.child_poll(7), world.child_poll(7)];
-    world.child_kill(7);
-    let named = match world.names("/") {
-        NamesAnswer::Names(names) => names.len() == 1,
-        _ => false,
-    };
-    named && started == StartAnswer::Started && polls == [PollAnswer::Running, PollAnswer::Ended(3)]
-}
-
-fn plays_clients(alloc: Global) -> Result<bool, NoMemory> {
+fn clients(alloc: Global) -> Result<Seq<ClientPlan>, NoMemory>
+    ensures { IfOk result (λ clients. length clients ≡ 1) }
+{
     let mut clients = Seq::new(alloc);
     clients.push(ClientPlan {
         pauses: 1,
         sent: Bytes::from_slice(alloc, b"abc")?,
         piece: 2,
     })?;
+    Ok(clients)
+}
+
+fn children(alloc: Global) -> Result<Seq<ChildPlan>, NoMemory> {
     let mut children = Seq::new(alloc);
     children.push(ChildPlan {
         polls: 1,
         status: Some(3),
     })?;
-    let mut script = script(alloc, Seq::new(alloc), changes(alloc)?, Seq::new(alloc));
-    script.clients = clients;
-    script.children = children;
-    let mut world = MemWorld::new(alloc, script)?;
-    Ok(serves(&mut world) && runs(&mut world))
+    Ok(children)
 }
+
+fn world_with_a_client(alloc: Global) -> Result<MemWorld, NoMemory> {
+    let script = Script {
+        readings: Seq::new(alloc),
+        trees: Seq::new(alloc),
+        changes: changes_of(alloc, &LOG)?,
+        children: children(alloc)?,
+        clients: clients(alloc)?,
+        fails: Seq::new(alloc),
+        image: image(alloc),
+    };
+    MemWorld::new(alloc, script)
+}
+
+const CLIENTS_AND_COMMANDS: [ClientCall; 14] = [
+    // A client comes with the first pause, and gives its bytes in pieces.
+    ClientCall::Accept(Accept::Quiet),
+    ClientCall::Pause,
+    ClientCall::Accept(Accept::Conn(0)),
+    ClientCall::Accept(Accept::Quiet),
+    ClientCall::Give(b"ab"),
+    ClientCall::Give(b"c"),
+    ClientCall::Give(b""),
+    ClientCall::Take(GateWrite::Took(2)),
+    ClientCall::Close,
+    // A command runs and ends.
+    ClientCall::Start(StartAnswer::Started),
+    ClientCall::Poll(PollAnswer::Running),
+    ClientCall::Poll(PollAnswer::Ended(3)),
+    ClientCall::Kill,
+    ClientCall::Names,
+];
 
 #[test]
 fn plays_clients_and_commands(rt: HostRuntime) -> Result<(), Fail> {
-    assert!(rt; plays_clients(rt.alloc())?);
+    let mut world = world_with_a_client(rt.alloc())?;
+    call_client_each(&rt, &mut world, &CLIENTS_AND_COMMANDS);
     Ok(())
 }
 
@@ -262,16 +400,25 @@ fn receives(link: &mut MemLink, want: &[u8]) -> bool {
     }
 }
 
+fn receives_each(rt: &impl Abort, link: &mut MemLink, wants: &[&[u8]]) {
+    for want in wants {
+        assert!(rt; receives(link, want));
+    }
+}
+
+fn link_of(alloc: Global, bytes: &[u8]) -> Result<MemLink, NoMemory> {
+    let bytes = Bytes::from_slice(alloc, bytes)?;
+    MemLink::new(alloc, bytes, 2, Seq::new(alloc))
+}
+
+const PIECES: [&[u8]; 3] = [b"ab", b"c", b""];
+
 #[test]
 fn gives_a_link_in_pieces(rt: HostRuntime) -> Result<(), Fail> {
-    let alloc = rt.alloc();
-    let bytes = Bytes::from_slice(alloc, b"abc")?;
-    let mut link = MemLink::new(alloc, bytes, 2, Seq::new(alloc))?;
+    let mut link = link_of(rt.alloc(), b"abc")?;
     assert_eq!(rt; link.connect("/s"), Linked::Connected);
     assert_eq!(rt; link.send(b"hi"), Linked::Connected);
-    assert!(rt; receives(&mut link, b"ab"));
-    assert!(rt; receives(&mut link, b"c"));
-    assert!(rt; receives(&mut link, b""));
+    receives_each(&rt, &mut link, &PIECES);
     assert_eq!(rt; link.sent(), b"hi".as_slice());
     assert_eq!(rt; link.bytes(), b"abc".as_slice());
     Ok(())
@@ -318,11 +465,7 @@ fn reads(files: &mut MemFiles, path: &str) -> bool {
 #[test]
 fn gives_files_in_pieces(rt: HostRuntime) -> Result<(), Fail> {
     let alloc = rt.alloc();
-    let mut list = Seq::new(alloc);
-    list.push(TreeFile {
-        path: Text::from_str(alloc, "/c/jail.d/a.conf")?,
-        content: Bytes::from_slice(alloc, b"abc")?,
-    })?;
+    let list = files_of(alloc, &[("/c/jail.d/a.conf", b"abc")])?;
     let mut files = MemFiles::new(alloc, list, Seq::new(alloc))?;
     assert!(rt; reads(&mut files, "/c/jail.d/a.conf"));
     Ok(())
@@ -330,8 +473,7 @@ fn gives_files_in_pieces(rt: HostRuntime) -> Result<(), Fail> {
 
 // The second call fails, and the next is answered as ever.
 fn reads_after_a_fault(alloc: Global) -> Result<bool, NoMemory> {
-    let mut list = Seq::new(alloc);
-    add_file(alloc, &mut list, "/c/a.conf", b"abc")?;
+    let list = files_of(alloc, &[("/c/a.conf", b"abc")])?;
     let mut files = MemFiles::new(alloc, list, failing_second(alloc)?)?;
     let first = files.read("/c/none") == FileAnswer::Absent;
     let second = files.read("/c/a.conf") == FileAnswer::Failed;
@@ -344,35 +486,33 @@ fn goes_on_after_a_fault_of_files(rt: HostRuntime) -> Result<(), Fail> {
     Ok(())
 }
 
-fn add_file(
-    alloc: Global,
-    files: &mut Seq<TreeFile>,
-    path: &str,
-    content: &[u8],
-) -> Result<(), NoMemory> {
-    let path = Text::from_str(alloc, path)?;
-    let content = Bytes::from_slice(alloc, content)?;
-    files.push(TreeFile { path, content })
+fn files_of(alloc: Global, rows: &[(&str, &[u8])]) -> Result<Seq<TreeFile>, NoMemory> {
+    let mut files = Seq::new(alloc);
+    for (path, content) in rows {
+        files.push(TreeFile {
+            path: Text::from_str(alloc, path)?,
+            content: Bytes::from_slice(alloc, content)?,
+        })?;
+    }
+    Ok(files)
 }
 
 // Two files of one path, one in a subdirectory, one too deep, one with another ending, and one elsewhere.
-fn tree_files(alloc: Global) -> Result<Seq<TreeFile>, NoMemory> {
-    let mut files = Seq::new(alloc);
-    add_file(alloc, &mut files, "/c/s/b.local", b"b")?;
-    add_file(alloc, &mut files, "/c/a.conf", b"first")?;
-    add_file(alloc, &mut files, "/c/a.conf", b"second")?;
-    add_file(alloc, &mut files, "/c/s/s/d.conf", b"d")?;
-    add_file(alloc, &mut files, "/c/e.txt", b"e")?;
-    add_file(alloc, &mut files, "/cf.conf", b"f")?;
-    Ok(files)
-}
+const TREE_FILES: [(&str, &[u8]); 6] = [
+    ("/c/s/b.local", b"b"),
+    ("/c/a.conf", b"first"),
+    ("/c/a.conf", b"second"),
+    ("/c/s/s/d.conf", b"d"),
+    ("/c/e.txt", b"e"),
+    ("/cf.conf", b"f"),
+];
 
 fn is_file(file: &TreeFile, path: &str, content: &[u8]) -> bool {
     file.path.as_str() == path && file.content.as_slice() == content
 }
 
 fn gives_tree(alloc: Global, dir: &str) -> Result<bool, NoMemory> {
-    let mut files = MemFiles::new(alloc, tree_files(alloc)?, Seq::new(alloc))?;
+    let mut files = MemFiles::new(alloc, files_of(alloc, &TREE_FILES)?, Seq::new(alloc))?;
     let TreeAnswer::Tree(tree) = files.tree(dir) else {
         return Ok(false);
     };

@@ -1,15 +1,15 @@
 //! What the program is called with.
 //!
-//! `--help` and `--version` are answered here. All other words are the tester's own.
+//! `-h`, `--help`, `-V` and `--version` are answered here. All other words are the tester's own.
 
 use std::alloc::AllocGlobal;
 use std::io::ErrorKind;
 use std::rt::Env;
 use std::{env, io};
 
-/// The text of `--help`.
+/// The text of `-h` and `--help`.
 pub const HELP: &str = "\
-Usage: fail2ban-regex [-d PATTERN] LOG REGEX [IGNOREREGEX]
+Usage: fail2ban-regex [OPTIONS] LOG REGEX [IGNOREREGEX]
        fail2ban-regex --help | --version
 
 Tells which lines of a log a pattern or a filter finds.
@@ -18,10 +18,23 @@ Tells which lines of a log a pattern or a filter finds.
                one line that is tested
   REGEX        a pattern with one of <HOST>, <ADDR>, <IP4>, <IP6>, <DNS>;
                or a filter, by its file: DIR/filter.d/NAME.conf
+               or with -c by its name: NAME or NAME[OPTION=VALUE]
   IGNOREREGEX  a pattern of lines that are ignored, in place of the filter's
   -d PATTERN   how a line is dated, in place of the filter's datepattern
-  --help       print this help
-  --version    print the version
+  -c DIR       the directory of a configuration, where REGEX may be the
+               name of a filter
+  -o FORM      in place of the report: ip, the address of each failure; or
+               row, its address, its time in seconds and its line
+  --timezone ZONE
+               the zone of dates without one: Z, or UTC or GMT with nothing
+               behind it or +hhmm or -hhmm; else that of UTC
+  --print-all-matched, --print-all-ignored, --print-all-missed
+               behind that, all lines of this kind
+  -v           all matched lines, each with the number of its pattern, its
+               address and its time in seconds
+  -h, --help   print this help
+  -V, --version
+               print the version
 
 A pattern that begins with - stands behind the word --.
 
@@ -36,7 +49,7 @@ Exit status:
   71  out of memory
 ";
 
-/// The text of `--version`.
+/// The text of `-V` and `--version`.
 pub const VERSION: &str = "fail2ban-regex 0.1.0\n";
 
 /// What the program was asked for.
@@ -55,9 +68,9 @@ pub fn read_call<R: Env + AllocGlobal>(rt: &R) -> io::Result<Call> {
         Err(e) if e.kind() == ErrorKind::InvalidData => Vec::new(rt.alloc()),
         Err(e) => return Err(e),
     };
-    Ok(match words.first() {
-        Some(word) if word.as_str() == "--help" => Call::Help,
-        Some(word) if word.as_str() == "--version" => Call::Version,
+    Ok(match words.first().map(String::as_str) {
+        Some("-h" | "--help") => Call::Help,
+        Some("-V" | "--version") => Call::Version,
         _ => Call::Test(words),
     })
 }

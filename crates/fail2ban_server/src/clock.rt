@@ -22,3 +22,8 @@ pub fn read_clock(rt: &impl Clock, last: Reading) -> Reading {
 pub fn sleep(rt: &impl Clock, ms: u32) {
     thread::sleep(rt, Duration::from_millis(u64::from(ms)));
 }
+
+/// Sleeps for so many microseconds.
+pub fn nap(rt: &impl Clock, micros: u64) {
+    thread::sleep(rt, Duration::from_micros(micros));
+}

@@ -6,21 +6,28 @@
 #![tactic(auto)]
 
 mod clock;
+mod commands;
 mod fault;
 mod look;
 mod names;
+mod output;
 mod real;
 mod regular;
+mod shell;
 #[cfg(test)]
 mod tests;
 mod tree;
+mod wait;
+mod watched;
 mod words;
 
+use output::write_whole;
 use real::RealWorld;
 use server_top::server;
 use std::alloc::{AllocError, Global};
-use std::io::Print;
+use std::fs;
 use std::process::ExitCode;
+use std::rt::Stderr;
 use words::Call;
 
 /// The status where standard output cannot be written.
@@ -37,10 +44,22 @@ fn main(rt: HostRuntime) -> ExitCode {
         Ok(Call::Help) => print(&rt, words::HELP),
         Ok(Call::Version) => print(&rt, words::VERSION),
         Ok(Call::Server(words)) => {
-            server(rt.alloc(), words.as_slice(), &mut RealWorld::new(rt)).number()
+            let alloc = rt.alloc();
+            let errors = standard_error(&rt);
+            let mut world = RealWorld::new(rt, errors);
+            let status = server(alloc, words.as_slice(), &mut world).number();
+            world.end_commands();
+            status
         }
         Err(_) => NO_MEMORY,
     })
+}
+
+/// Standard error for the commands, or `None` where the server was started without it: then another file may have its number.
+fn standard_error(rt: &HostRuntime) -> Option<Stderr> {
+    let is_open = fs::symlink_metadata(rt, "/proc/self/fd/2").is_ok();
+    let is_told = fs::symlink_metadata(rt, "/proc/self/fd").is_ok();
+    (is_open || !is_told).then_some(rt.stderr())
 }
 
 /// Makes the C library keep memory that is freed: once a large block was freed, it hands less back to the system, which each
@@ -51,8 +70,8 @@ fn keep_heap(alloc: Global) -> Result<(), AllocError> {
     Ok(())
 }
 
-fn print(rt: &impl Print, text: &str) -> u8 {
-    match rt.write_all(text.as_bytes()) {
+fn print(rt: &HostRuntime, text: &str) -> u8 {
+    match write_whole(rt, text.as_bytes()) {
         Ok(()) => 0,
         Err(_) => SINK_FAULT,
     }

@@ -3,52 +3,79 @@
 //! It tells no history. It counts its faults, and each call keeps what the traits of the outside say of it.
 
 use crate::clock;
+use crate::commands::Commands;
 use crate::fault::Fault;
 use crate::look::look_at;
 use crate::names::list_names;
+use crate::output::write_whole;
 use crate::tree::{TreeFault, read_tree};
+use crate::wait::wait;
+use crate::watched::Watched;
 use f2b_base::{FileLook, Reading, TreeAnswer};
 use f2b_world::{
-    Configuration, Directories, Faults, Logs, Look, Made, NamesAnswer, Outside, Patterns, Said,
-    Sink, Time, World, build_pattern, raised,
+    Children, Configuration, Directories, Faults, Logs, Look, Made, NamesAnswer, Outside, Patterns,
+    PollAnswer, Said, Sink, StartAnswer, Time, World, build_pattern, raised,
 };
 use std::alloc::AllocGlobal;
+use std::env::Env;
 use std::io::Print;
-use std::rt::Files;
+use std::process::Processes;
+use std::rt::{Files, Stderr};
 use std::time::Clock;
 
 /// The operating system.
 #[derive(Drop)]
 pub struct RealWorld<R>
 where
-    R: Files + Clock + Print + AllocGlobal + Clone + Drop,
+    R: Files + Clock + Print + Env + Processes + AllocGlobal + Clone + Drop,
 {
     rt: R,
     faults: Faults,
     /// The last reading of the clock, 0 and 0 where there was none.
     last: Reading,
+    /// Where the commands write, if anywhere.
+    errors: Option<Stderr>,
+    commands: Commands<R::Started>,
+    /// The logs that were looked at since the last pause.
+    watched: Watched,
     /// Whether a look since the last pause gave as many bytes as it was asked for, so that there may be more to read at once.
     is_behind: bool,
 }
 
 impl<R> RealWorld<R>
 where
-    R: Files + Clock + Print + AllocGlobal + Clone + Drop,
+    R: Files + Clock + Print + Env + Processes + AllocGlobal + Clone + Drop,
 {
-    /// A world without a fault so far.
-    pub fn new(rt: R) -> RealWorld<R> {
+    /// A world without a fault so far, whose commands write to `errors`, and nowhere without it.
+    pub fn new(rt: R, errors: Option<Stderr>) -> RealWorld<R> {
+        let commands = Commands::new(rt.alloc());
+        let watched = Watched::new(rt.alloc());
         RealWorld {
             rt,
+            errors,
+            commands,
+            watched,
             faults: Faults::NONE,
             last: Reading { secs: 0, word: 0 },
             is_behind: false,
+        }
+    }
+
+    /// Ends the commands that still run, and waits a second at most until they have gone.
+    pub fn end_commands(&mut self) {
+        self.commands.end_all(&self.rt);
+        for _ in 0..1_000 {
+            if self.commands.reap() {
+                return;
+            }
+            clock::sleep(&self.rt, 1);
         }
     }
 }
 
 impl<R> Outside for RealWorld<R>
 where
-    R: Files + Clock + Print + AllocGlobal + Clone + Drop,
+    R: Files + Clock + Print + Env + Processes + AllocGlobal + Clone + Drop,
 {
     ghost use Rattle.std.specs.Prelude.{None};
     ghost use Rattle.fail2ban_server.specs.Counted.{counts};
@@ -58,11 +85,11 @@ where
 
 impl<R> Sink for RealWorld<R>
 where
-    R: Files + Clock + Print + AllocGlobal + Clone + Drop,
+    R: Files + Clock + Print + Env + Processes + AllocGlobal + Clone + Drop,
 {
-    /// Writes to standard output, at once.
+    /// Writes to standard output, at once, or as soon as it takes more.
     fn say(&mut self, bytes: &[u8]) -> Said {
-        match Print::write_all(&self.rt, bytes) {
+        match write_whole(&self.rt, bytes) {
             Ok(()) => Said::Done,
             Err(_) => {
                 self.faults.sink = raised(self.faults.sink);
@@ -74,7 +101,7 @@ where
 
 impl<R> Patterns for RealWorld<R>
 where
-    R: Files + Clock + Print + AllocGlobal + Clone + Drop,
+    R: Files + Clock + Print + Env + Processes + AllocGlobal + Clone + Drop,
 {
     fn make(&mut self, text: &str) -> Made {
         let made = build_pattern(self.rt.alloc(), text);
@@ -87,25 +114,29 @@ where
 
 impl<R> Time for RealWorld<R>
 where
-    R: Files + Clock + Print + AllocGlobal + Clone + Drop,
+    R: Files + Clock + Print + Env + Processes + AllocGlobal + Clone + Drop,
 {
     fn clock(&mut self) -> Reading {
         self.last = clock::read_clock(&self.rt, self.last);
         self.last
     }
 
-    /// Ends at once where a look since the last pause was full, so that a long log is read as fast as it can be searched.
+    /// Ends at once where a look since the last pause was full, so that a long log is read as fast as it can be searched, and as soon as
+    /// a command has ended, so that its lane goes on, or a log has changed.
     fn pause(&mut self, ms: u32) {
-        if !self.is_behind {
-            clock::sleep(&self.rt, ms);
+        if self.is_behind {
+            self.is_behind = false;
+        } else {
+            let most = u64::from(ms).saturating_mul(1_000);
+            wait(&self.rt, &mut self.commands, &self.watched, most);
         }
-        self.is_behind = false;
+        self.watched.clear();
     }
 }
 
 impl<R> Configuration for RealWorld<R>
 where
-    R: Files + Clock + Print + AllocGlobal + Clone + Drop,
+    R: Files + Clock + Print + Env + Processes + AllocGlobal + Clone + Drop,
 {
     fn config(&mut self, root: &str) -> TreeAnswer {
         match read_tree(&self.rt, root) {
@@ -122,7 +153,7 @@ where
 
 impl<R> Logs for RealWorld<R>
 where
-    R: Files + Clock + Print + AllocGlobal + Clone + Drop,
+    R: Files + Clock + Print + Env + Processes + AllocGlobal + Clone + Drop,
 {
     fn look(&mut self, path: &str, head: u32, from: u64, max: u32) -> Look {
         match look_at(&self.rt, path, head, from, max) {
@@ -130,9 +161,13 @@ where
                 if is_full(&seen, max) {
                     self.is_behind = true;
                 }
+                self.watched.note(self.rt.alloc(), path, Some(seen.size));
                 Look::File(seen)
             }
-            Err(Fault::Absent) => Look::Absent,
+            Err(Fault::Absent) => {
+                self.watched.note(self.rt.alloc(), path, None);
+                Look::Absent
+            }
             Err(Fault::NoMemory) => Look::NoMemory,
             Err(Fault::Failed) => {
                 self.faults.logs = raised(self.faults.logs);
@@ -144,7 +179,7 @@ where
 
 impl<R> Directories for RealWorld<R>
 where
-    R: Files + Clock + Print + AllocGlobal + Clone + Drop,
+    R: Files + Clock + Print + Env + Processes + AllocGlobal + Clone + Drop,
 {
     fn names(&mut self, dir: &str) -> NamesAnswer {
         match list_names(&self.rt, dir) {
@@ -159,9 +194,37 @@ where
     }
 }
 
+impl<R> Children for RealWorld<R>
+where
+    R: Files + Clock + Print + Env + Processes + AllocGlobal + Clone + Drop,
+{
+    fn child_start(&mut self, job: u64, text: &str) -> StartAnswer {
+        match self.commands.start(&self.rt, self.errors, job, text) {
+            Ok(()) => StartAnswer::Started,
+            Err(Fault::NoMemory) => StartAnswer::NoMemory,
+            Err(Fault::Absent | Fault::Failed) => {
+                self.faults.children = raised(self.faults.children);
+                StartAnswer::Failed
+            }
+        }
+    }
+
+    fn child_poll(&mut self, job: u64) -> PollAnswer {
+        let answer = self.commands.poll(job);
+        if let PollAnswer::Failed = answer {
+            self.faults.children = raised(self.faults.children);
+        }
+        answer
+    }
+
+    fn child_kill(&mut self, job: u64) {
+        self.commands.end(&self.rt, job);
+    }
+}
+
 impl<R> World for RealWorld<R>
 where
-    R: Files + Clock + Print + AllocGlobal + Clone + Drop,
+    R: Files + Clock + Print + Env + Processes + AllocGlobal + Clone + Drop,
 {}
 
 /// Whether a look gave as many bytes as it was asked for.

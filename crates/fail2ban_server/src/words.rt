@@ -1,24 +1,25 @@
 //! What the server's program is called with.
 //!
-//! `--help` and `--version` are answered here. All other words are the server's own.
+//! `-h`, `--help`, `-V` and `--version` are answered here. All other words are the server's own.
 
 use std::alloc::AllocGlobal;
 use std::io::ErrorKind;
 use std::rt::Env;
 use std::{env, io};
 
-/// The text of `--help`.
+/// The text of `-h` and `--help`.
 pub const HELP: &str = "\
 Usage: fail2ban-server --conf DIR [--turns N]
        fail2ban-server --help | --version
 
-Follows the logs of the enabled jails and bans the addresses that fail too often.
+Follows the logs of the enabled jails, and runs the commands of their actions
+where an address fails too often and where its ban ends.
 
-  --conf DIR   read the configuration in DIR: each file in it, or in a
-               directory in it, whose name ends in .conf or .local
-  --turns N    stop after N turns; an idle server makes four a second
-  --help       print this help
-  --version    print the version
+  --conf DIR     read the configuration in DIR: each file in it, or in a
+                 directory in it, whose name ends in .conf or .local
+  --turns N      stop after N turns; an idle server makes four a second
+  -h, --help     print this help
+  -V, --version  print the version
 
 What the server says goes to standard output, line by line.
 
@@ -31,11 +32,10 @@ Exit status:
   10  the configuration has too many files, or too many bytes
   11  a pattern is refused
   12  the serials of bans are used up
-  13  a jail has an action, and no command is run yet
   71  out of memory
 ";
 
-/// The text of `--version`.
+/// The text of `-V` and `--version`.
 pub const VERSION: &str = "fail2ban-server 0.1.0\n";
 
 /// What the program was asked for.
@@ -54,9 +54,9 @@ pub fn read_call<R: Env + AllocGlobal>(rt: &R) -> io::Result<Call> {
         Err(e) if e.kind() == ErrorKind::InvalidData => Vec::new(rt.alloc()),
         Err(e) => return Err(e),
     };
-    Ok(match words.first() {
-        Some(word) if word.as_str() == "--help" => Call::Help,
-        Some(word) if word.as_str() == "--version" => Call::Version,
+    Ok(match words.first().map(String::as_str) {
+        Some("-h" | "--help") => Call::Help,
+        Some("-V" | "--version") => Call::Version,
         _ => Call::Server(words),
     })
 }

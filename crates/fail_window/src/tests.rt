@@ -4,6 +4,7 @@ ghost use Rattle.std.specs.Prelude.{◌≡◌, ◌≤◌, IfOk};
 use crate::Window;
 use f2b_base::{Addr, Failure, NoMemory, Text};
 use std::alloc::Global;
+use std::process::Abort;
 use std::test::Fail;
 
 const ADDR: Addr = Addr::V4(0xc000_0207);
@@ -45,102 +46,127 @@ fn fed(
     Ok((window, None))
 }
 
-#[test]
-fn fills_where_maxretry_failures_are_within_findtime(rt: HostRuntime) -> Result<(), Fail> {
-    let rows: [(u64, u32, &[(u64, u64, &str)], Option<usize>); 10] = [
-        (
-            600,
-            3,
-            &[(100, 100, ""), (300, 300, ""), (699, 699, "")],
-            Some(2),
-        ),
-        (
-            600,
-            3,
-            &[(100, 100, ""), (300, 300, ""), (700, 700, "")],
-            None,
-        ),
-        (
-            600,
-            3,
-            &[(500, 500, ""), (100, 500, ""), (300, 500, "")],
-            Some(2),
-        ),
-        (600, 1, &[(100, 100, "")], Some(0)),
-        (600, 2, &[(100, 100, ""), (100, 100, "")], Some(1)),
-        (
-            600,
-            2,
-            &[(100, 100, ""), (700, 700, ""), (1300, 1300, "")],
-            None,
-        ),
-        (
-            600,
-            3,
-            &[(100, 100, ""), (700, 700, ""), (400, 800, "")],
-            None,
-        ),
-        (
-            600,
-            3,
-            &[
-                (100, 100, ""),
-                (700, 700, ""),
-                (400, 800, ""),
-                (699, 900, ""),
-            ],
-            Some(3),
-        ),
-        (1, 2, &[(5, 5, ""), (6, 6, ""), (6, 6, "")], Some(2)),
-        (
-            10,
-            3,
-            &[
-                (1, 1, ""),
-                (11, 11, ""),
-                (21, 21, ""),
-                (12, 21, ""),
-                (12, 21, ""),
-            ],
-            Some(4),
-        ),
-    ];
-    for (findtime, maxretry, failures, place) in rows {
-        let (_window, at) = fed(rt.alloc(), findtime, maxretry, failures)?;
+/// Rows of `findtime` and `maxretry`, both at least 1, of failures, and of the place at which they fill a window.
+fn are_filled(
+    rt: &impl Abort,
+    alloc: Global,
+    rows: &[(u64, u32, &[(u64, u64, &str)], Option<usize>)],
+) -> Result<(), Fail> {
+    for &(findtime, maxretry, failures, place) in rows {
+        let (_window, at) = fed(alloc, findtime.max(1), maxretry.max(1), failures)?;
         assert_eq!(rt; at, place, "{failures:?}");
     }
     Ok(())
 }
 
+const FILLS: [(u64, u32, &[(u64, u64, &str)], Option<usize>); 10] = [
+    (
+        600,
+        3,
+        &[(100, 100, ""), (300, 300, ""), (699, 699, "")],
+        Some(2),
+    ),
+    (
+        600,
+        3,
+        &[(100, 100, ""), (300, 300, ""), (700, 700, "")],
+        None,
+    ),
+    (
+        600,
+        3,
+        &[(500, 500, ""), (100, 500, ""), (300, 500, "")],
+        Some(2),
+    ),
+    (600, 1, &[(100, 100, "")], Some(0)),
+    (600, 2, &[(100, 100, ""), (100, 100, "")], Some(1)),
+    (
+        600,
+        2,
+        &[(100, 100, ""), (700, 700, ""), (1300, 1300, "")],
+        None,
+    ),
+    (
+        600,
+        3,
+        &[(100, 100, ""), (700, 700, ""), (400, 800, "")],
+        None,
+    ),
+    (
+        600,
+        3,
+        &[
+            (100, 100, ""),
+            (700, 700, ""),
+            (400, 800, ""),
+            (699, 900, ""),
+        ],
+        Some(3),
+    ),
+    (1, 2, &[(5, 5, ""), (6, 6, ""), (6, 6, "")], Some(2)),
+    (
+        10,
+        3,
+        &[
+            (1, 1, ""),
+            (11, 11, ""),
+            (21, 21, ""),
+            (12, 21, ""),
+            (12, 21, ""),
+        ],
+        Some(4),
+    ),
+];
+
+#[test]
+fn fills_where_maxretry_failures_are_within_findtime(rt: HostRuntime) -> Result<(), Fail> {
+    are_filled(&rt, rt.alloc(), &FILLS)
+}
+
+const EQUAL_TIMES: [(u64, u64, &str); 5] = [
+    (5, 5, "a"),
+    (4, 5, "b"),
+    (5, 6, "c"),
+    (4, 7, "d"),
+    (7, 7, "e"),
+];
+
+/// The lines of failures, one behind the other.
+fn lines(alloc: Global, failures: &[Failure]) -> Result<String, NoMemory> {
+    let mut lines = String::new(alloc);
+    for failure in failures {
+        lines.push_str(failure.line.as_str())?;
+    }
+    Ok(lines)
+}
+
 #[test]
 fn equal_times_stand_in_order_of_arrival(rt: HostRuntime) -> Result<(), Fail> {
-    let rows = [
-        (5, 5, "a"),
-        (4, 5, "b"),
-        (5, 6, "c"),
-        (4, 7, "d"),
-        (7, 7, "e"),
-    ];
-    let (window, _) = fed(rt.alloc(), 600, 9, &rows)?;
+    let (window, _) = fed(rt.alloc(), 600, 9, &EQUAL_TIMES)?;
     assert_eq!(rt; window.len(), 5);
     let copies = window.failures()?;
     let failures = window.into_failures();
     assert!(rt; copies == failures);
-    let mut lines = String::new(rt.alloc());
-    for failure in failures.as_slice() {
-        lines.push_str(failure.line.as_str())?;
-    }
+    let lines = lines(rt.alloc(), failures.as_slice())?;
     assert_eq!(rt; lines.as_str(), "bdace");
     Ok(())
 }
 
-#[test]
-fn a_window_is_recent_until_its_last_failure_is_findtime_old(rt: HostRuntime) -> Result<(), Fail> {
-    let rows = [(100, 100, ""), (300, 300, ""), (200, 301, "")];
-    let (window, _) = fed(rt.alloc(), 600, 9, &rows)?;
-    for (now, recent) in [(301, true), (899, true), (900, false), (5000, false)] {
+/// Rows of a moment and whether the window is recent at it.
+fn are_recent(rt: &impl Abort, window: &Window, rows: &[(u64, bool)]) {
+    for &(now, recent) in rows {
         assert_eq!(rt; window.failed_lately(now), recent, "at {now}");
     }
+}
+
+const LATE: [(u64, u64, &str); 3] = [(100, 100, ""), (300, 300, ""), (200, 301, "")];
+
+const RECENT: [(u64, bool); 4] = [(301, true), (899, true), (900, false), (5000, false)];
+
+#[test]
+fn a_window_is_recent_until_its_last_failure_is_findtime_old(rt: HostRuntime) -> Result<(), Fail> {
+    let (window, _) = fed(rt.alloc(), 600, 9, &LATE)?;
+    are_recent(&rt, &window, &RECENT);
     assert!(rt; !Window::new(rt.alloc(), 600, 9).failed_lately(0));
     Ok(())
 }

@@ -15,6 +15,7 @@ use f2b_base::{Addr, BanRule, Cidr, DateSpec, JailDef, NoMemory, Seq, Text};
 use f2b_world::{Made, Outside, Patterns, build_pattern};
 use ignore_set::IgnoreSet;
 use std::alloc::Global;
+use std::process::Abort;
 use std::test::*;
 
 /// An outside that builds patterns, tells nothing, and has counted as many faults as it can.

@@ -1,7 +1,27 @@
 use crate::IgnoreSet;
 use f2b_base::{Addr, Cidr, NoMemory, Seq};
 use std::alloc::Global;
+use std::process::Abort;
 use std::test::Fail;
+
+/// Rows of an address and whether the set holds it.
+fn are_held(rt: &impl Abort, set: &IgnoreSet, rows: &[(&str, bool)]) -> Result<(), Fail> {
+    for &(text, want) in rows {
+        let addr = Addr::read(text.as_bytes()).ok_or("an address")?;
+        assert_eq!(rt; set.holds(addr), want, "at {text}");
+    }
+    Ok(())
+}
+
+const ADDRESSES: [(&str, bool); 7] = [
+    ("10.0.0.0", true),
+    ("10.255.255.255", true),
+    ("::ffff:10.0.0.1", true),
+    ("::1", true),
+    ("9.255.255.255", false),
+    ("11.0.0.0", false),
+    ("::2", false),
+];
 
 #[test]
 fn holds_what_a_mask_holds(rt: HostRuntime) -> Result<(), Fail> {
@@ -9,19 +29,7 @@ fn holds_what_a_mask_holds(rt: HostRuntime) -> Result<(), Fail> {
     list.push(Cidr::read(b"10.0.0.0/8").ok_or("10.0.0.0/8")?)?;
     list.push(Cidr::read(b"::1").ok_or("::1")?)?;
     let set = IgnoreSet::new(rt.alloc(), &list)?;
-    for (text, want) in [
-        ("10.0.0.0", true),
-        ("10.255.255.255", true),
-        ("::ffff:10.0.0.1", true),
-        ("::1", true),
-        ("9.255.255.255", false),
-        ("11.0.0.0", false),
-        ("::2", false),
-    ] {
-        let addr = Addr::read(text.as_bytes()).ok_or("an address")?;
-        assert_eq!(rt; set.holds(addr), want, "at {text}");
-    }
-    Ok(())
+    are_held(&rt, &set, &ADDRESSES)
 }
 
 const MANY: u32 = 1_000_000;

@@ -2,8 +2,9 @@
 
 use crate::configuration::conf;
 use crate::fail::Fail as Refusal;
-use f2b_base::{Bytes, NoMemory, Seq, Text, Tree, TreeFile};
+use f2b_base::{ActionDef, Bytes, JailDef, NoMemory, Seq, Text, Tree, TreeFile, WatchDef};
 use std::alloc::Global;
+use std::process::Abort;
 use std::test::Fail;
 
 /// A tree of these files, each a path and its content.
@@ -59,26 +60,16 @@ after = paths-overrides.local
 sshd_log = /var/log/auth.log
 ";
 
-#[test]
-fn reads_the_worked_tree(rt: HostRuntime) -> Result<(), Fail> {
-    let files = [
-        ("action.d/note.conf", NOTE),
-        ("filter.d/sshd.conf", SSHD),
-        ("jail.conf", JAIL),
-        ("jail.local", "[sshd]\nenabled = true\nmaxretry = 3\n"),
-        ("paths.conf", PATHS),
-    ];
-    let settings = conf(rt.alloc(), &tree(rt.alloc(), files.as_slice())?)?;
-    assert_eq!(rt; settings.socket.as_str(), "/var/run/fail2ban/fail2ban.sock");
-    assert_eq!(rt; settings.defs.purge, 86_400);
-    assert_eq!(rt; settings.defs.jails.len(), 1);
-    let jail = &settings.defs.jails.as_slice()[0];
+const WORKED: [(&str, &str); 5] = [
+    ("action.d/note.conf", NOTE),
+    ("filter.d/sshd.conf", SSHD),
+    ("jail.conf", JAIL),
+    ("jail.local", "[sshd]\nenabled = true\nmaxretry = 3\n"),
+    ("paths.conf", PATHS),
+];
+
+fn is_as_worked(rt: &impl Abort, jail: &JailDef) {
     assert_eq!(rt; jail.name.as_str(), "sshd");
-    assert_eq!(rt; jail.watches.len(), 1);
-    assert_eq!(rt;
-        jail.watches.as_slice()[0].path.as_str(),
-        "/var/log/auth.log"
-    );
     assert!(rt; jail.pref.is_some());
     assert_eq!(rt; jail.fail.len(), 3);
     assert_eq!(rt; jail.ignore_lines.len(), 0);
@@ -87,14 +78,36 @@ fn reads_the_worked_tree(rt: HostRuntime) -> Result<(), Fail> {
     assert_eq!(rt; jail.maxretry, 3);
     assert_eq!(rt; jail.maxmatches, 3);
     assert_eq!(rt; jail.rule.base, 600);
-    assert_eq!(rt; jail.actions.len(), 1);
-    let action = &jail.actions.as_slice()[0];
-    assert_eq!(rt; action.start.as_str(), "echo start sshd");
+}
+
+fn log_is_as_worked(rt: &impl Abort, watches: &[WatchDef]) {
+    assert_eq!(rt; watches.len(), 1);
+    assert_eq!(rt; watches[0].path.as_str(), "/var/log/auth.log");
+}
+
+fn action_is_as_worked(rt: &impl Abort, actions: &[ActionDef]) {
+    assert_eq!(rt; actions.len(), 1);
+    assert_eq!(rt; actions[0].start.as_str(), "echo start sshd");
     assert_eq!(rt;
-        action.ban.as_str(),
+        actions[0].ban.as_str(),
         "echo ban <ip> ssh <failures> <bantime>"
     );
-    assert_eq!(rt; action.timeout, 60);
+    assert_eq!(rt; actions[0].timeout, 60);
+}
+
+fn jails_are_as_worked(rt: &impl Abort, jails: &[JailDef]) {
+    assert_eq!(rt; jails.len(), 1);
+    is_as_worked(rt, &jails[0]);
+    log_is_as_worked(rt, jails[0].watches.as_slice());
+    action_is_as_worked(rt, jails[0].actions.as_slice());
+}
+
+#[test]
+fn reads_the_worked_tree(rt: HostRuntime) -> Result<(), Fail> {
+    let settings = conf(rt.alloc(), &tree(rt.alloc(), &WORKED)?)?;
+    assert_eq!(rt; settings.socket.as_str(), "/var/run/fail2ban/fail2ban.sock");
+    assert_eq!(rt; settings.defs.purge, 86_400);
+    jails_are_as_worked(&rt, settings.defs.jails.as_slice());
     Ok(())
 }
 
@@ -128,88 +141,104 @@ fn told_of_jail(alloc: Global, items: &str) -> Result<String, Fail> {
     told(alloc, files.as_slice())
 }
 
-#[test]
-fn tells_each_kind_of_an_item(rt: HostRuntime) -> Result<(), Fail> {
-    for (items, want) in [
-        ("", "read"),
-        ("enabled = maybe", "jail.conf|j|enabled|BadBool"),
-        ("ignoreself = 2", "jail.conf|j|ignoreself|BadBool"),
-        ("filter = f[", "jail.conf|j|filter|BadOptions"),
-        ("filter = g", "filter.d/g.conf|j|filter|MissingFile"),
-        ("filter = f", "filter.d/f.conf|j|maxlines|Unsupported"),
-        ("filter = p", "filter.d/p.conf|j|prefregex|BadTag"),
-        ("logpath = var/log", "jail.conf|j|logpath|BadGlob"),
-        ("logtimezone = CET", "jail.conf|j|logtimezone|BadZone"),
-        ("datepattern = %%Q", "jail.conf|j|datepattern|BadDate"),
-        ("failregex = x", "jail.conf|j|failregex|NoHost"),
-        (
-            "failregex = <HOST> <HOST>",
-            "jail.conf|j|failregex|TwoHosts",
-        ),
-        ("failregex = <HOST> <CIDR>", "jail.conf|j|failregex|BadTag"),
-        (
-            "ignoreregex = <HOST> <HOST>",
-            "jail.conf|j|ignoreregex|TwoHosts",
-        ),
-        ("ignoreip = 1.2.3", "jail.conf|j|ignoreip|BadAddress"),
-        ("usedns = raw", "jail.conf|j|usedns|Unsupported"),
-        ("findtime = 0", "jail.conf|j|findtime|BadTime"),
-        ("maxretry = 1x", "jail.conf|j|maxretry|BadNumber"),
-        ("bantime = 0", "jail.conf|j|bantime|BadTime"),
-        (
-            "bantime.overalljails = yes",
-            "jail.conf|j|bantime.overalljails|Unsupported",
-        ),
-        ("action = a[", "jail.conf|j|action|BadOptions"),
-        ("action = b", "action.d/b.conf|j|action|MissingFile"),
-        ("action = a\n a[x=1]", "jail.conf|j|action|DoubleAction"),
-        ("action = a\n a[actname=b]", "read"),
-        ("action = slow", "action.d/slow.conf|j|timeout|BadTime"),
-    ] {
-        let got = told_of_jail(rt.alloc(), items)?;
-        assert_eq!(rt; got.as_str(), want);
+/// Rows of a jail's items, and what is told of it.
+fn are_told_of_jails(rt: &impl Abort, alloc: Global, rows: &[(&str, &str)]) -> Result<(), Fail> {
+    for (items, want) in rows {
+        assert_eq!(rt; told_of_jail(alloc, items)?.as_str(), *want);
     }
     Ok(())
 }
 
+const KINDS: [(&str, &str); 25] = [
+    ("", "read"),
+    ("enabled = maybe", "jail.conf|j|enabled|BadBool"),
+    ("ignoreself = 2", "jail.conf|j|ignoreself|BadBool"),
+    ("filter = f[", "jail.conf|j|filter|BadOptions"),
+    ("filter = g", "filter.d/g.conf|j|filter|MissingFile"),
+    ("filter = f", "filter.d/f.conf|j|maxlines|Unsupported"),
+    ("filter = p", "filter.d/p.conf|j|prefregex|BadTag"),
+    ("logpath = var/log", "jail.conf|j|logpath|BadGlob"),
+    ("logtimezone = CET", "jail.conf|j|logtimezone|BadZone"),
+    ("datepattern = %%Q", "jail.conf|j|datepattern|BadDate"),
+    ("failregex = x", "jail.conf|j|failregex|NoHost"),
+    (
+        "failregex = <HOST> <HOST>",
+        "jail.conf|j|failregex|TwoHosts",
+    ),
+    ("failregex = <HOST> <CIDR>", "jail.conf|j|failregex|BadTag"),
+    (
+        "ignoreregex = <HOST> <HOST>",
+        "jail.conf|j|ignoreregex|TwoHosts",
+    ),
+    ("ignoreip = 1.2.3", "jail.conf|j|ignoreip|BadAddress"),
+    ("usedns = raw", "jail.conf|j|usedns|Unsupported"),
+    ("findtime = 0", "jail.conf|j|findtime|BadTime"),
+    ("maxretry = 1x", "jail.conf|j|maxretry|BadNumber"),
+    ("bantime = 0", "jail.conf|j|bantime|BadTime"),
+    (
+        "bantime.overalljails = yes",
+        "jail.conf|j|bantime.overalljails|Unsupported",
+    ),
+    ("action = a[", "jail.conf|j|action|BadOptions"),
+    ("action = b", "action.d/b.conf|j|action|MissingFile"),
+    ("action = a\n a[x=1]", "jail.conf|j|action|DoubleAction"),
+    ("action = a\n a[actname=b]", "read"),
+    ("action = slow", "action.d/slow.conf|j|timeout|BadTime"),
+];
+
 #[test]
-fn tells_the_first_of_two_faults(rt: HostRuntime) -> Result<(), Fail> {
-    for (server, jails, want) in [
-        (
-            "[Definition]\ndbpurgeage = -1\n",
-            "x",
-            "fail2ban.conf|Definition|dbpurgeage|BadTime",
-        ),
-        (
-            "",
-            "[j]\nenabled = on\nbantime = 0\nfindtime = x\n",
-            "jail.conf|j|findtime|BadTime",
-        ),
-        (
-            "",
-            "[j]\nenabled = on\naction = a\nfilter = f\n",
-            "filter.d/f.conf|j|filter|MissingFile",
-        ),
-        ("", "[a b]\nenabled = x\n", "jail.conf|a b||BadName"),
-        (
-            "",
-            "[j]\nenabled = x\nfilter = f\n",
-            "jail.conf|j|enabled|BadBool",
-        ),
-        (
-            "",
-            "[j]\nbantime = 0\n[k]\nenabled = on\nmaxretry = x\n",
-            "jail.conf|k|maxretry|BadNumber",
-        ),
-        (
-            "",
-            "[k]\nenabled = on\nmaxretry = x\n[j]\nenabled = x\n",
-            "jail.conf|k|maxretry|BadNumber",
-        ),
-    ] {
+fn tells_each_kind_of_an_item(rt: HostRuntime) -> Result<(), Fail> {
+    are_told_of_jails(&rt, rt.alloc(), &KINDS)
+}
+
+/// Rows of a `fail2ban.conf`, a `jail.conf`, and what is told of them.
+fn are_told_of_two(
+    rt: &impl Abort,
+    alloc: Global,
+    rows: &[(&str, &str, &str)],
+) -> Result<(), Fail> {
+    for &(server, jails, want) in rows {
         let files = [("fail2ban.conf", server), ("jail.conf", jails)];
-        let got = told(rt.alloc(), files.as_slice())?;
-        assert_eq!(rt; got.as_str(), want);
+        assert_eq!(rt; told(alloc, files.as_slice())?.as_str(), want);
     }
     Ok(())
+}
+
+const FIRST_OF_TWO: [(&str, &str, &str); 7] = [
+    (
+        "[Definition]\ndbpurgeage = -1\n",
+        "x",
+        "fail2ban.conf|Definition|dbpurgeage|BadTime",
+    ),
+    (
+        "",
+        "[j]\nenabled = on\nbantime = 0\nfindtime = x\n",
+        "jail.conf|j|findtime|BadTime",
+    ),
+    (
+        "",
+        "[j]\nenabled = on\naction = a\nfilter = f\n",
+        "filter.d/f.conf|j|filter|MissingFile",
+    ),
+    ("", "[a b]\nenabled = x\n", "jail.conf|a b||BadName"),
+    (
+        "",
+        "[j]\nenabled = x\nfilter = f\n",
+        "jail.conf|j|enabled|BadBool",
+    ),
+    (
+        "",
+        "[j]\nbantime = 0\n[k]\nenabled = on\nmaxretry = x\n",
+        "jail.conf|k|maxretry|BadNumber",
+    ),
+    (
+        "",
+        "[k]\nenabled = on\nmaxretry = x\n[j]\nenabled = x\n",
+        "jail.conf|k|maxretry|BadNumber",
+    ),
+];
+
+#[test]
+fn tells_the_first_of_two_faults(rt: HostRuntime) -> Result<(), Fail> {
+    are_told_of_two(&rt, rt.alloc(), &FIRST_OF_TWO)
 }

@@ -6,6 +6,7 @@ use crate::configuration::conf;
 use crate::fail::Fail as Refusal;
 use f2b_base::Text;
 use std::alloc::Global;
+use std::process::Abort;
 use std::test::Fail;
 
 /// The refusal of a configuration with this `jail.conf`, as it prints, or nothing where it is accepted.
@@ -17,43 +18,49 @@ fn printed(alloc: Global, jail: &str) -> Result<Text, Fail> {
     }
 }
 
-#[test]
-fn prints_a_refusal_with_its_place(rt: HostRuntime) -> Result<(), Fail> {
-    for (jail, want) in [
-        (
-            "x = 1\n",
-            "Configuration refused: jail.conf [] : NoSection 1",
-        ),
-        (
-            "[INCLUDES]\nbefore = x.conf\n",
-            "Configuration refused: jail.conf [] : MissingInclude x.conf",
-        ),
-        (
-            "[INCLUDES]\nbefore = jail.conf\n",
-            "Configuration refused: jail.conf [] : IncludeLoop",
-        ),
-        (
-            "[a b]\n",
-            "Configuration refused: jail.conf [a b] : BadName",
-        ),
-        (
-            "[j]\nenabled = %(x)s\n",
-            "Configuration refused: jail.conf [j] enabled: Missing x",
-        ),
-        (
-            "[j]\nenabled = on%\n",
-            "Configuration refused: jail.conf [j] enabled: BadPercent 2",
-        ),
-        (
-            "[j]\nenabled = on\nbantime = 0\n",
-            "Configuration refused: jail.conf [j] bantime: BadTime",
-        ),
-        ("[j]\n", ""),
-    ] {
-        let got = printed(rt.alloc(), jail)?;
-        assert_eq!(rt; got.as_str(), want);
+/// Rows of a `jail.conf`, and what is printed of it.
+fn are_printed(rt: &impl Abort, alloc: Global, rows: &[(&str, &str)]) -> Result<(), Fail> {
+    for (jail, want) in rows {
+        assert_eq!(rt; printed(alloc, jail)?.as_str(), *want);
     }
     Ok(())
+}
+
+const REFUSALS: [(&str, &str); 8] = [
+    (
+        "x = 1\n",
+        "Configuration refused: jail.conf [] : NoSection 1",
+    ),
+    (
+        "[INCLUDES]\nbefore = x.conf\n",
+        "Configuration refused: jail.conf [] : MissingInclude x.conf",
+    ),
+    (
+        "[INCLUDES]\nbefore = jail.conf\n",
+        "Configuration refused: jail.conf [] : IncludeLoop",
+    ),
+    (
+        "[a b]\n",
+        "Configuration refused: jail.conf [a b] : BadName",
+    ),
+    (
+        "[j]\nenabled = %(x)s\n",
+        "Configuration refused: jail.conf [j] enabled: Missing x",
+    ),
+    (
+        "[j]\nenabled = on%\n",
+        "Configuration refused: jail.conf [j] enabled: BadPercent 2",
+    ),
+    (
+        "[j]\nenabled = on\nbantime = 0\n",
+        "Configuration refused: jail.conf [j] bantime: BadTime",
+    ),
+    ("[j]\n", ""),
+];
+
+#[test]
+fn prints_a_refusal_with_its_place(rt: HostRuntime) -> Result<(), Fail> {
+    are_printed(&rt, rt.alloc(), &REFUSALS)
 }
 
 #[test]

@@ -13,27 +13,48 @@ use crate::zones::Zone;
 use f2b_base::{DateSpec, Seq, Text};
 use ini_interp::read_file;
 use std::alloc::Global;
+use std::process::Abort;
 use std::test::Fail;
 
-/// A refusal of this kind.
+/// A value, or where there is none a refusal of this kind.
+fn answer<A>(value: Option<A>, kind: ConfKind) -> Result<A, Refusal<ConfKind>> {
+    value.ok_or(Refusal::Refused(kind))
+}
+
 fn refused<A>(kind: ConfKind) -> Result<A, Refusal<ConfKind>> {
     Err(Refusal::Refused(kind))
 }
 
+/// Rows of a text and what it means, or none where it is refused.
+fn are_booleans(rt: &impl Abort, alloc: Global, rows: &[(&str, Option<bool>)]) {
+    for (text, want) in rows {
+        assert_eq!(rt;
+            Boolean.read(alloc, text),
+            answer(*want, ConfKind::BadBool),
+            "{text}"
+        );
+    }
+}
+
+const BOOLEANS: [(&str, Option<bool>); 9] = [
+    ("true", Some(true)),
+    (" Yes\t", Some(true)),
+    ("1", Some(true)),
+    ("OFF", Some(false)),
+    ("0", Some(false)),
+    ("", None),
+    ("maybe", None),
+    ("true yes", None),
+    ("yess", None),
+];
+
+#[test]
+fn reads_booleans(rt: HostRuntime) {
+    are_booleans(&rt, rt.alloc(), &BOOLEANS);
+}
+
 #[test]
 fn reads_choices(rt: HostRuntime) {
-    for (text, want) in [
-        ("true", true),
-        (" Yes\t", true),
-        ("1", true),
-        ("OFF", false),
-        ("0", false),
-    ] {
-        assert_eq!(rt; Boolean.read(rt.alloc(), text), Ok(want));
-    }
-    for text in ["", "maybe", "true yes", "yess"] {
-        assert_eq!(rt; Boolean.read(rt.alloc(), text), refused(ConfKind::BadBool));
-    }
     assert_eq!(rt; OneOf("yes warn no").read(rt.alloc(), "Warn"), Ok(()));
     assert_eq!(rt;
         OneOf("yes warn no").read(rt.alloc(), "raw"),
@@ -46,18 +67,41 @@ fn reads_choices(rt: HostRuntime) {
     );
 }
 
-#[test]
-fn reads_numbers(rt: HostRuntime) -> Result<(), Fail> {
+/// Rows of a text and its number from 1 to 1,000, or none where it is refused.
+fn are_numbers(rt: &impl Abort, alloc: Global, rows: &[(&str, Option<u64>)]) {
     let number = Number {
         least: 1,
         most: 1_000,
     };
-    for (text, want) in [("1", 1), ("007", 7), (" 1000 ", 1_000)] {
-        assert_eq!(rt; number.read(rt.alloc(), text), Ok(want));
+    for (text, want) in rows {
+        assert_eq!(rt;
+            number.read(alloc, text),
+            answer(*want, ConfKind::BadNumber),
+            "{text}"
+        );
     }
-    for text in ["", "0", "1001", "-1", "+1", "1.0", "18446744073709551617"] {
-        assert_eq!(rt; number.read(rt.alloc(), text), refused(ConfKind::BadNumber));
-    }
+}
+
+const NUMBERS: [(&str, Option<u64>); 10] = [
+    ("1", Some(1)),
+    ("007", Some(7)),
+    (" 1000 ", Some(1_000)),
+    ("", None),
+    ("0", None),
+    ("1001", None),
+    ("-1", None),
+    ("+1", None),
+    ("1.0", None),
+    ("18446744073709551617", None),
+];
+
+#[test]
+fn reads_numbers(rt: HostRuntime) {
+    are_numbers(&rt, rt.alloc(), &NUMBERS);
+}
+
+#[test]
+fn reads_the_number_one_and_several_numbers(rt: HostRuntime) -> Result<(), Fail> {
     assert_eq!(rt; OnlyOne.read(rt.alloc(), "01"), Ok(()));
     assert_eq!(rt;
         OnlyOne.read(rt.alloc(), "2"),
@@ -68,30 +112,41 @@ fn reads_numbers(rt: HostRuntime) -> Result<(), Fail> {
     Ok(())
 }
 
+/// Rows of a text and its seconds.
+fn are_times(rt: &impl Abort, rows: &[(&str, Option<i64>)]) {
+    for (text, want) in rows {
+        assert_eq!(rt; str2sec(text), *want, "{text}");
+    }
+}
+
+const TIMES: [(&str, Option<i64>); 18] = [
+    ("600", Some(600)),
+    ("10m", Some(600)),
+    ("1d12h30m", Some(131_400)),
+    ("1d 12h 30m", Some(131_400)),
+    ("1mo", Some(2_629_800)),
+    ("2 Weeks", Some(1_209_600)),
+    ("-1", Some(-1)),
+    (" 5 ", Some(5)),
+    ("3153600000", Some(3_153_600_000)),
+    ("3153600001", None),
+    ("100years", None),
+    ("99999999999999999999y", None),
+    ("5q", None),
+    ("", None),
+    ("1h 30", None),
+    ("1 2h", None),
+    ("- 5", None),
+    ("--5", None),
+];
+
 #[test]
 fn reads_times(rt: HostRuntime) {
-    for (text, want) in [
-        ("600", Some(600)),
-        ("10m", Some(600)),
-        ("1d12h30m", Some(131_400)),
-        ("1d 12h 30m", Some(131_400)),
-        ("1mo", Some(2_629_800)),
-        ("2 Weeks", Some(1_209_600)),
-        ("-1", Some(-1)),
-        (" 5 ", Some(5)),
-        ("3153600000", Some(3_153_600_000)),
-        ("3153600001", None),
-        ("100years", None),
-        ("99999999999999999999y", None),
-        ("5q", None),
-        ("", None),
-        ("1h 30", None),
-        ("1 2h", None),
-        ("- 5", None),
-        ("--5", None),
-    ] {
-        assert_eq!(rt; str2sec(text), want);
-    }
+    are_times(&rt, &TIMES);
+}
+
+#[test]
+fn reads_times_of_items(rt: HostRuntime) {
     assert_eq!(rt;
         Seconds { least: 1 }.read(rt.alloc(), "0"),
         refused(ConfKind::BadTime)
@@ -105,25 +160,58 @@ fn reads_times(rt: HostRuntime) {
     assert_eq!(rt; Jitter.read(rt.alloc(), "x"), refused(ConfKind::BadTime));
 }
 
+/// Rows of a text and its factor in thousandths, or none where it is refused.
+fn are_factors(rt: &impl Abort, alloc: Global, rows: &[(&str, Option<u64>)]) {
+    for (text, want) in rows {
+        assert_eq!(rt;
+            Factor.read(alloc, text),
+            answer(*want, ConfKind::BadNumber),
+            "{text}"
+        );
+    }
+}
+
+const FACTORS: [(&str, Option<u64>); 10] = [
+    ("1.5", Some(1_500)),
+    ("2", Some(2_000)),
+    ("0.001", Some(1)),
+    ("0", None),
+    ("1.5000", None),
+    ("1.", None),
+    (".5", None),
+    ("1.2.3", None),
+    ("1000.1", None),
+    ("-1", None),
+];
+
+/// Rows of a text and its zone in seconds, or none where it is refused.
+fn are_zones(rt: &impl Abort, alloc: Global, rows: &[(&str, Option<i64>)]) {
+    for (text, want) in rows {
+        assert_eq!(rt;
+            Zone.read(alloc, text),
+            answer(*want, ConfKind::BadZone),
+            "{text}"
+        );
+    }
+}
+
+const ZONES: [(&str, Option<i64>); 10] = [
+    ("Z", Some(0)),
+    ("UTC", Some(0)),
+    ("UTC-0130", Some(-5_400)),
+    ("GMT+2359", Some(86_340)),
+    ("", None),
+    ("z", None),
+    ("UTC+1", None),
+    ("GMT+2400", None),
+    ("GMT+0060", None),
+    ("UTC 0100", None),
+];
+
 #[test]
 fn reads_factors_and_zones(rt: HostRuntime) {
-    for (text, want) in [("1.5", 1_500), ("2", 2_000), ("0.001", 1)] {
-        assert_eq!(rt; Factor.read(rt.alloc(), text), Ok(want));
-    }
-    for text in ["0", "1.5000", "1.", ".5", "1.2.3", "1000.1", "-1"] {
-        assert_eq!(rt; Factor.read(rt.alloc(), text), refused(ConfKind::BadNumber));
-    }
-    for (text, want) in [
-        ("Z", 0),
-        ("UTC", 0),
-        ("UTC-0130", -5_400),
-        ("GMT+2359", 86_340),
-    ] {
-        assert_eq!(rt; Zone.read(rt.alloc(), text), Ok(want));
-    }
-    for text in ["", "z", "UTC+1", "GMT+2400", "GMT+0060", "UTC 0100"] {
-        assert_eq!(rt; Zone.read(rt.alloc(), text), refused(ConfKind::BadZone));
-    }
+    are_factors(&rt, rt.alloc(), &FACTORS);
+    are_zones(&rt, rt.alloc(), &ZONES);
 }
 
 #[test]
@@ -137,10 +225,24 @@ fn reads_dates(rt: HostRuntime) -> Result<(), Fail> {
         Date.read(rt.alloc(), "{^LN-BEG}%d/%b"),
         Ok(DateSpec::AnchoredPattern(pattern))
     );
-    for text in ["", "%d", "%d%d%m", "%Q%d%m", "{^LN-BEG}Epoch"] {
-        assert_eq!(rt; Date.read(rt.alloc(), text), refused(ConfKind::BadDate));
-    }
     Ok(())
+}
+
+fn are_no_dates(rt: &impl Abort, alloc: Global, texts: &[&str]) {
+    for text in texts {
+        assert_eq!(rt;
+            Date.read(alloc, text),
+            refused(ConfKind::BadDate),
+            "{text}"
+        );
+    }
+}
+
+const NO_DATES: [&str; 5] = ["", "%d", "%d%d%m", "%Q%d%m", "{^LN-BEG}Epoch"];
+
+#[test]
+fn refuses_what_is_no_date(rt: HostRuntime) {
+    are_no_dates(&rt, rt.alloc(), &NO_DATES);
 }
 
 #[test]
@@ -168,35 +270,43 @@ fn jail(alloc: Global, items: &[u8]) -> Result<Source, Fail> {
     })
 }
 
+const ITEMS: &[u8] = b"[DEFAULT]\nenabled = maybe\nignoreself = %(no)s\n[j]\nbackend = AUTO\n";
+
 #[test]
-fn tells_where_an_item_stands(rt: HostRuntime) -> Result<(), Fail> {
-    let jail = jail(
-        rt.alloc(),
-        b"[DEFAULT]\nenabled = maybe\nignoreself = %(no)s\n[j]\nbackend = AUTO\n",
-    )?;
+fn reads_an_item_where_it_stands(rt: HostRuntime) -> Result<(), Fail> {
+    let jail = jail(rt.alloc(), ITEMS)?;
     let words = OneOf("auto polling");
     assert_eq!(rt; jail.item(rt.alloc(), "backend", &words, ()), Ok(()));
     assert_eq!(rt;
         jail.item(rt.alloc(), "bantime.increment", &Boolean, true),
         Ok(true)
     );
-    match jail.item(rt.alloc(), "enabled", &Boolean, false) {
+    Ok(())
+}
+
+/// Where an item is refused that has to be a boolean, and why: file, section, item and kind.
+fn refused_at(alloc: Global, jail: &Source, name: &str, absent: bool) -> Result<String, Fail> {
+    match jail.item(alloc, name, &Boolean, absent) {
         Err(Refusal::Refused(error)) => {
-            assert_eq!(rt; error.file.as_str(), "jail.conf");
-            assert_eq!(rt; error.section.as_str(), "j");
-            assert_eq!(rt; error.name.as_str(), "enabled");
-            assert_eq!(rt; error.kind, ConfKind::BadBool);
+            let file = error.file.as_str();
+            let section = error.section.as_str();
+            let name = error.name.as_str();
+            let kind = &error.kind;
+            Ok(format!(in alloc; "{file}|{section}|{name}|{kind:?}")?)
         }
-        _ => assert!(rt; false),
+        _ => Ok(String::from_str(alloc, "not refused")?),
     }
-    match jail.item(rt.alloc(), "ignoreself", &Boolean, true) {
-        Err(Refusal::Refused(error)) => {
-            assert_eq!(rt;
-                error.kind,
-                ConfKind::Missing(Text::from_str(rt.alloc(), "no")?)
-            );
-        }
-        _ => assert!(rt; false),
-    }
+}
+
+#[test]
+fn tells_where_an_item_stands(rt: HostRuntime) -> Result<(), Fail> {
+    let jail = jail(rt.alloc(), ITEMS)?;
+    let enabled = refused_at(rt.alloc(), &jail, "enabled", false)?;
+    assert_eq!(rt; enabled.as_str(), "jail.conf|j|enabled|BadBool");
+    let ignoreself = refused_at(rt.alloc(), &jail, "ignoreself", true)?;
+    assert_eq!(rt;
+        ignoreself.as_str(),
+        "jail.conf|j|ignoreself|Missing(\"no\")"
+    );
     Ok(())
 }

@@ -21,11 +21,12 @@ mod views;
 use crate::Core;
 use f2b_base::{
     ActionDef, Addr, BanRule, Bytes, DEFAULT_PURGE, DateSpec, Defs, Failure, Family, Input,
-    JailDef, NoMemory, Outcome, Place, Seq, Text, View, WatchDef, What,
+    JailDef, KEPT_LINE_BYTES, NoMemory, Outcome, Place, Seq, Text, View, WatchDef, What,
 };
 use f2b_model::{Happening, LaneHappening, Told};
 use std::alloc::Global;
 use std::process::Abort;
+use std::test::Fail;
 
 /// 192.0.2.7.
 const ADDR: Addr = Addr::V4(0xc000_0207);
@@ -242,7 +243,7 @@ fn input(secs: u32, what: What) -> Input
 }
 
 /// The state after something happened, and what was told.
-fn step(core: Core, secs: u32, what: What) -> Result<(Core, Told), NoMemory>
+fn take(core: Core, secs: u32, what: What) -> Result<(Core, Told), NoMemory>
     requires { IsStorableWhat what }
     ensures { IsStorable core → IfOk result (λ r. IsStorable r.0) }
 {
@@ -301,19 +302,242 @@ impl Pair {
     }
 }
 
-/// The jail has its action, with this check, the address is banned, and all jobs are done.
-fn banned(alloc: Global, check: &str) -> Result<Core, NoMemory>
+/// An address of a test.
+#[derive(Clone, Copy)]
+enum Who {
+    /// `ADDR`.
+    Seven,
+    /// `NEXT`.
+    Eight,
+    /// 0.0.0.1.
+    First,
+    /// 2001:db8::1.
+    OfIpv6,
+}
+
+/// The address itself.
+fn addr(who: Who) -> Addr
+    ensures { IsAddr result }
+{
+    match who {
+        Who::Seven => ADDR,
+        Who::Eight => NEXT,
+        Who::First => Addr::V4(1),
+        Who::OfIpv6 => Addr::V6(0x2001_0db8_0000_0000_0000_0000_0000_0001),
+    }
+}
+
+/// What happens to a core.
+#[derive(Clone, Copy)]
+enum Happens {
+    /// A configuration is taken, with a command that bans and a check, and a ban shows so many lines, at most 1000.
+    Configures(&'static str, &'static str, u64),
+    /// The log is read to a place, and a failure of an address of this time with this line is found.
+    Fails(Who, u32, &'static str),
+    /// An address is banned by command.
+    Bans(Who),
+    /// `ADDR` is unbanned by command.
+    Unbans,
+    /// All addresses are.
+    UnbansAll,
+    /// The jail's logs are not looked at any more.
+    Idles,
+    /// A try of a job ends with a status.
+    Ends(u32, i32),
+    /// The check of a job ends with status 1.
+    CheckFails(u32),
+    /// Time passes.
+    Ticks,
+    /// The server stops.
+    Stops,
+}
+
+/// An address is unbanned by command.
+fn unbanning(alloc: Global, addr: Addr) -> Result<What, NoMemory>
+    requires { IsAddr addr }
+    ensures { IfOk result IsStorableWhat }
+{
+    let mut addrs = Seq::new(alloc);
+    addrs.push(addr)?;
+    Ok(What::Unban {
+        jail: None,
+        addrs: Some(addrs),
+    })
+}
+
+/// All bans end.
+fn unbanning_all() -> What
+    ensures { IsStorableWhat result }
+{
+    What::Unban {
+        jail: None,
+        addrs: None,
+    }
+}
+
+/// The jail's logs are not looked at any more.
+fn idling(alloc: Global) -> Result<What, NoMemory>
+    ensures { IfOk result IsStorableWhat }
+{
+    Ok(What::Idle {
+        jail: jail(alloc)?,
+        idle: true,
+    })
+}
+
+/// An address fails with a line, which a test has no longer than it is kept.
+fn failing(alloc: Global, who: Who, time: u32, line: &str) -> Result<What, NoMemory>
+    ensures { IfOk result IsStorableWhat }
+{
+    if line.len() > KEPT_LINE_BYTES {
+        return Ok(What::Tick);
+    }
+    reading(alloc, addr(who), time, line)
+}
+
+/// What happens, as an input has it.
+fn what(alloc: Global, happens: &Happens) -> Result<What, NoMemory>
+    ensures { IfOk result IsStorableWhat }
+{
+    match *happens {
+        Happens::Configures(ban, check, maxmatches) => {
+            configuration(alloc, ban, check, maxmatches.min(1000))
+        }
+        Happens::Fails(who, time, line) => failing(alloc, who, time, line),
+        Happens::Bans(who) => banning(alloc, addr(who)),
+        Happens::Unbans => unbanning(alloc, ADDR),
+        Happens::UnbansAll => Ok(unbanning_all()),
+        Happens::Idles => idling(alloc),
+        Happens::Ends(job, status) => Ok(ended(job, status)),
+        Happens::CheckFails(job) => Ok(check_failed(job)),
+        Happens::Ticks => Ok(What::Tick),
+        Happens::Stops => Ok(What::Stop),
+    }
+}
+
+/// The state after something happened.
+fn state_after(core: Core, alloc: Global, secs: u32, happens: &Happens) -> Result<Core, NoMemory>
+    ensures { IsStorable core → IfOk result IsStorable }
+{
+    let (core, _) = take(core, secs, what(alloc, happens)?)?;
+    Ok(core)
+}
+
+/// The state after all this happened to an empty one, each at its second.
+fn after(alloc: Global, inputs: &[(u32, Happens)]) -> Result<Core, NoMemory>
     ensures { IfOk result IsStorable }
 {
-    let (core, _) = step(
-        Core::empty(alloc),
-        1000,
-        configuration(alloc, ADD, check, 0)?,
-    )?;
-    let (core, _) = step(core, 1000, ended(0, 0))?;
-    let (core, _) = step(core, 1001, banning(alloc, ADDR)?)?;
-    let (core, _) = step(core, 1001, ended(1, 0))?;
+    let mut core = Core::empty(alloc);
+    for row in inputs {
+        core = state_after(core, alloc, row.0, &row.1)?;
+    }
     Ok(core)
+}
+
+/// One thing that happens to a core, or that is expected of it.
+#[derive(Clone, Copy)]
+enum Step {
+    /// Something happens at a second.
+    At(u32, Happens),
+    /// The jobs that are not settled.
+    Jobs(&'static str),
+    /// What the last input told of the lanes.
+    Lanes(&'static str),
+    /// It told nothing of the jails.
+    NothingOfJails,
+    /// The check that is run before a try of a job.
+    CheckOf(u64, Option<&'static str>),
+    /// The command of the check, with its values.
+    CheckText(u64, &'static str),
+    /// Whether a ban is due at a moment.
+    BanDue(u64, bool),
+    /// The moment.
+    Now(u64),
+    /// How many jails the configuration has.
+    Configured(usize),
+    /// How many jails a view has.
+    Viewed(usize),
+    /// Whether ids are used up.
+    Spent(bool),
+    /// Whether the server stops.
+    Stopping(bool),
+    /// No lane is up.
+    NoneUp,
+}
+
+/// A core, and what its last input told.
+#[derive(Drop)]
+struct Scene {
+    core: Core,
+    told: Told,
+}
+
+impl Scene {
+    fn expect_lines(&self, rt: &impl Abort, alloc: Global, step: &Step) -> Result<(), Fail> {
+        match *step {
+            Step::Jobs(want) => {
+                let jobs = jobs(alloc, &self.core)?;
+                assert_eq!(rt; jobs.as_str(), want);
+            }
+            Step::Lanes(want) => {
+                let lines = lane_lines(alloc, &self.told)?;
+                assert_eq!(rt; lines.as_str(), want);
+            }
+            Step::CheckText(job, want) => {
+                let text = self.core.check_text(job)?.ok_or("no check")?;
+                assert_eq!(rt; text.as_str(), want);
+            }
+            _ => (),
+        }
+        Ok(())
+    }
+
+    fn expect_view(&self, rt: &impl Abort, step: &Step) -> Result<(), Fail> {
+        match *step {
+            Step::Configured(want) => assert_eq!(rt; self.core.defs()?.jails.len(), want),
+            Step::Viewed(want) => assert_eq!(rt; self.core.view()?.jails.len(), want),
+            Step::Stopping(want) => assert_eq!(rt; self.core.view()?.stopping, want),
+            Step::NoneUp => assert!(rt; self.core.view()?.up.is_empty()),
+            _ => (),
+        }
+        Ok(())
+    }
+
+    fn expect(&self, rt: &impl Abort, step: &Step) {
+        match *step {
+            Step::NothingOfJails => assert!(rt; self.told.jails.is_empty()),
+            Step::CheckOf(job, want) => assert_eq!(rt; self.core.check_of(job), want, "{job}"),
+            Step::BanDue(at, want) => assert_eq!(rt; self.core.ban_due(at), want, "at {at}"),
+            Step::Now(want) => assert_eq!(rt; self.core.now(), want),
+            Step::Spent(want) => assert_eq!(rt; self.core.spent(), want),
+            _ => (),
+        }
+    }
+
+    /// The scene after a step.
+    fn after(self, rt: &impl Abort, alloc: Global, step: &Step) -> Result<Scene, Fail> {
+        if let Step::At(secs, happens) = step {
+            let (core, told) = take(self.core, *secs, what(alloc, happens)?)?;
+            return Ok(Scene { core, told });
+        }
+        self.expect_lines(rt, alloc, step)?;
+        self.expect_view(rt, step)?;
+        self.expect(rt, step);
+        Ok(self)
+    }
+}
+
+/// Takes these steps, one after the other.
+fn play(rt: &impl Abort, alloc: Global, core: Core, steps: &[Step]) -> Result<(), Fail> {
+    let told = Told {
+        jails: Seq::new(alloc),
+        lanes: Seq::new(alloc),
+    };
+    let mut scene = Scene { core, told };
+    for step in steps {
+        scene = scene.after(rt, alloc, step)?;
+    }
+    Ok(())
 }
 
 /// The jobs that are not settled, one a line: id, kind and command.

@@ -8,6 +8,7 @@ use crate::room::Room;
 use f2b_base::{Addr, BanRule, DateSpec, Failure, JailDef, JailView, NoMemory, Seq, Text};
 use f2b_model::Happening;
 use std::alloc::Global;
+use std::process::Abort;
 use std::test::Fail;
 
 /// 192.0.2.7.
@@ -37,32 +38,38 @@ fn shown(alloc: Global, lines: &[&str], maxmatches: u64) -> Result<Text, NoMemor
     matches_of(alloc, failures.as_slice(), maxmatches)
 }
 
-#[test]
-fn the_last_lines_are_shown_escaped(rt: HostRuntime) -> Result<(), Fail> {
-    let rows: [(&[&str], u64, &str); 9] = [
-        (&[], 3, ""),
-        (&["a"], 3, "a"),
-        (&["a", "b", "c"], 3, "a / b / c"),
-        (&["a", "b", "c"], 2, "b / c"),
-        (&["a", "b", "c"], 0, ""),
-        (&["a", "", "c", ""], 2, "a / c"),
-        (
-            &["x'; reboot #", "$(id)`id`\"\\\n"],
-            3,
-            "x__ reboot _ / __id__id____",
-        ),
-        (&["\u{e9}\u{20ac}"], 3, "__"),
-        (
-            &["host sshd[811]: Failed password for root from 192.0.2.7 port 4242 ssh2"],
-            3,
-            "host sshd_811_: Failed password for root from 192.0.2.7 port 4242 ssh2",
-        ),
-    ];
-    for (lines, maxmatches, expected) in rows {
-        let text = shown(rt.alloc(), lines, maxmatches)?;
+/// Rows of the lines of failures, how many are shown, and what is shown.
+fn are_shown(rt: &impl Abort, alloc: Global, rows: &[(&[&str], u64, &str)]) -> Result<(), Fail> {
+    for &(lines, maxmatches, expected) in rows {
+        let text = shown(alloc, lines, maxmatches)?;
         assert_eq!(rt; text.as_str(), expected, "{lines:?}");
     }
     Ok(())
+}
+
+const LAST_LINES: [(&[&str], u64, &str); 9] = [
+    (&[], 3, ""),
+    (&["a"], 3, "a"),
+    (&["a", "b", "c"], 3, "a / b / c"),
+    (&["a", "b", "c"], 2, "b / c"),
+    (&["a", "b", "c"], 0, ""),
+    (&["a", "", "c", ""], 2, "a / c"),
+    (
+        &["x'; reboot #", "$(id)`id`\"\\\n"],
+        3,
+        "x__ reboot _ / __id__id____",
+    ),
+    (&["\u{e9}\u{20ac}"], 3, "__"),
+    (
+        &["host sshd[811]: Failed password for root from 192.0.2.7 port 4242 ssh2"],
+        3,
+        "host sshd_811_: Failed password for root from 192.0.2.7 port 4242 ssh2",
+    ),
+];
+
+#[test]
+fn the_last_lines_are_shown_escaped(rt: HostRuntime) -> Result<(), Fail> {
+    are_shown(&rt, rt.alloc(), &LAST_LINES)
 }
 
 /// A line of so many characters.
@@ -88,21 +95,27 @@ fn shown_length(alloc: Global, lengths: &[usize]) -> Result<usize, NoMemory> {
     Ok(text.as_str().len())
 }
 
-#[test]
-fn what_is_shown_has_at_most_8192_bytes(rt: HostRuntime) -> Result<(), Fail> {
-    let rows: [(&[usize], usize); 7] = [
-        (&[8192], 8192),
-        (&[8193], 0),
-        (&[8193, 1], 1),
-        (&[4000, 4189], 8192),
-        (&[4000, 4190], 4190),
-        (&[1, 4000, 4190, 1], 4194),
-        (&[512; 17], 7722),
-    ];
-    for (lengths, expected) in rows {
-        assert_eq!(rt; shown_length(rt.alloc(), lengths)?, expected, "{lengths:?}");
+/// Rows of the lengths of lines, and how many bytes are shown.
+fn are_lengths(rt: &impl Abort, alloc: Global, rows: &[(&[usize], usize)]) -> Result<(), Fail> {
+    for &(lengths, expected) in rows {
+        assert_eq!(rt; shown_length(alloc, lengths)?, expected, "{lengths:?}");
     }
     Ok(())
+}
+
+const LENGTHS: [(&[usize], usize); 7] = [
+    (&[8192], 8192),
+    (&[8193], 0),
+    (&[8193, 1], 1),
+    (&[4000, 4189], 8192),
+    (&[4000, 4190], 4190),
+    (&[1, 4000, 4190, 1], 4194),
+    (&[512; 17], 7722),
+];
+
+#[test]
+fn what_is_shown_has_at_most_8192_bytes(rt: HostRuntime) -> Result<(), Fail> {
+    are_lengths(&rt, rt.alloc(), &LENGTHS)
 }
 
 /// A jail that bans after three failures within ten minutes, and shows up to three lines.
@@ -174,18 +187,19 @@ fn fresh(alloc: Global, definition: &JailDef) -> Result<Room, NoMemory>
     Room::fresh(alloc, definition)
 }
 
+const FOUND: [(Addr, u64, &str); 5] = [
+    (ADDR, 300, "c"),
+    (OTHER, 100, "other"),
+    (ADDR, 100, "a"),
+    (OTHER, 200, "another"),
+    (ADDR, 200, "b"),
+];
+
 #[test]
 fn a_ban_shows_the_lines_that_led_to_it(rt: HostRuntime) -> Result<(), Fail> {
-    let failures = [
-        (ADDR, 300, "c"),
-        (OTHER, 100, "other"),
-        (ADDR, 100, "a"),
-        (OTHER, 200, "another"),
-        (ADDR, 200, "b"),
-    ];
     let definition = definition(rt.alloc())?;
     let room = fresh(rt.alloc(), &definition)?;
-    let lines = told_of(rt.alloc(), &definition, room, &failures, OTHER)?;
+    let lines = told_of(rt.alloc(), &definition, room, &FOUND, OTHER)?;
     assert_eq!(rt; lines.as_str(), "a / b / c\n\n");
     Ok(())
 }
@@ -222,12 +236,13 @@ fn taken_up(alloc: Global, definition: &JailDef) -> Result<Room, NoMemory>
     Room::of(alloc, definition, &view, 300)
 }
 
+const FOUND_THEN: [(Addr, u64, &str); 2] = [(OTHER, 300, "one more"), (ADDR, 300, "c")];
+
 #[test]
 fn a_ban_shows_lines_that_were_stored(rt: HostRuntime) -> Result<(), Fail> {
-    let failures = [(OTHER, 300, "one more"), (ADDR, 300, "c")];
     let definition = definition(rt.alloc())?;
     let room = taken_up(rt.alloc(), &definition)?;
-    let lines = told_of(rt.alloc(), &definition, room, &failures, OTHER)?;
+    let lines = told_of(rt.alloc(), &definition, room, &FOUND_THEN, OTHER)?;
     assert_eq!(rt; lines.as_str(), "a / b / c\n\n");
     Ok(())
 }

@@ -4,6 +4,7 @@ ghost use Rattle.std.specs.Prelude.{◌≡◌, ◌≤◌, IfOk};
 use crate::windows::Windows;
 use f2b_base::{Addr, Failure, NoMemory, Text};
 use std::alloc::Global;
+use std::process::Abort;
 use std::test::Fail;
 
 const FIRST: Addr = Addr::V4(0xc000_0207);
@@ -61,56 +62,66 @@ fn fed(
     Ok((windows, filled))
 }
 
-#[test]
-fn addresses_fill_each_for_itself(rt: HostRuntime) -> Result<(), Fail> {
-    let rows: [(u32, &[(Addr, u64, u64)], &[(usize, usize)]); 6] = [
-        (
-            3,
-            &[(FIRST, 100, 100), (FIRST, 300, 300), (FIRST, 699, 699)],
-            &[(2, 3)],
-        ),
-        (
-            3,
-            &[(FIRST, 100, 100), (FIRST, 300, 300), (FIRST, 700, 700)],
-            &[],
-        ),
-        (
-            3,
-            &[
-                (FIRST, 100, 100),
-                (SECOND, 200, 200),
-                (THIRD, 250, 250),
-                (FIRST, 300, 300),
-                (SECOND, 400, 400),
-                (THIRD, 410, 410),
-                (SECOND, 500, 500),
-            ],
-            &[(6, 3)],
-        ),
-        (
-            3,
-            &[
-                (FIRST, 100, 100),
-                (FIRST, 300, 300),
-                (FIRST, 699, 699),
-                (FIRST, 700, 700),
-                (FIRST, 701, 701),
-                (FIRST, 702, 702),
-            ],
-            &[(2, 3), (5, 3)],
-        ),
-        (
-            2,
-            &[(FIRST, 100, 100), (FIRST, 750, 750), (FIRST, 700, 760)],
-            &[(2, 2)],
-        ),
-        (1, &[(THIRD, 5, 5), (THIRD, 5, 5)], &[(0, 1), (1, 1)]),
-    ];
-    for (maxretry, failures, places) in rows {
-        let (_windows, filled) = fed(rt.alloc(), 600, maxretry, failures)?;
+/// Rows of how many failures fill an address, at least one, the failures, and where an address was full.
+fn are_filled(
+    rt: &impl Abort,
+    alloc: Global,
+    rows: &[(u32, &[(Addr, u64, u64)], &[(usize, usize)])],
+) -> Result<(), Fail> {
+    for &(maxretry, failures, places) in rows {
+        let (_windows, filled) = fed(alloc, 600, maxretry.max(1), failures)?;
         assert!(rt; filled.as_slice() == places, "{filled:?}");
     }
     Ok(())
+}
+
+const FILLS: [(u32, &[(Addr, u64, u64)], &[(usize, usize)]); 6] = [
+    (
+        3,
+        &[(FIRST, 100, 100), (FIRST, 300, 300), (FIRST, 699, 699)],
+        &[(2, 3)],
+    ),
+    (
+        3,
+        &[(FIRST, 100, 100), (FIRST, 300, 300), (FIRST, 700, 700)],
+        &[],
+    ),
+    (
+        3,
+        &[
+            (FIRST, 100, 100),
+            (SECOND, 200, 200),
+            (THIRD, 250, 250),
+            (FIRST, 300, 300),
+            (SECOND, 400, 400),
+            (THIRD, 410, 410),
+            (SECOND, 500, 500),
+        ],
+        &[(6, 3)],
+    ),
+    (
+        3,
+        &[
+            (FIRST, 100, 100),
+            (FIRST, 300, 300),
+            (FIRST, 699, 699),
+            (FIRST, 700, 700),
+            (FIRST, 701, 701),
+            (FIRST, 702, 702),
+        ],
+        &[(2, 3), (5, 3)],
+    ),
+    (
+        2,
+        &[(FIRST, 100, 100), (FIRST, 750, 750), (FIRST, 700, 760)],
+        &[(2, 2)],
+    ),
+    (1, &[(THIRD, 5, 5), (THIRD, 5, 5)], &[(0, 1), (1, 1)]),
+];
+
+#[test]
+fn addresses_fill_each_for_itself(rt: HostRuntime) -> Result<(), Fail> {
+    are_filled(&rt, rt.alloc(), &FILLS)
 }
 
 /// How many failures are kept in all: at the first moment all of them are recent.
@@ -118,15 +129,22 @@ fn count_kept(windows: &Windows) -> Result<usize, NoMemory> {
     Ok(windows.failures(0)?.len())
 }
 
+const OLD: [(Addr, u64, u64); 4] = [
+    (FIRST, 100, 100),
+    (SECOND, 100, 100),
+    (THIRD, 200, 200),
+    (SECOND, 2000, 2000),
+];
+
+/// Windows of ten minutes that no failure here fills.
+fn open_after(alloc: Global, rows: &[(Addr, u64, u64)]) -> Result<Windows, NoMemory> {
+    let (windows, _filled) = fed(alloc, 600, 9, rows)?;
+    Ok(windows)
+}
+
 #[test]
 fn old_addresses_are_not_kept(rt: HostRuntime) -> Result<(), Fail> {
-    let rows = [
-        (FIRST, 100, 100),
-        (SECOND, 100, 100),
-        (THIRD, 200, 200),
-        (SECOND, 2000, 2000),
-    ];
-    let (mut windows, _filled) = fed(rt.alloc(), 600, 9, &rows)?;
+    let mut windows = open_after(rt.alloc(), &OLD)?;
     assert_eq!(rt; count_kept(&windows)?, 1);
     windows.forget(FIRST);
     assert_eq!(rt; count_kept(&windows)?, 1);
@@ -137,19 +155,30 @@ fn old_addresses_are_not_kept(rt: HostRuntime) -> Result<(), Fail> {
     Ok(())
 }
 
-#[test]
-fn a_burst_is_forgotten_in_parts(rt: HostRuntime) -> Result<(), Fail> {
-    let mut rows = Vec::new(rt.alloc());
+/// 2000 addresses fail at once, and one of another family long after.
+fn after_a_burst(alloc: Global) -> Result<Windows, NoMemory> {
+    let mut rows = Vec::new(alloc);
     for number in 0..2000 {
         rows.push((Addr::V4(number), 100, 100))?;
     }
     rows.push((THIRD, 1300, 1300))?;
-    let (mut windows, _filled) = fed(rt.alloc(), 600, 9, rows.as_slice())?;
+    open_after(alloc, rows.as_slice())
+}
+
+/// A sweep forgets a hundred of so many failures.
+fn sweep_hundred(rt: &impl Abort, windows: &mut Windows, kept: usize) -> Result<(), Fail> {
+    assert_eq!(rt; count_kept(windows)?, kept);
+    assert_eq!(rt; windows.sweep(1300, 100), 100);
+    Ok(())
+}
+
+#[test]
+fn a_burst_is_forgotten_in_parts(rt: HostRuntime) -> Result<(), Fail> {
+    let mut windows = after_a_burst(rt.alloc())?;
     let before = windows.failures(1300)?;
     assert_eq!(rt; windows.sweep(1299, 100), 0);
     for round in 0..20 {
-        assert_eq!(rt; count_kept(&windows)?, 2001 - 100 * round);
-        assert_eq!(rt; windows.sweep(1300, 100), 100);
+        sweep_hundred(&rt, &mut windows, 2001 - 100 * round)?;
     }
     assert_eq!(rt; windows.sweep(1300, 100), 0);
     assert_eq!(rt; count_kept(&windows)?, 1);
@@ -195,34 +224,48 @@ fn kept_of_three(alloc: Global, maxretry: u32, moment: u64) -> Result<Text, NoMe
     Ok(lines)
 }
 
-#[test]
-fn what_fills_no_address_is_taken_up(rt: HostRuntime) -> Result<(), Fail> {
-    let rows = [
-        (3, 1000, "abcdefg"),
-        (2, 1000, "de"),
-        (2, 899, "d"),
-        (2, 1300, "bcde"),
-        (2, 1700, "ceg"),
-        (1, 1000, ""),
-    ];
-    for (maxretry, moment, expected) in rows {
-        let lines = kept_of_three(rt.alloc(), maxretry, moment)?;
+/// Rows of how many failures fill an address, at least one, the moment, and the lines of those that are kept.
+fn are_kept(rt: &impl Abort, alloc: Global, rows: &[(u32, u64, &str)]) -> Result<(), Fail> {
+    for &(maxretry, moment, expected) in rows {
+        let lines = kept_of_three(alloc, maxretry.max(1), moment)?;
         assert_eq!(rt; lines.as_str(), expected, "{maxretry} at {moment}");
     }
     Ok(())
 }
 
+const KEPT: [(u32, u64, &str); 6] = [
+    (3, 1000, "abcdefg"),
+    (2, 1000, "de"),
+    (2, 899, "d"),
+    (2, 1300, "bcde"),
+    (2, 1700, "ceg"),
+    (1, 1000, ""),
+];
+
 #[test]
-fn addresses_that_failed_lately_count_once(rt: HostRuntime) -> Result<(), Fail> {
-    let rows = [
-        (FIRST, 100, 100),
-        (SECOND, 300, 300),
-        (FIRST, 400, 400),
-        (THIRD, 400, 400),
-    ];
-    let (windows, _filled) = fed(rt.alloc(), 600, 9, &rows)?;
-    for (now, count) in [(400, 3), (899, 3), (900, 2), (999, 2), (1000, 0)] {
+fn what_fills_no_address_is_taken_up(rt: HostRuntime) -> Result<(), Fail> {
+    are_kept(&rt, rt.alloc(), &KEPT)
+}
+
+/// Rows of a moment and how many addresses failed lately at it.
+fn have_failed_lately(rt: &impl Abort, windows: &Windows, rows: &[(u64, u64)]) {
+    for &(now, count) in rows {
         assert_eq!(rt; windows.failed_lately(now), count, "at {now}");
     }
+}
+
+const LATE: [(Addr, u64, u64); 4] = [
+    (FIRST, 100, 100),
+    (SECOND, 300, 300),
+    (FIRST, 400, 400),
+    (THIRD, 400, 400),
+];
+
+const FAILED_LATELY: [(u64, u64); 5] = [(400, 3), (899, 3), (900, 2), (999, 2), (1000, 0)];
+
+#[test]
+fn addresses_that_failed_lately_count_once(rt: HostRuntime) -> Result<(), Fail> {
+    let windows = open_after(rt.alloc(), &LATE)?;
+    have_failed_lately(&rt, &windows, &FAILED_LATELY);
     Ok(())
 }

@@ -1,5 +1,5 @@
 -- Jobs that are voided, lanes whose check failed, and what is told of tries and checks.
-use Rattle.std.proofs.Common.{ℕ, ◌≡◌, true, false, Some, List, [], ◌∷◌, ◌++◌, refl, sym, ap, ◌∙◌}
+use Rattle.std.proofs.Common.{ℕ, ◌≡◌, Bool, true, false, Option, Some, None, List, [], ◌∷◌, ◌++◌, refl, sym, ap, ◌∙◌, append-nil}
 use Rattle.std.specs.Prelude.{if◌then◌else◌}
 use Rattle.f2b_base.specs.declared.job.Job.{Job}
 use Rattle.f2b_base.specs.declared.job.LaneId.{LaneId}
@@ -7,7 +7,7 @@ use Rattle.f2b_base.specs.declared.job.Outcome.{Outcome}
 use Rattle.f2b_base.specs.declared.job.Settled.{Settled}
 use Rattle.f2b_model.specs.declared.lane_happening.LaneHappening.{LaneHappening}
 use Rattle.f2b_model.specs.Checks.{is_closing, lane_of, checked_lane, void_ids, voided_at}
-use Rattle.f2b_model.specs.Jobs.{AllIdsBelow, is_head_id, job_by_id, settle_in, settled_as}
+use Rattle.f2b_model.specs.Jobs.{AllIdsBelow, is_head_id, is_success, job_by_id, settle_in, settled_as}
 use Rattle.f2b_model.specs.Lanes.{Lanes, books_now, void_all, restarted, lane_failed}
 use Rattle.f2b_model.specs.LanesTold.{told_settled, told_try, told_try_of}
 use Rattle.f2b_model.specs.Orders.{Held}
@@ -62,3 +62,17 @@ told_first at job outcome jobs first settled old new head found is one =
     ∙ ap (λ s. old ++ told_settled outcome first s) is
     ∙ ap (λ o. old ++ told_try_of at outcome o) (sym found)
     ∙ ap (λ b. old ++ (if b then told_try_of at outcome (job_by_id job jobs) else [])) (sym head)
+
+-- nothing is told of a try that succeeded
+told_success : (at : ℕ) (outcome : Outcome) (o : Option Job) → is_success outcome ≡ true → told_try_of at outcome o ≡ []
+told_success at outcome None is = refl
+told_success at outcome (Some job) is = rw is refl
+
+told_where : (b : Bool) (told : List LaneHappening) → told ≡ [] → (if b then told else []) ≡ []
+told_where true told none = none
+told_where false told none = refl
+
+pub told_done : (at job : ℕ) (outcome : Outcome) (jobs : List Job) (old : List LaneHappening) → is_success outcome ≡ true → old ≡ old ++ told_try at job outcome jobs
+told_done at job outcome jobs old is =
+    sym (append-nil old)
+    ∙ ap (λ told. old ++ told) (sym (told_where (is_head_id job jobs) (told_try_of at outcome (job_by_id job jobs)) (told_success at outcome (job_by_id job jobs) is)))

@@ -17,7 +17,7 @@ use crate::texts::check_text;
 use crate::up::{
     has_others, is_up_by_name, lacks_some, lane_of, missing, others, take_out, with_check,
 };
-use action_queue::Lanes;
+use action_queue::{Lanes, is_success};
 use f2b_base::{Defs, Job, LaneId, NoMemory, Outcome, Plain, Seq, Text, UpLane};
 use f2b_model::{Happening, JailBans, LaneHappening};
 use std::alloc::Global;
@@ -127,6 +127,10 @@ impl LaneBook {
         ensures told { OnOk result (told.new ≡ told.old ++ lanes_told books_now at (Ended job outcome) self.old) }
     {
         if !self.book.is_head(job) {
+            return Ok(());
+        }
+        if is_success(outcome) {
+            self.book.settle(job, outcome, at);
             return Ok(());
         }
         match self.book.find(job) {

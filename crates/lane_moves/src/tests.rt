@@ -85,44 +85,50 @@ fn defs_of(alloc: Global, families: &[Family], word: &str) -> Result<Defs, NoMem
     Ok(Defs { purge: 0, jails })
 }
 
-/// The active bans of a jail: one.
-pub(crate) fn held_of(alloc: Global, jail: &str, ban: Ban) -> Result<JailBans, NoMemory> {
-    let mut bans = Seq::new(alloc);
-    bans.push(ban)?;
-    Ok(JailBans {
-        jail: Text::from_str(alloc, jail)?,
-        bans,
-    })
+/// The bans that are active, jail by jail.
+fn held_of(alloc: Global, held: &[(&str, &[Ban])]) -> Result<Seq<JailBans>, NoMemory> {
+    let mut jails = Seq::new(alloc);
+    for (jail, bans) in held {
+        jails.push(JailBans {
+            jail: Text::from_str(alloc, jail)?,
+            bans: Seq::from(bans.to_vec(alloc)?),
+        })?;
+    }
+    Ok(jails)
 }
 
-fn begins(alloc: Global, jail: &str, ban: Ban) -> Result<Happening, NoMemory> {
-    begins_with(alloc, jail, ban, "")
+/// A ban that begins in a jail, with the lines that led to it, or that ends.
+pub(crate) enum Telling {
+    Begins(&'static str, Ban, &'static str),
+    Ends(&'static str, Ban),
 }
 
-/// A ban that begins, with the lines that led to it.
-pub(crate) fn begins_with(
-    alloc: Global,
-    jail: &str,
-    ban: Ban,
-    lines: &str,
-) -> Result<Happening, NoMemory> {
-    Ok(Happening::Begins {
-        jail: Text::from_str(alloc, jail)?,
-        ban,
-        matches: Text::from_str(alloc, lines)?,
-    })
+fn happening(alloc: Global, telling: &Telling) -> Result<Happening, NoMemory> {
+    match telling {
+        Telling::Begins(jail, ban, lines) => Ok(Happening::Begins {
+            jail: Text::from_str(alloc, jail)?,
+            ban: *ban,
+            matches: Text::from_str(alloc, lines)?,
+        }),
+        Telling::Ends(jail, ban) => Ok(Happening::Ends {
+            jail: Text::from_str(alloc, jail)?,
+            ban: *ban,
+        }),
+    }
 }
 
-fn ends(alloc: Global, jail: &str, ban: Ban) -> Result<Happening, NoMemory> {
-    Ok(Happening::Ends {
-        jail: Text::from_str(alloc, jail)?,
-        ban,
-    })
+/// Bans that begin and end, in their order.
+fn happenings(alloc: Global, tellings: &[Telling]) -> Result<Seq<Happening>, NoMemory> {
+    let mut told = Seq::new(alloc);
+    for telling in tellings {
+        told.push(happening(alloc, telling)?)?;
+    }
+    Ok(told)
 }
 
 /// The jobs, one a line: id, kind, failed tries, command.
-fn shown(alloc: Global, actions: &LaneBook) -> Result<String, NoMemory> {
-    let jobs = actions.jobs().jobs(alloc)?;
+fn shown(alloc: Global, book: &LaneBook) -> Result<String, NoMemory> {
+    let jobs = book.jobs().jobs(alloc)?;
     let mut out = String::new(alloc);
     for job in jobs.as_slice() {
         let id = job.id;
@@ -136,13 +142,8 @@ fn shown(alloc: Global, actions: &LaneBook) -> Result<String, NoMemory> {
 }
 
 /// The jobs are these, one a line.
-pub(crate) fn expect_jobs(
-    rt: &impl Abort,
-    alloc: Global,
-    actions: &LaneBook,
-    want: &str,
-) -> Result<(), Fail> {
-    let jobs = shown(alloc, actions)?;
+fn expect_jobs(rt: &impl Abort, alloc: Global, book: &LaneBook, want: &str) -> Result<(), Fail> {
+    let jobs = shown(alloc, book)?;
     assert_eq!(rt; jobs.as_str(), want);
     Ok(())
 }
@@ -168,7 +169,7 @@ fn lines_of(alloc: Global, told: &Seq<LaneHappening>) -> Result<String, NoMemory
 }
 
 /// That is what was told, one thing a line.
-pub(crate) fn expect_said(
+fn expect_said(
     rt: &impl Abort,
     alloc: Global,
     told: &Seq<LaneHappening>,
@@ -179,120 +180,250 @@ pub(crate) fn expect_said(
     Ok(())
 }
 
-/// The lanes of the jail, which come up with these bans.
-pub(crate) fn lanes_up(
+/// The jail's lanes: the families of its actions, and the word that their commands begin with.
+pub(crate) type Lanes = (&'static [Family], &'static str);
+
+/// The bans that are active, jail by jail.
+pub(crate) type Held = &'static [(&'static str, &'static [Ban])];
+
+/// One thing that is done to a book of lanes at a moment, or that is expected of it.
+pub(crate) enum Step {
+    /// Bans begin and end.
+    Tell(&'static [Telling], u64),
+    /// The lanes that are no more asked for go down, and those that are missing come up.
+    Configure(Lanes, Held, u64),
+    /// A try of a job ends.
+    Ended(u64, Outcome, u32),
+    /// The check of a job fails.
+    CheckFailed(Held, u64, Outcome, u64),
+    /// All lanes go down.
+    Stop(Held, u64),
+    /// Whether these lanes and no others are up.
+    AreJust(Lanes, bool),
+    /// The id of the job to come.
+    NextJob(u64),
+    /// A stop was asked for, and no lane is up.
+    Stopped,
+    /// The check that is run before a try of a job.
+    CheckOf(u64, Option<&'static str>),
+    /// Its command.
+    CheckText(u64, Option<&'static str>),
+    /// The jobs, one a line.
+    Jobs(&'static str),
+    /// What was told so far, one thing a line.
+    Said(&'static str),
+}
+
+/// A book of lanes, and what was told of it so far.
+#[derive(Drop)]
+struct Scene {
+    alloc: Global,
+    book: LaneBook,
+    said: Seq<LaneHappening>,
+}
+
+impl Scene {
+    fn configure(&mut self, lanes: Lanes, held: Held, at: u64) -> Result<(), NoMemory> {
+        let defs = defs_of(self.alloc, lanes.0, lanes.1)?;
+        let held = held_of(self.alloc, held)?;
+        self.book.others_down(held.as_slice(), &defs, at)?;
+        self.book.missing_up(held.as_slice(), &defs, at)
+    }
+
+    /// Takes what is no expectation.
+    fn take(&mut self, step: &Step) -> Result<(), NoMemory> {
+        match *step {
+            Step::Tell(tellings, at) => {
+                let told = happenings(self.alloc, tellings)?;
+                self.book.issue(told.as_slice(), at)
+            }
+            Step::Configure(lanes, held, at) => self.configure(lanes, held, at),
+            Step::Ended(job, outcome, at) => {
+                self.book.ended(&mut self.said, job, outcome, u64::from(at))
+            }
+            Step::CheckFailed(held, job, outcome, at) => {
+                let held = held_of(self.alloc, held)?;
+                self.book
+                    .check_failed(&mut self.said, held.as_slice(), job, outcome, at)
+            }
+            Step::Stop(held, at) => {
+                let held = held_of(self.alloc, held)?;
+                self.book.stop(held.as_slice(), at)
+            }
+            _ => Ok(()),
+        }
+    }
+
+    fn expect_check_text(&self, rt: &impl Abort, job: u64, want: Option<&str>) -> Result<(), Fail> {
+        let text = self.book.check_text(job)?;
+        assert_eq!(rt;
+            text.as_ref().map(|text| text.as_str()),
+            want,
+            "of job {job}"
+        );
+        Ok(())
+    }
+
+    /// Asserts what is expected.
+    fn expect(&self, rt: &impl Abort, step: &Step) -> Result<(), Fail> {
+        match *step {
+            Step::AreJust((families, word), want) => {
+                let defs = defs_of(self.alloc, families, word)?;
+                assert_eq!(rt; self.book.are_just(&defs), want);
+            }
+            Step::NextJob(want) => assert_eq!(rt; self.book.next_job(), want),
+            Step::Stopped => assert!(rt; self.book.is_stopping() && self.book.up().is_empty()),
+            Step::CheckOf(job, want) => {
+                let check = self.book.check_of(job);
+                assert_eq!(rt; check.map(|lane| lane.action.check.as_str()), want);
+            }
+            Step::CheckText(job, want) => self.expect_check_text(rt, job, want)?,
+            Step::Jobs(want) => expect_jobs(rt, self.alloc, &self.book, want)?,
+            Step::Said(want) => expect_said(rt, self.alloc, &self.said, want)?,
+            _ => (),
+        }
+        Ok(())
+    }
+}
+
+/// Takes these steps, one after the other.
+fn play(rt: &impl Abort, alloc: Global, book: LaneBook, steps: &[Step]) -> Result<(), Fail> {
+    let said = Seq::new(alloc);
+    let mut scene = Scene { alloc, book, said };
+    for step in steps {
+        scene.take(step)?;
+        scene.expect(rt, step)?;
+    }
+    Ok(())
+}
+
+/// The lanes of the jail, which come up with these bans at 900.
+fn lanes_up(
     alloc: Global,
     families: &[Family],
-    held: &[JailBans],
+    held: &[(&str, &[Ban])],
 ) -> Result<LaneBook, NoMemory> {
     let defs = defs_of(alloc, families, "old")?;
-    let mut actions = LaneBook::new(alloc);
-    actions.missing_up(held, &defs, 900)?;
-    Ok(actions)
+    let held = held_of(alloc, held)?;
+    let mut book = LaneBook::new(alloc);
+    book.missing_up(held.as_slice(), &defs, 900)?;
+    Ok(book)
+}
+
+/// The lanes of the jail come up with these bans, and then these steps are taken.
+pub(crate) fn play_up(
+    rt: &impl Abort,
+    alloc: Global,
+    families: &[Family],
+    held: &[(&str, &[Ban])],
+    steps: &[Step],
+) -> Result<(), Fail> {
+    play(rt, alloc, lanes_up(alloc, families, held)?, steps)
 }
 
 /// Two bans begin in the jail and one in another, and one of the jail's ends.
-fn tell(alloc: Global, actions: &mut LaneBook) -> Result<(), NoMemory> {
-    let told = [
-        begins(alloc, "sshd", SHORT)?,
-        begins(alloc, "nginx", SHORT)?,
-        begins(alloc, "sshd", ENDLESS)?,
-        ends(alloc, "sshd", SHORT)?,
-    ];
-    actions.issue(&told, 1000)
-}
+const BANS: [Telling; 4] = [
+    Telling::Begins("sshd", SHORT, ""),
+    Telling::Begins("nginx", SHORT, ""),
+    Telling::Begins("sshd", ENDLESS, ""),
+    Telling::Ends("sshd", SHORT),
+];
 
-#[test]
-fn a_ban_goes_to_the_lanes_that_take_it(rt: HostRuntime) -> Result<(), Fail> {
-    let alloc = rt.alloc();
-    let mut one = lanes_up(alloc, &[Family::Both], &[])?;
-    tell(alloc, &mut one)?;
-    expect_jobs(
-        &rt,
-        alloc,
-        &one,
+const TO_ONE_LANE: [Step; 2] = [
+    Step::Tell(&BANS, 1000),
+    Step::Jobs(
         "0 Start 0 old start inet4\n\
          1 Ban 0 old ban 192.0.2.1 inet4 5 1000 600 2:\n\
          2 Ban 0 old ban 2001:db8::1 inet6 3 1200 -1 0:\n\
          3 Unban 0 old unban 192.0.2.1\n",
-    )?;
+    ),
+];
 
-    let mut two = lanes_up(alloc, &[Family::Inet4, Family::Inet6], &[])?;
-    tell(alloc, &mut two)?;
-    expect_jobs(
-        &rt,
-        alloc,
-        &two,
+const TO_TWO_LANES: [Step; 2] = [
+    Step::Tell(&BANS, 1000),
+    Step::Jobs(
         "0 Start 0 old start inet4\n\
          1 Start 0 old start inet6\n\
          2 Ban 0 old ban 192.0.2.1 inet4 5 1000 600 2:\n\
          3 Ban 0 old ban 2001:db8::1 inet6 3 1200 -1 0:\n\
          4 Unban 0 old unban 192.0.2.1\n",
+    ),
+];
+
+#[test]
+fn a_ban_goes_to_the_lanes_that_take_it(rt: HostRuntime) -> Result<(), Fail> {
+    play_up(&rt, rt.alloc(), &[Family::Both], &[], &TO_ONE_LANE)?;
+    play_up(
+        &rt,
+        rt.alloc(),
+        &[Family::Inet4, Family::Inet6],
+        &[],
+        &TO_TWO_LANES,
     )
 }
 
-#[test]
-fn a_changed_action_goes_down_and_comes_up(rt: HostRuntime) -> Result<(), Fail> {
-    let alloc = rt.alloc();
-    let held = [
-        held_of(alloc, "sshd", SHORT)?,
-        held_of(alloc, "nginx", SHORT)?,
-    ];
-    let mut actions = lanes_up(alloc, &[Family::Both], &held)?;
+const IN_TWO_JAILS: Held = &[("sshd", &[SHORT]), ("nginx", &[SHORT])];
 
-    let same = defs_of(alloc, &[Family::Both], "old")?;
-    assert!(rt; actions.are_just(&same));
-    actions.others_down(&held, &same, 1000)?;
-    actions.missing_up(&held, &same, 1000)?;
-    assert_eq!(rt; actions.next_job(), 2);
+const BOTH_OLD: Lanes = (&[Family::Both], "old");
 
-    let other = defs_of(alloc, &[Family::Both], "new")?;
-    assert!(rt; !actions.are_just(&other));
-    actions.others_down(&held, &other, 1000)?;
-    actions.missing_up(&held, &other, 1000)?;
-    expect_jobs(
-        &rt,
-        alloc,
-        &actions,
+const BOTH_NEW: Lanes = (&[Family::Both], "new");
+
+const CHANGED_ACTION: [Step; 6] = [
+    Step::AreJust(BOTH_OLD, true),
+    Step::Configure(BOTH_OLD, IN_TWO_JAILS, 1000),
+    Step::NextJob(2),
+    Step::AreJust(BOTH_NEW, false),
+    Step::Configure(BOTH_NEW, IN_TWO_JAILS, 1000),
+    Step::Jobs(
         "0 Start 0 old start inet4\n\
          1 Ban 0 old ban 192.0.2.1 inet4 5 1000 600 2:\n\
          2 Unban 0 old unban 192.0.2.1\n\
          3 Stop 0 old stop inet4\n\
          4 Start 0 new start inet4\n\
          5 Ban 0 new ban 192.0.2.1 inet4 5 1000 600 2:\n",
+    ),
+];
+
+#[test]
+fn a_changed_action_goes_down_and_comes_up(rt: HostRuntime) -> Result<(), Fail> {
+    play_up(
+        &rt,
+        rt.alloc(),
+        &[Family::Both],
+        IN_TWO_JAILS,
+        &CHANGED_ACTION,
     )
 }
 
-#[test]
-fn a_stop_and_failed_tries(rt: HostRuntime) -> Result<(), Fail> {
-    let alloc = rt.alloc();
-    let held = [held_of(alloc, "sshd", ENDLESS)?];
+/// The lane of IPv6 is up, it has no job, and the next job is 70.
+fn going_on(alloc: Global) -> Result<LaneBook, NoMemory> {
     let before = lanes_up(alloc, &[Family::Inet6], &[])?;
     let up = Seq::from(before.up().to_vec(alloc)?);
-    let mut actions = LaneBook::of(alloc, &up, false, &Seq::new(alloc), 70)?;
-    actions.stop(&held, 1000)?;
-    assert!(rt; actions.is_stopping() && actions.up().is_empty());
+    LaneBook::of(alloc, &up, false, &Seq::new(alloc), 70)
+}
 
-    let mut said = Seq::new(alloc);
-    actions.ended(&mut said, 70, Outcome::Status(1), 1000)?;
-    actions.ended(&mut said, 71, Outcome::Status(0), 1000)?;
-    expect_jobs(
-        &rt,
-        alloc,
-        &actions,
+const STOP_AND_FAILED_TRIES: [Step; 10] = [
+    Step::Stop(&[("sshd", &[ENDLESS])], 1000),
+    Step::Stopped,
+    Step::Ended(70, Outcome::Status(1), 1000),
+    Step::Ended(71, Outcome::Status(0), 1000),
+    Step::Jobs(
         "70 Unban 1 old unban 2001:db8::1\n\
          71 Stop 0 old stop inet6\n",
-    )?;
-    actions.ended(&mut said, 70, Outcome::NotStarted, 1002)?;
-    actions.ended(&mut said, 70, Outcome::TimedOut, 1006)?;
-    expect_jobs(&rt, alloc, &actions, "71 Stop 0 old stop inet6\n")?;
-    actions.ended(&mut said, 71, Outcome::Status(0), 1006)?;
-    expect_said(
-        &rt,
-        alloc,
-        &said,
+    ),
+    Step::Ended(70, Outcome::NotStarted, 1002),
+    Step::Ended(70, Outcome::TimedOut, 1006),
+    Step::Jobs("71 Stop 0 old stop inet6\n"),
+    Step::Ended(71, Outcome::Status(0), 1006),
+    Step::Said(
         "Unban Status(1) false\n\
          Unban NotStarted false\n\
          Unban TimedOut true\n",
-    )
+    ),
+];
+
+#[test]
+fn a_stop_and_failed_tries(rt: HostRuntime) -> Result<(), Fail> {
+    let book = going_on(rt.alloc())?;
+    play(&rt, rt.alloc(), book, &STOP_AND_FAILED_TRIES)
 }

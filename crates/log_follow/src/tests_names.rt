@@ -3,36 +3,42 @@
 use crate::{expand_path, glob_match};
 use f2b_base::{Seq, Text, WatchDef};
 use std::alloc::Global;
+use std::process::Abort;
 use std::test::Fail;
 
-#[test]
-fn patterns_stand_for_names(rt: HostRuntime) -> Result<(), Fail> {
-    let rows: [(&str, &str, bool); 20] = [
-        ("", "", true),
-        ("", "a", false),
-        ("a", "", false),
-        ("*", "", true),
-        ("**", "abc", true),
-        ("?", "", false),
-        ("?", "\u{20ac}", true),
-        ("??", "\u{20ac}", false),
-        ("a*.log", "a.log", true),
-        ("a*.log", "a1.log", true),
-        ("a*.log", "ba1.log", false),
-        ("a*.log", "a1.log.1", false),
-        ("*.log", ".log.log", true),
-        ("a*b*c", "abcbc", true),
-        ("a*b*c", "abcb", false),
-        ("*ab", "aab", true),
-        ("*a?c", "aabc", true),
-        ("[ab]", "a", false),
-        ("A", "a", false),
-        ("\u{e9}*", "\u{e9}t\u{e9}", true),
-    ];
-    for (pattern, name, wanted) in rows {
+// Rows of a pattern, a name, and whether it stands for it.
+fn are_matched(rt: &impl Abort, rows: &[(&str, &str, bool)]) {
+    for &(pattern, name, wanted) in rows {
         assert_eq!(rt; glob_match(pattern, name), wanted, "{pattern} and {name}");
     }
-    Ok(())
+}
+
+const NAMES: [(&str, &str, bool); 20] = [
+    ("", "", true),
+    ("", "a", false),
+    ("a", "", false),
+    ("*", "", true),
+    ("**", "abc", true),
+    ("?", "", false),
+    ("?", "\u{20ac}", true),
+    ("??", "\u{20ac}", false),
+    ("a*.log", "a.log", true),
+    ("a*.log", "a1.log", true),
+    ("a*.log", "ba1.log", false),
+    ("a*.log", "a1.log.1", false),
+    ("*.log", ".log.log", true),
+    ("a*b*c", "abcbc", true),
+    ("a*b*c", "abcb", false),
+    ("*ab", "aab", true),
+    ("*a?c", "aabc", true),
+    ("[ab]", "a", false),
+    ("A", "a", false),
+    ("\u{e9}*", "\u{e9}t\u{e9}", true),
+];
+
+#[test]
+fn patterns_stand_for_names(rt: HostRuntime) {
+    are_matched(&rt, &NAMES);
 }
 
 #[test]
@@ -67,26 +73,36 @@ fn expanded(alloc: Global, path: &str, names: &[&str]) -> Result<String, Fail> {
     Ok(text)
 }
 
-#[test]
-fn a_path_stands_for_logs(rt: HostRuntime) -> Result<(), Fail> {
-    let alloc = rt.alloc();
-    let rows: [(&str, &[&str], &str); 6] = [
-        (
-            "/var/log/a*.log",
-            &["a2.log", "b.log", "a1.log"],
-            "/var/log/a1.log|/var/log/a2.log|",
-        ),
-        ("/var/log/a.log", &["a1.log"], "/var/log/a.log|"),
-        ("/a?", &["ab", "a", "aa", "aB"], "/aB|/aa|/ab|"),
-        ("/var/log/*", &[], ""),
-        ("a*", &["b", "ab"], "ab|"),
-        ("/v/*", &["10", "9", "1"], "/v/1|/v/10|/v/9|"),
-    ];
-    for (path, names, wanted) in rows {
+// Rows of a path, the names that are listed, and what it stands for.
+fn are_expanded(
+    rt: &impl Abort,
+    alloc: Global,
+    rows: &[(&str, &[&str], &str)],
+) -> Result<(), Fail> {
+    for &(path, names, wanted) in rows {
         assert_eq!(rt; expanded(alloc, path, names)?.as_str(), wanted);
     }
+    Ok(())
+}
 
-    let many = ["x"; 70];
-    assert_eq!(rt; expanded(alloc, "/*", &many)?.as_str().len(), 64 * 3);
+const PATHS: [(&str, &[&str], &str); 6] = [
+    (
+        "/var/log/a*.log",
+        &["a2.log", "b.log", "a1.log"],
+        "/var/log/a1.log|/var/log/a2.log|",
+    ),
+    ("/var/log/a.log", &["a1.log"], "/var/log/a.log|"),
+    ("/a?", &["ab", "a", "aa", "aB"], "/aB|/aa|/ab|"),
+    ("/var/log/*", &[], ""),
+    ("a*", &["b", "ab"], "ab|"),
+    ("/v/*", &["10", "9", "1"], "/v/1|/v/10|/v/9|"),
+];
+
+const MANY: [&str; 70] = ["x"; 70];
+
+#[test]
+fn a_path_stands_for_logs(rt: HostRuntime) -> Result<(), Fail> {
+    are_expanded(&rt, rt.alloc(), &PATHS)?;
+    assert_eq!(rt; expanded(rt.alloc(), "/*", &MANY)?.as_str().len(), 64 * 3);
     Ok(())
 }

@@ -16,6 +16,7 @@ use f2b_world::{Made, Outside, Patterns, build_pattern};
 use filter_regex::Filter;
 use log_follow::Ask;
 use std::alloc::Global;
+use std::process::Abort;
 use std::test::*;
 
 /// An outside that builds patterns, tells nothing, and has counted as many faults as it can.
@@ -213,6 +214,14 @@ fn write_what(alloc: Global, text: &mut String, what: &What) -> Result<(), Fail>
     Ok(())
 }
 
+/// Follows logs from their start, each given by its jail and its path.
+fn add_each(alloc: Global, set: &mut LogSet<'_>, logs: &[(&str, &str)]) -> Result<(), Fail> {
+    for (jail, path) in logs {
+        add(alloc, set, jail, path, &from_start(alloc))?;
+    }
+    Ok(())
+}
+
 /// Looks at the log at a place in which this stands, and writes what is taken.
 fn told(alloc: Global, set: &mut LogSet<'_>, place: usize, file: &str) -> Result<String, Fail> {
     if place >= set.len() {
@@ -228,4 +237,21 @@ fn told(alloc: Global, set: &mut LogSet<'_>, place: usize, file: &str) -> Result
         write_what(alloc, &mut text, what)?;
     }
     Ok(text)
+}
+
+/// Rows of a log's place, what stands in the log, and what a look at it brings.
+fn are_told(
+    rt: &impl Abort,
+    alloc: Global,
+    set: &mut LogSet<'_>,
+    rows: &[(usize, &str, &str)],
+) -> Result<(), Fail> {
+    for &(place, file, want) in rows {
+        assert_eq!(rt;
+            told(alloc, set, place, file)?.as_str(),
+            want,
+            "{file} at {place}"
+        );
+    }
+    Ok(())
 }

@@ -43,19 +43,28 @@ fn input_of(alloc: Global, what: &[u8]) -> Result<Bytes, Fail> {
     Ok(out)
 }
 
-#[test]
-fn each_kind_of_input_is_read_and_written_again(rt: HostRuntime) -> Result<(), Fail> {
-    let alloc = rt.alloc();
-    for what in KINDS {
-        let mut bytes = input_of(alloc, what)?;
-        let len = bytes.len();
-        bytes.push(0xff)?;
-        let (input, read) = read_input(alloc, bytes.as_slice()).or(Err("not read"))?;
-        assert_eq!(rt; read, len as u64);
-        bytes.truncate(len);
-        assert!(rt; is_spelt_as(alloc, &input, bytes.as_slice())?, "{what:?}");
+// An input is read, with another byte behind it, and written again.
+fn is_read(rt: &impl Abort, alloc: Global, what: &[u8]) -> Result<(), Fail> {
+    let mut bytes = input_of(alloc, what)?;
+    let len = bytes.len();
+    bytes.push(0xff)?;
+    let (input, read) = read_input(alloc, bytes.as_slice()).or(Err("not read"))?;
+    assert_eq!(rt; read, len as u64);
+    bytes.truncate(len);
+    assert!(rt; is_spelt_as(alloc, &input, bytes.as_slice())?, "{what:?}");
+    Ok(())
+}
+
+fn are_read(rt: &impl Abort, alloc: Global, kinds: &[&[u8]]) -> Result<(), Fail> {
+    for what in kinds {
+        is_read(rt, alloc, what)?;
     }
     Ok(())
+}
+
+#[test]
+fn each_kind_of_input_is_read_and_written_again(rt: HostRuntime) -> Result<(), Fail> {
+    are_read(&rt, rt.alloc(), &KINDS)
 }
 
 // The place at which an input is bad.
@@ -70,17 +79,62 @@ fn input_fault(rt: &impl Abort, alloc: Global, bytes: &[u8]) -> Option<u64> {
     }
 }
 
+// An input that is cut anywhere is bad where the field begins that is cut.
+fn are_cut(rt: &impl Abort, alloc: Global, bytes: &[u8], starts: &[u64]) {
+    for len in 0..bytes.len() {
+        let place = input_fault(rt, alloc, &bytes[..len]);
+        assert_eq!(rt; place, Some(cut_place(starts, len as u64)), "cut at {len}");
+    }
+}
+
 #[test]
 fn an_input_that_is_cut_is_bad_at_the_field_that_is_cut(rt: HostRuntime) {
-    let alloc = rt.alloc();
-    for len in 0..LOOK.len() {
-        let place = input_fault(&rt, alloc, &LOOK[..len]);
-        assert_eq!(rt;
-            place,
-            Some(cut_place(&LOOK_STARTS, len as u64)),
-            "cut at {len}"
-        );
+    are_cut(&rt, rt.alloc(), &LOOK, &LOOK_STARTS);
+}
+
+// An input with one byte turned is bad somewhere, or is another input, spelt just so.
+fn turned(rt: &impl Abort, alloc: Global, bytes: &[u8], at: usize, turn: u8) -> Result<(), Fail> {
+    let mut turned = Bytes::new(alloc);
+    let (front, rest) = bytes.split_at_checked(at).ok_or("past the end")?;
+    let (first, behind) = rest.split_first().ok_or("past the end")?;
+    turned.push_slice(front)?;
+    turned.push(*first ^ turn)?;
+    turned.push_slice(behind)?;
+    match read_input(alloc, turned.as_slice()) {
+        Ok((input, len)) => {
+            let spelling = turned.as_slice().get(..len as usize).ok_or("too long")?;
+            assert!(rt;
+                is_spelt_as(alloc, &input, spelling)?,
+                "byte {at} of {bytes:?}"
+            );
+        }
+        Err(error) => assert!(rt; error != ReadError::NoMemory),
     }
+    Ok(())
+}
+
+// The same for each of its bytes.
+fn each_byte_turned(rt: &impl Abort, alloc: Global, bytes: &[u8]) -> Result<(), Fail> {
+    for at in 0..bytes.len() {
+        turned(rt, alloc, bytes, at, 0x80)?;
+        turned(rt, alloc, bytes, at, 1)?;
+        turned(rt, alloc, bytes, at, 0xff)?;
+    }
+    Ok(())
+}
+
+fn are_turned(rt: &impl Abort, alloc: Global, kinds: &[&[u8]]) -> Result<(), Fail> {
+    for what in kinds {
+        let bytes = input_of(alloc, what)?;
+        each_byte_turned(rt, alloc, bytes.as_slice())?;
+    }
+    Ok(())
+}
+
+#[test]
+fn an_input_with_a_turned_byte_has_no_second_spelling(rt: HostRuntime) -> Result<(), Fail> {
+    each_byte_turned(&rt, rt.alloc(), &LOOK)?;
+    are_turned(&rt, rt.alloc(), &KINDS)
 }
 
 // What happened as it is broken, and the place that is bad then.
@@ -96,13 +150,11 @@ const BROKEN: [(&[u8], u64); 9] = [
     (&[13, 2, 3], 5),
 ];
 
-#[test]
-fn an_input_that_is_broken_is_bad_at_the_first_field_at_fault(rt: HostRuntime) -> Result<(), Fail> {
-    let alloc = rt.alloc();
-    for (what, place) in BROKEN {
+fn are_broken(rt: &impl Abort, alloc: Global, rows: &[(&[u8], u64)]) -> Result<(), Fail> {
+    for &(what, place) in rows {
         let bytes = input_of(alloc, what)?;
         assert_eq!(rt;
-            input_fault(&rt, alloc, bytes.as_slice()),
+            input_fault(rt, alloc, bytes.as_slice()),
             Some(place),
             "{what:?}"
         );
@@ -111,14 +163,28 @@ fn an_input_that_is_broken_is_bad_at_the_first_field_at_fault(rt: HostRuntime) -
 }
 
 #[test]
-fn version_one_reads_the_same_inputs_but_for_lines(rt: HostRuntime) -> Result<(), Fail> {
-    let alloc = rt.alloc();
-    for what in KINDS {
+fn an_input_that_is_broken_is_bad_at_the_first_field_at_fault(rt: HostRuntime) -> Result<(), Fail> {
+    are_broken(&rt, rt.alloc(), &BROKEN)
+}
+
+fn are_read_by_version_one(rt: &impl Abort, alloc: Global, kinds: &[&[u8]]) -> Result<(), Fail> {
+    for what in kinds {
         let bytes = input_of(alloc, what)?;
         let (input, _) = read_input_v1(alloc, bytes.as_slice()).or(Err("not read"))?;
         assert!(rt; is_spelt_as(alloc, &input, bytes.as_slice())?, "{what:?}");
     }
-    let cut = read_input_v1(alloc, &LOOK).err().ok_or("read")?;
+    Ok(())
+}
+
+// The error of reading an input of a look by version one.
+fn fault_of_version_one(alloc: Global, bytes: &[u8]) -> Option<ReadError> {
+    read_input_v1(alloc, bytes).err()
+}
+
+#[test]
+fn version_one_reads_the_same_inputs_but_for_lines(rt: HostRuntime) -> Result<(), Fail> {
+    are_read_by_version_one(&rt, rt.alloc(), &KINDS)?;
+    let cut = fault_of_version_one(rt.alloc(), &LOOK).ok_or("read")?;
     assert_eq!(rt; cut, ReadError::Bad(32));
     Ok(())
 }

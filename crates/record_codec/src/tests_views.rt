@@ -26,37 +26,43 @@ fn is_spelt_as(alloc: Global, view: &View, bytes: &[u8]) -> Result<bool, Fail> {
     Ok(out.as_slice() == bytes && view_len(view) == bytes.len() as u64)
 }
 
-#[test]
-fn a_view_with_each_type_is_read_and_written_again(rt: HostRuntime) -> Result<(), Fail> {
-    let alloc = rt.alloc();
-    let (view, len) = read_view(alloc, &VIEW).or(Err("not read"))?;
+fn is_read(rt: &impl Abort, alloc: Global, bytes: &[u8]) -> Result<(), Fail> {
+    let (view, len) = read_view(alloc, bytes).or(Err("not read"))?;
     assert_eq!(rt; len, 290);
     assert_eq!(rt; view.next_ban, 4);
-    assert!(rt; is_spelt_as(alloc, &view, &VIEW)?);
+    assert!(rt; is_spelt_as(alloc, &view, bytes)?);
     Ok(())
 }
 
 #[test]
-fn a_view_that_is_cut_is_bad_at_the_field_that_is_cut(rt: HostRuntime) {
-    let alloc = rt.alloc();
-    for len in 0..VIEW.len() {
-        let place = view_fault(&rt, alloc, &VIEW[..len]);
-        assert_eq!(rt;
-            place,
-            Some(cut_place(&VIEW_STARTS, len as u64)),
-            "cut at {len}"
-        );
+fn a_view_with_each_type_is_read_and_written_again(rt: HostRuntime) -> Result<(), Fail> {
+    is_read(&rt, rt.alloc(), &VIEW)
+}
+
+// A view that is cut anywhere is bad where the field begins that is cut.
+fn are_cut(rt: &impl Abort, alloc: Global, bytes: &[u8], starts: &[u64]) {
+    for len in 0..bytes.len() {
+        let place = view_fault(rt, alloc, &bytes[..len]);
+        assert_eq!(rt; place, Some(cut_place(starts, len as u64)), "cut at {len}");
     }
 }
 
+#[test]
+fn a_view_that_is_cut_is_bad_at_the_field_that_is_cut(rt: HostRuntime) {
+    are_cut(&rt, rt.alloc(), &VIEW, &VIEW_STARTS);
+}
+
 // A view with one byte turned is bad somewhere, or is another view, spelt just so.
-fn turned(rt: &impl Abort, alloc: Global, at: usize, turn: u8) -> Result<(), Fail> {
-    let mut bytes = VIEW;
-    assert!(rt; at < bytes.len());
-    bytes[at] ^= turn;
-    match read_view(alloc, &bytes) {
+fn turned(rt: &impl Abort, alloc: Global, bytes: &[u8], at: usize, turn: u8) -> Result<(), Fail> {
+    let mut turned = Bytes::new(alloc);
+    let (front, rest) = bytes.split_at_checked(at).ok_or("past the end")?;
+    let (first, behind) = rest.split_first().ok_or("past the end")?;
+    turned.push_slice(front)?;
+    turned.push(*first ^ turn)?;
+    turned.push_slice(behind)?;
+    match read_view(alloc, turned.as_slice()) {
         Ok((view, len)) => {
-            let front = bytes.get(..len as usize).ok_or("too long")?;
+            let front = turned.as_slice().get(..len as usize).ok_or("too long")?;
             assert!(rt; is_spelt_as(alloc, &view, front)?, "byte {at}");
         }
         Err(error) => assert!(rt; error != ReadError::NoMemory),
@@ -64,14 +70,19 @@ fn turned(rt: &impl Abort, alloc: Global, at: usize, turn: u8) -> Result<(), Fai
     Ok(())
 }
 
-#[test]
-fn a_view_with_a_turned_byte_has_no_second_spelling(rt: HostRuntime) -> Result<(), Fail> {
-    for at in 0..VIEW.len() {
-        turned(&rt, rt.alloc(), at, 0x80)?;
-        turned(&rt, rt.alloc(), at, 1)?;
-        turned(&rt, rt.alloc(), at, 0xff)?;
+// The same for each of its bytes.
+fn each_byte_turned(rt: &impl Abort, alloc: Global, bytes: &[u8]) -> Result<(), Fail> {
+    for at in 0..bytes.len() {
+        turned(rt, alloc, bytes, at, 0x80)?;
+        turned(rt, alloc, bytes, at, 1)?;
+        turned(rt, alloc, bytes, at, 0xff)?;
     }
     Ok(())
+}
+
+#[test]
+fn a_view_with_a_turned_byte_has_no_second_spelling(rt: HostRuntime) -> Result<(), Fail> {
+    each_byte_turned(&rt, rt.alloc(), &VIEW)
 }
 
 // The bytes with others in place of some.
@@ -162,13 +173,16 @@ const BROKEN: [(&str, usize, usize, &[u8], u64); 26] = [
     ("a ban to come that is there", 289, 1, &[3], 289),
 ];
 
-#[test]
-fn a_view_that_is_broken_is_bad_at_the_first_field_at_fault(rt: HostRuntime) -> Result<(), Fail> {
-    let alloc = rt.alloc();
-    for (what, at, gone, new, place) in BROKEN {
-        let bytes = spliced(alloc, &VIEW, at, gone, new)?;
+fn are_broken(
+    rt: &impl Abort,
+    alloc: Global,
+    view: &[u8],
+    rows: &[(&str, usize, usize, &[u8], u64)],
+) -> Result<(), Fail> {
+    for &(what, at, gone, new, place) in rows {
+        let bytes = spliced(alloc, view, at, gone, new)?;
         assert_eq!(rt;
-            view_fault(&rt, alloc, bytes.as_slice()),
+            view_fault(rt, alloc, bytes.as_slice()),
             Some(place),
             "{what}"
         );
@@ -177,14 +191,27 @@ fn a_view_that_is_broken_is_bad_at_the_first_field_at_fault(rt: HostRuntime) -> 
 }
 
 #[test]
-fn version_one_has_no_lines(rt: HostRuntime) -> Result<(), Fail> {
-    let alloc = rt.alloc();
-    let with = read_view_v1(alloc, &VIEW).err().ok_or("read")?;
+fn a_view_that_is_broken_is_bad_at_the_first_field_at_fault(rt: HostRuntime) -> Result<(), Fail> {
+    are_broken(&rt, rt.alloc(), &VIEW, &BROKEN)
+}
+
+// The view without the lines of its two failures.
+fn without_lines(alloc: Global, view: &[u8]) -> Result<Bytes, Fail> {
+    let half = spliced(alloc, view, 185, 3, &[])?;
+    spliced(alloc, half.as_slice(), 164, 2, &[])
+}
+
+fn has_no_lines(rt: &impl Abort, alloc: Global, view: &[u8]) -> Result<(), Fail> {
+    let with = read_view_v1(alloc, view).err().ok_or("read")?;
     assert_eq!(rt; with, ReadError::Bad(164));
-    let half = spliced(alloc, &VIEW, 185, 3, &[])?;
-    let without = spliced(alloc, half.as_slice(), 164, 2, &[])?;
+    let without = without_lines(alloc, view)?;
     let (view, len) = read_view_v1(alloc, without.as_slice()).or(Err("not read"))?;
     assert_eq!(rt; len, 285);
     assert_eq!(rt; view_len(&view), 287);
     Ok(())
+}
+
+#[test]
+fn version_one_has_no_lines(rt: HostRuntime) -> Result<(), Fail> {
+    has_no_lines(&rt, rt.alloc(), &VIEW)
 }

@@ -1,12 +1,12 @@
 -- What clap's clauses give for this command.
-use Rattle.std.proofs.Common.{◌≡◌, true, List, [], ◌∷◌, Some, None, Result, codes, refl, ap, ◌∙◌, subst, inl, inr}
+use Rattle.std.proofs.Common.{◌≡◌, true, List, [], ◌∷◌, Option, None, Result, refl, sym, ap, ◌∙◌, subst, inl, inr}
 use Rattle.clap.specs.Words.{App, Text, Kinds, FailsBy, HasKind, HasMatchesOf, is_simple, is_simple_and_free, fault_of, first_of, first_value, found_of, kind_of}
 use Rattle.clap.specs.declared.error.Error.{Error}
 use Rattle.clap.specs.declared.error.kind.ErrorKind.TheVariants.{OutOfMemory}
 use Rattle.clap.specs.declared.parser.matches.ArgMatches.{ArgMatches}
 use Rattle.clap.proofs.OnLiterals.{clap_on_literals}
 use Rattle.clap.proofs.WalkLemmas.{first_value-rows}
-use Rattle.regex_tool.specs.Asks.{tool, asks_of, asks_if, given}
+use Rattle.regex_tool.specs.Asks.{Asks, tool, asks_by, asks_of, asks_if, given}
 
 pub tool_is_simple : is_simple tool ≡ true
 unfolding clap_on_literals
@@ -17,23 +17,16 @@ unfolding clap_on_literals
 tool_is_free = refl
 
 -- the value of an argument that a parse has
-pub given_is : (words : List Text) (m : ArgMatches) → HasMatchesOf tool words m → (name : Text) → first_value (found_of m) name ≡ given name words
+pub given_is : (words : List Text) (m : ArgMatches) → HasMatchesOf tool words m → (name : Text) → first_value (found_of m) name ≡ given words name
 given_is words m h name = first_value-rows (found_of m) name ∙ ap (first_of name) (h tool_is_simple).0
 
-pub asks_without_log : (words : List Text) → fault_of tool words ≡ [] → given (codes "log") words ≡ None → asks_of words ≡ None
+-- what is asked for is told by the matches that a parse has
+pub asks_as_found : (words : List Text) (m : ArgMatches) (found : Option Asks) → fault_of tool words ≡ [] → HasMatchesOf tool words m →
+    found ≡ asks_by (first_value (found_of m)) → asks_of words ≡ found
 unfolding asks_of
-asks_without_log words fault log = rw (fault, log) refl
-
-pub asks_without_regex : (words : List Text) (log : Text) → fault_of tool words ≡ [] → given (codes "log") words ≡ Some log →
-    given (codes "regex") words ≡ None → asks_of words ≡ None
-unfolding asks_of
-asks_without_regex words log fault log-is regex-is = rw (fault, log-is, regex-is) refl
-
-pub asks_all : (words : List Text) (log regex : Text) → fault_of tool words ≡ [] → given (codes "log") words ≡ Some log →
-    given (codes "regex") words ≡ Some regex →
-    asks_of words ≡ Some (record { date = given (codes "date") words; log = log; regex = regex; ignore = given (codes "ignore") words })
-unfolding asks_of
-asks_all words log regex fault log-is regex-is = rw (fault, log-is, regex-is) refl
+asks_as_found words m found fault has is =
+    let same : asks_by (first_value (found_of m)) ≡ asks_by (given words) = λ i. asks_by (λ name. given_is words m has name i) in
+    rw fault (sym (is ∙ same))
 
 refused_by : (words : List Text) (kinds : Kinds) (e : Error) → HasKind kinds e → (kind_of e ≡ OutOfMemory → asks_if kinds words ≡ None) → asks_if kinds words ≡ None
 refused_by words [] e (inl memory) other = other memory

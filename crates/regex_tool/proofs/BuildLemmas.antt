@@ -1,5 +1,5 @@
 -- Why a filter is not built.
-use Rattle.std.proofs.Common.{◌≡◌, ◌&&◌, ℕ, ℤ, pos, neg_ℤ, int_lt, IsTrue, Option, None, Some, Err, refl, sym, subst}
+use Rattle.std.proofs.Common.{◌≡◌, Option, None, Err, refl}
 use Rattle.date_detect.specs.Forms.{HasDatePattern}
 use Rattle.f2b_base.specs.declared.jail.JailDef.{JailDef}
 use Rattle.f2b_world.specs.Told.{Standing}
@@ -11,19 +11,11 @@ use Rattle.filter_regex.specs.declared.error.PatternPlace.{PatternPlace}
 use Rattle.regex_tool.specs.Builds.{IsNotBuilt, tool_kind}
 use Rattle.regex_tool.specs.Checks.{IsTestable, first_fault}
 
-is_near : ℤ → Type 0
-is_near zone = IsTrue (int_lt (neg_ℤ (pos 86_400)) zone && int_lt zone (pos 86_400))
-
-utc_is_near : is_near (pos 0)
-unfolding is_near
-utc_is_near = refl
-
--- a jail with few patterns and dates of UTC can be built
+-- a jail with few patterns and a zone near UTC can be built
 pub supported : (jail : JailDef) → IsTestable jail → HasDatePattern jail.date → IsSupported jail
-unfolding is_near
 supported jail testable date = record {
   date = date;
-  zone = subst is_near (sym testable.zone) utc_is_near;
+  zone = testable.zone;
   fail = testable.few.fail;
   ignore_lines = testable.few.ignore_lines;
 }

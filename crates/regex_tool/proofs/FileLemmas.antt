@@ -8,12 +8,13 @@ use Rattle.f2b_world.specs.declared.answer.FilePiece.{FilePiece}
 use Rattle.f2b_world.specs.Told.{Standing, Leaves, Opened}
 use Rattle.f2b_world.specs.declared.answer.FilePiece.TheVariants.{Bytes as PieceBytes, Absent as PieceAbsent, Failed as PieceFailed, NoMemory as PieceNoMemory}
 use Rattle.f2b_base.specs.declared.jail.JailDef.{JailDef}
-use Rattle.filter_regex.specs.Rules.{rules_of}
 use Rattle.log_follow.specs.Lines.{line_of}
-use Rattle.regex_tool.specs.Counts.{counts_of}
-use Rattle.regex_tool.specs.Logs.{HasRead, findings_of, log_lines}
-use Rattle.regex_tool.specs.declared.counts.Counts.{Counts}
-use Rattle.regex_tool.specs.Readings.{IsOpened, IsWholeLog, IsNoLog, IsLogRead, IsCounted}
+use Rattle.regex_tool.specs.Asks.{Asks}
+use Rattle.regex_tool.specs.Logs.{log_lines}
+use Rattle.regex_tool.specs.Readings.{IsOpened, IsWholeLog, IsNoLog, IsLogRead, IsOfLog}
+use Rattle.regex_tool.specs.Results.{AreResults, HasRead}
+use Rattle.regex_tool.specs.declared.results.Results.{Results}
+use Rattle.regex_tool.specs.declared.shows.Shows.{Shows}
 use Rattle.regex_tool.specs.declared.log_test.LogTest.{LogTest}
 
 -- a count that rose since later rose since before
@@ -99,7 +100,7 @@ pub record Reads (shelf : Option Shelf) (path : List ℕ) (old : LogTest) (at : 
   pub at_is : length seen ≡ at
   pub content : IfSome shelf (λ files. (whole : List ℕ) → files path ≡ Some whole → seen ≡ take at whole)
   pub there : IfSome shelf (λ files. 0 < at → (whole : List ℕ) × (files path ≡ Some whole))
-  pub reads : (jail : JailDef) (now : ℕ) → HasRead jail now old [] → HasRead jail now test seen
+  pub reads : (jail : JailDef) (shows : Shows) (now : ℕ) → HasRead jail shows now old [] → HasRead jail shows now test seen
 
 some_or : List ℕ → Option (List ℕ) → List ℕ
 some_or other None = other
@@ -157,19 +158,19 @@ there_more None path bytes at max next piece = tt
 there_more (Some files) path bytes at max next piece = λ some. (piece.0, piece.1)
 
 pub reads_none : (shelf : Option Shelf) (path : List ℕ) (test : LogTest) → Reads shelf path test 0 test
-reads_none None path test = record { seen = []; at_is = refl; content = tt; there = tt; reads = λ jail now read. read }
-reads_none (Some files) path test = record { seen = []; at_is = refl; content = (λ whole is. refl); there = (λ some. absurd (omega arith)); reads = λ jail now read. read }
+reads_none None path test = record { seen = []; at_is = refl; content = tt; there = tt; reads = λ jail shows now read. read }
+reads_none (Some files) path test = record { seen = []; at_is = refl; content = (λ whole is. refl); there = (λ some. absurd (omega arith)); reads = λ jail shows now read. read }
 
 pub reads_more : (shelf : Option Shelf) (path : List ℕ) (old mid new : LogTest) (at max next : ℕ) (bytes fed : List ℕ) → Reads shelf path old at mid
     → IfSome shelf (λ files. IsPieceAt (files path) at max (PieceBytes bytes))
-    → ((jail : JailDef) (now : ℕ) (seen : List ℕ) → HasRead jail now mid seen → HasRead jail now new (seen ++ fed))
+    → ((jail : JailDef) (shows : Shows) (now : ℕ) (seen : List ℕ) → HasRead jail shows now mid seen → HasRead jail shows now new (seen ++ fed))
     → fed ≡ bytes → next ≡ at + length bytes → Reads shelf path old next new
 reads_more shelf path old mid new at max next bytes fed before piece feeds same is = subst (λ n. Reads shelf path old n new) (sym is) (record {
   seen = before.seen ++ bytes;
   at_is = length-append before.seen bytes ∙ ap (λ n. n + length bytes) before.at_is;
   content = content_more shelf path before.seen bytes at max before.content piece;
   there = there_more shelf path bytes at max (at + length bytes) piece;
-  reads = λ jail now read. subst (λ bs. HasRead jail now new (before.seen ++ bs)) same (feeds jail now before.seen (before.reads jail now read));
+  reads = λ jail shows now read. subst (λ bs. HasRead jail shows now new (before.seen ++ bs)) same (feeds jail shows now before.seen (before.reads jail shows now read));
 })
 
 -- ---- the end
@@ -211,23 +212,23 @@ pub reads_absent : (shelf : Option Shelf) (path : List ℕ) (old test : LogTest)
     → IfSome shelf (λ files. IsPieceAt (files path) at max PieceAbsent) → IsNoLog shelf path old test
 reads_absent shelf path old test at max none before piece = record {
   absent = absent_content shelf path at max piece;
-  reads = λ jail now read. subst (HasRead jail now test) (empty_list before.seen (omega (arith, before.at_is))) (before.reads jail now read);
+  reads = λ jail shows now read. subst (HasRead jail shows now test) (empty_list before.seen (omega (arith, before.at_is))) (before.reads jail shows now read);
 }
 
--- ---- the counts
+-- ---- what comes of them
 
--- those of a whole log
-pub counted_file : (shelf : Option Shelf) (jail : JailDef) (now : ℕ) (log : List ℕ) (old new : LogTest) (there : Bool) (counts : Counts) → there ≡ true → IsLogRead shelf log old new there
-    → HasRead jail now old [] → ((jail : JailDef) (now : ℕ) (seen : List ℕ) → HasRead jail now new seen → counts ≡ counts_of jail (findings_of (rules_of jail) now (log_lines seen)))
-    → IsCounted shelf jail now log counts
-counted_file shelf jail now log old new there counts is read start finish =
-    let whole : (bytes : List ℕ) × IsWholeLog shelf log bytes old new = subst (IsLogRead shelf log old new) is read in
-    record { lines = log_lines whole.0; log_is = inl (whole.0, whole.1.content, refl); counts_are = finish jail now whole.0 (whole.1.reads jail now start) }
+-- of a whole log
+pub of_file : (shelf : Option Shelf) (jail : JailDef) (asks : Asks) (now : ℕ) (old new : LogTest) (there : Bool) (results : Results) → there ≡ true → IsLogRead shelf asks.log old new there
+    → HasRead jail asks.shows now old [] → ((jail : JailDef) (shows : Shows) (now : ℕ) (seen : List ℕ) → HasRead jail shows now new seen → AreResults jail shows now (log_lines seen) results)
+    → IsOfLog shelf jail asks now results
+of_file shelf jail asks now old new there results is read start finish =
+    let whole : (bytes : List ℕ) × IsWholeLog shelf asks.log bytes old new = subst (IsLogRead shelf asks.log old new) is read in
+    record { lines = log_lines whole.0; log_is = inl (whole.0, whole.1.content, refl); are = finish jail asks.shows now whole.0 (whole.1.reads jail asks.shows now start) }
 
--- those of a path that is the one line
-pub counted_word : (shelf : Option Shelf) (jail : JailDef) (now : ℕ) (log : List ℕ) (old new : LogTest) (there : Bool) (counts : Counts) → there ≡ false → IsLogRead shelf log old new there
-    → HasRead jail now old [] → ((jail : JailDef) (now : ℕ) → HasRead jail now new [] → counts ≡ counts_of jail (findings_of (rules_of jail) now (line_of log ∷ [])))
-    → IsCounted shelf jail now log counts
-counted_word shelf jail now log old new there counts is read start one =
-    let none : IsNoLog shelf log old new = subst (IsLogRead shelf log old new) is read in
-    record { lines = line_of log ∷ []; log_is = inr (none.absent, refl); counts_are = one jail now (none.reads jail now start) }
+-- of a path that is the one line
+pub of_word : (shelf : Option Shelf) (jail : JailDef) (asks : Asks) (now : ℕ) (old new : LogTest) (there : Bool) (results : Results) → there ≡ false → IsLogRead shelf asks.log old new there
+    → HasRead jail asks.shows now old [] → ((jail : JailDef) (shows : Shows) (now : ℕ) → HasRead jail shows now new [] → AreResults jail shows now (line_of asks.log ∷ []) results)
+    → IsOfLog shelf jail asks now results
+of_word shelf jail asks now old new there results is read start one =
+    let none : IsNoLog shelf asks.log old new = subst (IsLogRead shelf asks.log old new) is read in
+    record { lines = line_of asks.log ∷ []; log_is = inr (none.absent, refl); are = one jail asks.shows now (none.reads jail asks.shows now start) }

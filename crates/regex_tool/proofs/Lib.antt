@@ -6,5 +6,6 @@ pub mod FileLemmas
 pub mod RaisedLemmas
 pub mod ReadLemmas
 pub mod RunLemmas
+pub mod SectionLemmas
 pub mod TargetLemmas
 pub mod TreeLemmas

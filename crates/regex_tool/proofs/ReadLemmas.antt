@@ -1,4 +1,4 @@
--- Lines that are counted behind others, and what was read of a log.
+-- Lines that are counted and shown behind others, and what was read of a log.
 use Rattle.std.proofs.Common.{◌≡◌, ℕ, zero, suc, ◌+◌, ◌-◌, ◌==◌, ◌<◌, ◌≤◌, List, [], ◌∷◌, ◌++◌, length, map, take, drop, refl, sym, ap, subst, ◌∙◌, arith, append_assoc, true, false, slice_index_or, Result, Ok, Err, OnOk}
 use Rattle.std.proofs.lemmas.List.{append-nil}
 use Rattle.f2b_base.specs.declared.jail.JailDef.{JailDef}
@@ -12,34 +12,40 @@ use Rattle.log_follow.specs.declared.carry.Carry.{Carry}
 use Rattle.log_follow.specs.declared.carry.Carry.TheVariants.{Kept}
 use Rattle.log_follow.specs.declared.line.Line.{Line}
 use Rattle.regex_tool.specs.Counts.{counts_of, counted}
-use Rattle.regex_tool.specs.Logs.{AddsFindings, HasRead, finding_of, findings_of, last_line, log_lines}
+use Rattle.regex_tool.specs.Logs.{finding_of, findings_of, last_line, log_lines}
+use Rattle.regex_tool.specs.Results.{Adds, AddsFindings, AreResults, HasRead}
+use Rattle.regex_tool.specs.Sections.{no_sections, sections_after, sections_with}
 use Rattle.regex_tool.specs.declared.counts.Counts.{Counts}
 use Rattle.regex_tool.specs.declared.log_test.LogTest.{LogTest}
+use Rattle.regex_tool.specs.declared.results.Results.{Results}
+use Rattle.regex_tool.specs.declared.sections.Sections.{Sections}
+use Rattle.regex_tool.specs.declared.shows.Shows.{Shows}
 use Rattle.regex_tool.proofs.CountsLemmas.{counts_of-one_more}
+use Rattle.regex_tool.proofs.SectionLemmas.{sections-none, sections-one, sections-both}
 
 -- a line more
-pub adds_finding : (old new : Counts) (finding : Finding) → new ≡ counted old finding → AddsFindings old (finding ∷ []) new
+adds_finding : (old new : Counts) (finding : Finding) → new ≡ counted old finding → AddsFindings old (finding ∷ []) new
 adds_finding old new finding is jail findings start = is ∙ (ap (λ counts. counted counts finding) start ∙ sym (counts_of-one_more jail findings finding))
 
 -- no line more
-pub adds_none : (counts : Counts) → AddsFindings counts [] counts
+adds_none : (counts : Counts) → AddsFindings counts [] counts
 adds_none counts jail findings start = start ∙ ap (counts_of jail) (sym (append-nil findings))
 
 -- lines more, and then others
-pub adds_both : (old mid new : Counts) (first second : List Finding) → AddsFindings old first mid → AddsFindings mid second new → AddsFindings old (first ++ second) new
-adds_both old mid new first second one other jail findings start =
+adds_both_findings : (old mid new : Counts) (first second : List Finding) → AddsFindings old first mid → AddsFindings mid second new → AddsFindings old (first ++ second) new
+adds_both_findings old mid new first second one other jail findings start =
     other jail (findings ++ first) (one jail findings start) ∙ ap (counts_of jail) (append_assoc findings first second)
 
-pub findings_of-append : (rules : Rules) (now : ℕ) (some more : List Line) → findings_of rules now (some ++ more) ≡ findings_of rules now some ++ findings_of rules now more
+findings_of-append : (rules : Rules) (now : ℕ) (some more : List Line) → findings_of rules now (some ++ more) ≡ findings_of rules now some ++ findings_of rules now more
 unfolding findings_of
 findings_of-append rules now [] more = refl
 findings_of-append rules now (line ∷ some) more = ap (λ findings. finding_of rules now line ∷ findings) (findings_of-append rules now some more)
 
-pub findings_of-one : (rules : Rules) (now : ℕ) (line : Line) → findings_of rules now (line ∷ []) ≡ finding_of rules now line ∷ []
+findings_of-one : (rules : Rules) (now : ℕ) (line : Line) → findings_of rules now (line ∷ []) ≡ finding_of rules now line ∷ []
 unfolding findings_of
 findings_of-one rules now line = refl
 
-pub findings_of-none : (rules : Rules) (now : ℕ) → findings_of rules now [] ≡ []
+findings_of-none : (rules : Rules) (now : ℕ) → findings_of rules now [] ≡ []
 unfolding findings_of
 findings_of-none rules now = refl
 
@@ -57,39 +63,48 @@ carry_of-none : carry_of [] ≡ Kept []
 unfolding carry_of
 carry_of-none = refl
 
-findings_of-nothing : (rules : Rules) (now : ℕ) → findings_of rules now (lines_of []) ≡ []
-findings_of-nothing rules now = ap (findings_of rules now) lines_of-none ∙ findings_of-none rules now
+-- lines more were counted and shown behind those before
+are_more : (jail : JailDef) (shows : Shows) (rules : Rules) (now at : ℕ) (lines more : List Line) (old new : Results) → rules ≡ rules_of jail → at ≡ now
+    → AreResults jail shows now lines old → Adds rules at old more new → AreResults jail shows now (lines ++ more) new
+are_more jail shows rules now at lines more old new same clock before adds =
+    let here : Adds rules now old more new = subst (λ n. Adds rules n old more new) clock adds in
+    let own : Adds (rules_of jail) now old more new = subst (λ (r : Rules). Adds r now old more new) same here in
+    record {
+      counts = own.counts jail (findings_of (rules_of jail) now lines) before.counts ∙ ap (counts_of jail) (sym (findings_of-append (rules_of jail) now lines more));
+      sections = own.sections ∙ (ap (λ (s : Sections). sections_with s (rules_of jail) now more) before.sections ∙ sections-both (rules_of jail) now (no_sections shows) lines more);
+    }
+
+-- no line
+are_none : (jail : JailDef) (shows : Shows) (now : ℕ) (results : Results) → results.counts ≡ counts_of jail [] → results.sections ≡ no_sections shows → AreResults jail shows now [] results
+are_none jail shows now results counts sections = record {
+  counts = counts ∙ ap (counts_of jail) (sym (findings_of-none (rules_of jail) now));
+  sections = sections ∙ sym (sections-none (rules_of jail) now (no_sections shows));
+}
 
 -- a test begins with no bytes
-pub read_none : (jail : JailDef) (test : LogTest) → test.searcher ≡ rules_of jail → test.carry ≡ Kept [] → test.counts ≡ counts_of jail [] → HasRead jail test.now test []
-read_none jail test rules carry counts = record {
+pub read_none : (jail : JailDef) (shows : Shows) (test : LogTest) → test.searcher ≡ rules_of jail → test.carry ≡ Kept [] → test.results.counts ≡ counts_of jail []
+    → test.results.sections ≡ no_sections shows → HasRead jail shows test.now test []
+read_none jail shows test rules carry counts sections = record {
   rules = rules;
   now_is = refl;
   carry = carry ∙ (sym carry_of-none ∙ ap carry_of (sym rest_of-none));
-  counts = counts ∙ ap (counts_of jail) (sym (findings_of-nothing (rules_of jail) test.now));
+  results = subst (λ (ls : List Line). AreResults jail shows test.now ls test.results) (sym lines_of-none) (are_none jail shows test.now test.results counts sections);
 }
 
--- the findings of lines that became whole, behind those before
-findings-grow : (rules own : Rules) (now at : ℕ) (seen bytes : List ℕ) (lines : List Line) → own ≡ rules → at ≡ now → lines ≡ new_lines seen bytes →
-    findings_of rules now (lines_of seen) ++ findings_of own at lines ≡ findings_of rules now (lines_of (seen ++ bytes))
-findings-grow rules own now at seen bytes lines same clock new =
-    ap (λ (r : Rules). findings_of rules now (lines_of seen) ++ findings_of r at lines) same
-    ∙ (ap (λ n. findings_of rules now (lines_of seen) ++ findings_of rules n lines) clock
-    ∙ (ap (λ (ls : List Line). findings_of rules now (lines_of seen) ++ findings_of rules now ls) new
-    ∙ (sym (findings_of-append rules now (lines_of seen) (new_lines seen bytes)) ∙ ap (findings_of rules now) (sym (lines_grow seen bytes)))))
-
--- more bytes were read, and the lines counted that became whole
+-- more bytes were read, and the lines taken that became whole
 pub read_more : (old new : LogTest) (lines : List Line) (bytes : List ℕ) → new.searcher ≡ old.searcher → new.now ≡ old.now
     → ((seen : List ℕ) → Carries old.carry seen → Carries new.carry (seen ++ bytes)) → ((seen : List ℕ) → Carries old.carry seen → lines ≡ new_lines seen bytes)
-    → AddsFindings old.counts (findings_of old.searcher old.now lines) new.counts
-    → (jail : JailDef) (now : ℕ) (seen : List ℕ) → HasRead jail now old seen → HasRead jail now new (seen ++ bytes)
-read_more old new lines bytes searcher clock carries whole adds jail now seen read = record {
-  rules = searcher ∙ read.rules;
-  now_is = clock ∙ read.now_is;
-  carry = carries seen read.carry;
-  counts = adds jail (findings_of (rules_of jail) now (lines_of seen)) read.counts
-      ∙ ap (counts_of jail) (findings-grow (rules_of jail) old.searcher now old.now seen bytes lines read.rules read.now_is (whole seen read.carry));
-}
+    → Adds old.searcher old.now old.results lines new.results
+    → (jail : JailDef) (shows : Shows) (now : ℕ) (seen : List ℕ) → HasRead jail shows now old seen → HasRead jail shows now new (seen ++ bytes)
+read_more old new lines bytes searcher clock carries whole adds jail shows now seen read =
+    let grown : lines_of seen ++ lines ≡ lines_of (seen ++ bytes) = ap (λ (ls : List Line). lines_of seen ++ ls) (whole seen read.carry) ∙ sym (lines_grow seen bytes) in
+    record {
+      rules = searcher ∙ read.rules;
+      now_is = clock ∙ read.now_is;
+      carry = carries seen read.carry;
+      results = subst (λ (ls : List Line). AreResults jail shows now ls new.results) grown
+          (are_more jail shows old.searcher now old.now (lines_of seen) lines old.results new.results read.rules read.now_is read.results adds);
+    }
 
 -- ---- the end of a log
 
@@ -112,41 +127,32 @@ log_lines-none seen none = ap (λ (last : List Line). lines_of seen ++ last) (la
 carried : (carry : Carry) (seen : List ℕ) → Carries carry seen → length_of carry ≡ length (rest_of seen)
 carried carry seen is = ap length_of is ∙ length_of-carry_of (rest_of seen)
 
--- a finding behind others
-finding-behind : (rules own : Rules) (now at : ℕ) (lines : List Line) (line last : Line) → own ≡ rules → at ≡ now → line ≡ last →
-    findings_of rules now lines ++ finding_of own at line ∷ [] ≡ findings_of rules now (lines ++ last ∷ [])
-finding-behind rules own now at lines line last same clock is =
-    ap (λ (r : Rules). findings_of rules now lines ++ finding_of r at line ∷ []) same
-    ∙ (ap (λ n. findings_of rules now lines ++ finding_of rules n line ∷ []) clock
-    ∙ (ap (λ (l : Line). findings_of rules now lines ++ finding_of rules now l ∷ []) is
-    ∙ (ap (λ (fs : List Finding). findings_of rules now lines ++ fs) (sym (findings_of-one rules now last)) ∙ sym (findings_of-append rules now lines (last ∷ [])))))
-
 -- a rest without LF is a line
-pub finish_rest : (test : LogTest) (line : Line) (counts : Counts) → 0 < length_of test.carry → ((rest : List ℕ) → test.carry ≡ carry_of rest → line ≡ line_of (rest ++ []))
-    → AddsFindings test.counts (finding_of test.searcher test.now line ∷ []) counts
-    → (jail : JailDef) (now : ℕ) (seen : List ℕ) → HasRead jail now test seen → counts ≡ counts_of jail (findings_of (rules_of jail) now (log_lines seen))
-finish_rest test line counts some made adds jail now seen read =
+pub finish_rest : (test : LogTest) (line : Line) (results : Results) → 0 < length_of test.carry → ((rest : List ℕ) → test.carry ≡ carry_of rest → line ≡ line_of (rest ++ []))
+    → Adds test.searcher test.now test.results (line ∷ []) results
+    → (jail : JailDef) (shows : Shows) (now : ℕ) (seen : List ℕ) → HasRead jail shows now test seen → AreResults jail shows now (log_lines seen) results
+finish_rest test line results some made adds jail shows now seen read =
     let rest = rest_of seen in
     let left : 0 < length rest = omega (arith, carried test.carry seen read.carry, some) in
     let is : line ≡ line_of rest = made rest read.carry ∙ ap line_of (append-nil rest) in
-    adds jail (findings_of (rules_of jail) now (lines_of seen)) read.counts
-    ∙ ap (counts_of jail) (finding-behind (rules_of jail) test.searcher now test.now (lines_of seen) line (line_of rest) read.rules read.now_is is
-    ∙ ap (findings_of (rules_of jail) now) (sym (log_lines-some seen left)))
+    let all : lines_of seen ++ line ∷ [] ≡ log_lines seen = ap (λ (l : Line). lines_of seen ++ l ∷ []) is ∙ sym (log_lines-some seen left) in
+    subst (λ (ls : List Line). AreResults jail shows now ls results) all
+    (are_more jail shows test.searcher now test.now (lines_of seen) (line ∷ []) test.results results read.rules read.now_is read.results adds)
 
--- where there is no rest all lines were counted
+-- where there is no rest all lines were taken
 pub finish_none : (test : LogTest) → length_of test.carry ≤ 0
-    → (jail : JailDef) (now : ℕ) (seen : List ℕ) → HasRead jail now test seen → test.counts ≡ counts_of jail (findings_of (rules_of jail) now (log_lines seen))
-finish_none test none jail now seen read =
+    → (jail : JailDef) (shows : Shows) (now : ℕ) (seen : List ℕ) → HasRead jail shows now test seen → AreResults jail shows now (log_lines seen) test.results
+finish_none test none jail shows now seen read =
     let left : length (rest_of seen) ≡ 0 = omega (arith, carried test.carry seen read.carry, none) in
-    read.counts ∙ ap (λ (lines : List Line). counts_of jail (findings_of (rules_of jail) now lines)) (sym (log_lines-none seen left))
+    subst (λ (ls : List Line). AreResults jail shows now ls test.results) (sym (log_lines-none seen left)) read.results
 
 -- one line alone
-pub finish_one : (test : LogTest) (line last : Line) (counts : Counts) → line ≡ last → AddsFindings test.counts (finding_of test.searcher test.now line ∷ []) counts
-    → (jail : JailDef) (now : ℕ) → HasRead jail now test [] → counts ≡ counts_of jail (findings_of (rules_of jail) now (last ∷ []))
-finish_one test line last counts is adds jail now read =
-    adds jail (findings_of (rules_of jail) now (lines_of [])) read.counts
-    ∙ ap (counts_of jail) (finding-behind (rules_of jail) test.searcher now test.now (lines_of []) line last read.rules read.now_is is
-    ∙ ap (λ (lines : List Line). findings_of (rules_of jail) now (lines ++ last ∷ [])) lines_of-none)
+pub finish_one : (test : LogTest) (line last : Line) (results : Results) → line ≡ last → Adds test.searcher test.now test.results (line ∷ []) results
+    → (jail : JailDef) (shows : Shows) (now : ℕ) → HasRead jail shows now test [] → AreResults jail shows now (last ∷ []) results
+finish_one test line last results is adds jail shows now read =
+    let all : lines_of [] ++ line ∷ [] ≡ last ∷ [] = ap (λ (ls : List Line). ls ++ line ∷ []) lines_of-none ∙ ap (λ (l : Line). l ∷ []) is in
+    subst (λ (ls : List Line). AreResults jail shows now ls results) all
+    (are_more jail shows test.searcher now test.now (lines_of []) (line ∷ []) test.results results read.rules read.now_is read.results adds)
 
 -- ---- one of some lines
 
@@ -155,20 +161,45 @@ take_next [] k line within is = absurd (omega arith)
 take_next (first ∷ lines) zero line within is = ap (λ (l : Line). l ∷ []) (sym is)
 take_next (first ∷ lines) (suc k) line within is = ap (λ (ls : List Line). first ∷ ls) (take_next lines k line (omega arith) is)
 
-pub adds_none_of : (rules : Rules) (now : ℕ) (counts : Counts) → AddsFindings counts (findings_of rules now []) counts
-adds_none_of rules now counts jail findings start = adds_none counts jail findings start ∙ ap (λ (more : List Finding). counts_of jail (findings ++ more)) (sym (findings_of-none rules now))
+-- no line of them
+pub adds_none_of : (rules : Rules) (now : ℕ) (results : Results) → Adds rules now results [] results
+adds_none_of rules now results = record {
+  counts = λ jail findings start. adds_none results.counts jail findings start ∙ ap (λ (more : List Finding). counts_of jail (findings ++ more)) (sym (findings_of-none rules now));
+  sections = sym (sections-none rules now results.sections);
+}
 
-pub adds_next : (rules : Rules) (now : ℕ) (old mid new : Counts) (lines : List Line) (k : ℕ) (line : Line) → k < length lines → line ≡ slice_index_or lines k line
-    → AddsFindings old (findings_of rules now (take k lines)) mid → new ≡ counted mid (finding_of rules now line) → AddsFindings old (findings_of rules now (take (k + 1) lines)) new
-adds_next rules now old mid new lines k line within is before adds jail findings start =
+-- one line
+pub adds_line : (rules : Rules) (now : ℕ) (old new : Results) (line : Line) (finding : Finding) → finding ≡ finding_of rules now line → new.counts ≡ counted old.counts finding
+    → new.sections ≡ sections_after old.sections line finding → Adds rules now old (line ∷ []) new
+adds_line rules now old new line finding is counts sections =
+    let one : finding ∷ [] ≡ findings_of rules now (line ∷ []) = ap (λ (f : Finding). f ∷ []) is ∙ sym (findings_of-one rules now line) in
+    record {
+      counts = λ jail findings start. adds_finding old.counts new.counts finding counts jail findings start ∙ ap (λ (more : List Finding). counts_of jail (findings ++ more)) one;
+      sections = sections ∙ (ap (sections_after old.sections line) is ∙ sections-one rules now old.sections line);
+    }
+
+-- some lines, and then others
+adds_both : (rules : Rules) (now : ℕ) (old mid new : Results) (first second : List Line) → Adds rules now old first mid → Adds rules now mid second new → Adds rules now old (first ++ second) new
+adds_both rules now old mid new first second one other = record {
+  counts = λ jail findings start.
+      adds_both_findings old.counts mid.counts new.counts (findings_of rules now first) (findings_of rules now second) one.counts other.counts jail findings start
+      ∙ ap (λ (more : List Finding). counts_of jail (findings ++ more)) (sym (findings_of-append rules now first second));
+  sections = other.sections ∙ (ap (λ (s : Sections). sections_with s rules now second) one.sections ∙ sections-both rules now old.sections first second);
+}
+
+-- the next of them
+pub adds_next : (rules : Rules) (now : ℕ) (old mid new : Results) (lines : List Line) (k : ℕ) (line : Line) → k < length lines → line ≡ slice_index_or lines k line
+    → Adds rules now old (take k lines) mid → Adds rules now mid (line ∷ []) new → Adds rules now old (take (k + 1) lines) new
+adds_next rules now old mid new lines k line within is before step =
     let next : k + 1 ≡ suc k = omega arith in
-    let both = adds_both old mid new (findings_of rules now (take k lines)) (finding_of rules now line ∷ []) before (adds_finding mid new (finding_of rules now line) adds) jail findings start in
-    both ∙ ap (λ (more : List Finding). counts_of jail (findings ++ more))
-    (ap (λ (fs : List Finding). findings_of rules now (take k lines) ++ fs) (sym (findings_of-one rules now line))
-    ∙ (sym (findings_of-append rules now (take k lines) (line ∷ []))
-    ∙ ap (findings_of rules now) (sym (ap (λ n. take n lines) next ∙ take_next lines k line within is))))
+    let more : take (k + 1) lines ≡ take k lines ++ line ∷ [] = ap (λ n. take n lines) next ∙ take_next lines k line within is in
+    subst (λ (ls : List Line). Adds rules now old ls new) (sym more) (adds_both rules now old mid new (take k lines) (line ∷ []) before step)
 
 -- what a success says, said in other words
 pub on_ok_more : {T E : Type 0} (r : Result T E) (P Q : Type 0) → (P → Q) → OnOk r P → OnOk r Q
 on_ok_more (Ok x) P Q more h = more h
 on_ok_more (Err e) P Q more h = tt
+
+pub on_ok_both : {T E : Type 0} (r : Result T E) (P Q R : Type 0) → (P → Q → R) → OnOk r P → OnOk r Q → OnOk r R
+on_ok_both (Ok x) P Q R both p q = both p q
+on_ok_both (Err e) P Q R both p q = tt

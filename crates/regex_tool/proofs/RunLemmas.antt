@@ -10,12 +10,13 @@ use Rattle.regex_tool.specs.Asks.{Asks}
 use Rattle.regex_tool.specs.Builds.{HasBuildCause, IsBuilt, IsRefusedFor}
 use Rattle.regex_tool.specs.Checks.{first_fault}
 use Rattle.regex_tool.specs.Counts.{by_fail, by_ignore}
-use Rattle.regex_tool.specs.Definitions.{IsDefined}
-use Rattle.regex_tool.specs.Readings.{HasLogCause, IsCounted, IsOpened}
-use Rattle.regex_tool.specs.Report.{report}
-use Rattle.regex_tool.specs.Runs.{HasCause, HasTreeCause, IsReport}
+use Rattle.regex_tool.specs.Definitions.{IsDefined, target_for}
+use Rattle.regex_tool.specs.Readings.{HasLogCause, IsOfLog, IsOpened}
+use Rattle.regex_tool.specs.Outputs.{output}
+use Rattle.regex_tool.specs.Runs.{HasCause, HasTreeCause, IsOutput}
 use Rattle.regex_tool.specs.declared.counts.Counts.{Counts}
 use Rattle.regex_tool.specs.declared.kind.ToolKind.{ToolKind}
+use Rattle.regex_tool.specs.declared.results.Results.{Results}
 use Rattle.filter_regex.specs.Builds.{IsCause}
 use Rattle.filter_regex.specs.declared.error.BuildKind.{BuildKind}
 use Rattle.filter_regex.specs.declared.error.BuildKind.TheVariants.{Syntax, TooBig}
@@ -41,7 +42,7 @@ unfolding is_of_files
 files_are_no_patterns is = subst is_of_files is tt
 
 -- there is no jail to test
-pub tree_cause : (asks : Asks) (old new : Standing) (status : ToolStatus) → HasTreeCause asks.regex old new status → HasCause asks old new status
+pub tree_cause : (asks : Asks) (old new : Standing) (status : ToolStatus) → HasTreeCause (target_for asks) old new status → HasCause asks old new status
 tree_cause asks old new Done cause = absurd cause
 tree_cause asks old new Usage cause = absurd cause
 tree_cause asks old new FileFault cause = cause
@@ -91,22 +92,22 @@ log_cause asks old mid built new TooLarge opened builds cause = absurd cause
 log_cause asks old mid built new (PatternRefused place kind) opened builds cause = absurd cause
 log_cause asks old mid built new NoMemory opened builds cause = tt
 
--- the report is that of the words
-pub reported : (asks : Asks) (jail : JailDef) (old mid built : Standing) (counts : Counts) (now at : ℕ) (text : List ℕ) → IsOpened old mid → IsBuilt mid built → IsDefined old.shelf asks jail
-    → first_fault jail ≡ None → at ≡ min now latest_reading → IsCounted built.shelf jail at asks.log counts → text ≡ report jail counts → IsReport old.shelf asks now text
-reported asks jail old mid built counts now at text opened builds defined none clock counted is = record {
+-- what is said is what the words ask for
+pub reported : (asks : Asks) (jail : JailDef) (old mid built : Standing) (results : Results) (now at : ℕ) (text : List ℕ) → IsOpened old mid → IsBuilt mid built → IsDefined old.shelf asks jail
+    → first_fault jail ≡ None → at ≡ min now latest_reading → IsOfLog built.shelf jail asks at results → text ≡ output asks.shows jail results → IsOutput old.shelf asks now text
+reported asks jail old mid built results now at text opened builds defined none clock of_log is = record {
   jail = jail;
   defined = defined;
   none = none;
-  counts = counts;
-  counted = subst (λ n. IsCounted old.shelf jail n asks.log counts) clock
-      (subst (λ (shelf : Option Shelf). IsCounted shelf jail at asks.log counts) (builds.leaves.shelf ∙ opened.leaves.shelf) counted);
+  results = results;
+  of_log = subst (λ n. IsOfLog old.shelf jail asks n results) clock
+      (subst (λ (shelf : Option Shelf). IsOfLog shelf jail asks at results) (builds.leaves.shelf ∙ opened.leaves.shelf) of_log);
   is = is;
 }
 
 -- there is a count for each pattern
-pub counts_for_fail : (shelf : Option Shelf) (jail : JailDef) (now : ℕ) (log : List ℕ) (counts : Counts) → IsCounted shelf jail now log counts → length counts.fail ≡ length jail.fail
-counts_for_fail shelf jail now log counts counted = ap (λ (c : Counts). length c.fail) counted.counts_are ∙ length-decided_from by_fail 1 jail.fail _
+pub counts_for_fail : (shelf : Option Shelf) (jail : JailDef) (asks : Asks) (now : ℕ) (results : Results) → IsOfLog shelf jail asks now results → length results.counts.fail ≡ length jail.fail
+counts_for_fail shelf jail asks now results of_log = ap (λ (c : Counts). length c.fail) of_log.are.counts ∙ length-decided_from by_fail 1 jail.fail _
 
-pub counts_for_ignore : (shelf : Option Shelf) (jail : JailDef) (now : ℕ) (log : List ℕ) (counts : Counts) → IsCounted shelf jail now log counts → length counts.ignore_lines ≡ length jail.ignore_lines
-counts_for_ignore shelf jail now log counts counted = ap (λ (c : Counts). length c.ignore_lines) counted.counts_are ∙ length-decided_from by_ignore 1 jail.ignore_lines _
+pub counts_for_ignore : (shelf : Option Shelf) (jail : JailDef) (asks : Asks) (now : ℕ) (results : Results) → IsOfLog shelf jail asks now results → length results.counts.ignore_lines ≡ length jail.ignore_lines
+counts_for_ignore shelf jail asks now results of_log = ap (λ (c : Counts). length c.ignore_lines) of_log.are.counts ∙ length-decided_from by_ignore 1 jail.ignore_lines _

@@ -11,7 +11,7 @@ use Rattle.f2b_world.specs.Trees.{IsTreeOf}
 use Rattle.regex_tool.specs.Checks.{IsFew}
 use Rattle.regex_tool.specs.Definitions.{IsBase, IsJailOf, pattern_jail}
 use Rattle.regex_tool.specs.Runs.{HasTreeCause, IsJailFail}
-use Rattle.regex_tool.specs.Targets.{Target, target_of}
+use Rattle.regex_tool.specs.Targets.{Target}
 use Rattle.regex_tool.specs.declared.status.ToolStatus.{ToolStatus}
 use Rattle.regex_tool.specs.declared.status.ToolStatus.TheVariants.{Done, Usage, FileFault, ConfRefused, SinkFault, TooLarge, PatternRefused, NoMemory}
 
@@ -42,19 +42,19 @@ base_of_filter shelf regex named target tree jail some files is =
     subst (λ (t : Option Target). IsBase shelf regex t jail) some (record { tree = tree; files = files; jail_is = is })
 
 -- why a filter has no jail
-pub no_jail : (regex : List ℕ) (old new : Standing) (target : Target) (tree : Tree) (status : ToolStatus) → Some target ≡ target_of regex
-    → IfSome old.shelf (IsTreeOf target.dir (IsATree tree)) → IsJailFail target tree status → HasTreeCause regex old new status
-no_jail regex old new target tree Done some files cause = absurd cause
-no_jail regex old new target tree Usage some files cause = absurd cause
-no_jail regex old new target tree FileFault some files cause = absurd cause
-no_jail regex old new target tree (ConfRefused error) some files cause =
-    record { target = target; named = sym some; tree = tree; files = files; refused = cause }
-no_jail regex old new target tree SinkFault some files cause = absurd cause
-no_jail regex old new target tree TooLarge some files cause = absurd cause
-no_jail regex old new target tree (PatternRefused place kind) some files cause = absurd cause
-no_jail regex old new target tree NoMemory some files cause = tt
+pub no_jail : (named : Option Target) (old new : Standing) (target : Target) (tree : Tree) (status : ToolStatus) → Some target ≡ named
+    → IfSome old.shelf (IsTreeOf target.dir (IsATree tree)) → IsJailFail target tree status → HasTreeCause named old new status
+no_jail named old new target tree Done some files cause = absurd cause
+no_jail named old new target tree Usage some files cause = absurd cause
+no_jail named old new target tree FileFault some files cause = absurd cause
+no_jail named old new target tree (ConfRefused error) some files cause =
+    record { target = target; is = sym some; tree = tree; files = files; refused = cause }
+no_jail named old new target tree SinkFault some files cause = absurd cause
+no_jail named old new target tree TooLarge some files cause = absurd cause
+no_jail named old new target tree (PatternRefused place kind) some files cause = absurd cause
+no_jail named old new target tree NoMemory some files cause = tt
 
 -- its directory is too large
-pub too_large : (regex : List ℕ) (old new : Standing) (target : Target) → Some target ≡ target_of regex → IfSome old.shelf (IsTreeOf target.dir TreeTooLarge)
-    → HasTreeCause regex old new TooLarge
-too_large regex old new target some answer = record { target = target; named = sym some; answer = answer }
+pub too_large : (named : Option Target) (old new : Standing) (target : Target) → Some target ≡ named → IfSome old.shelf (IsTreeOf target.dir TreeTooLarge)
+    → HasTreeCause named old new TooLarge
+too_large named old new target some answer = record { target = target; is = sym some; answer = answer }

@@ -1,5 +1,5 @@
 -- Which patterns are refused before any is built.
-use Rattle.std.specs.Prelude.{◌≡◌, ◌<◌, ◌^◌, ℕ, ◌+◌, ℤ, pos, nat_lt, Bool, List, [], ◌∷◌, length, Option, None, Some, option_map, if◌then◌else◌}
+use Rattle.std.specs.Prelude.{◌≡◌, ◌<◌, ◌^◌, ℕ, ◌+◌, nat_lt, Bool, List, [], ◌∷◌, length, Option, None, Some, option_map, if◌then◌else◌}
 use Rattle.std.specs.Option.{option_or}
 use Rattle.f2b_base.specs.declared.jail.JailDef.{JailDef}
 use Rattle.f2b_base.specs.declared.jail.DateSpec.{DateSpec}
@@ -8,6 +8,7 @@ use Rattle.date_words.specs.Directives.{is_date_pattern}
 use Rattle.host_ident.specs.Expanded.{hosts_in}
 use Rattle.filter_regex.specs.declared.error.PatternPlace.{PatternPlace}
 use Rattle.filter_regex.specs.declared.error.PatternPlace.TheVariants.{Date, Pref, Fail, Ignore}
+use Rattle.regex_tool.specs.Zones.{IsNear}
 use Rattle.regex_tool.specs.declared.checks.Refused.{Refused}
 use Rattle.regex_tool.specs.declared.kind.ToolKind.{ToolKind}
 use Rattle.regex_tool.specs.declared.kind.ToolKind.TheVariants.{TooLong, BadDate, NoHost, TwoHosts}
@@ -64,7 +65,7 @@ pub record IsFew (jail : JailDef) : Type 0 where
   pub fail : length jail.fail < 2 ^ 32
   pub ignore_lines : length jail.ignore_lines < 2 ^ 32
 
--- and the zone of UTC
+-- and a zone less than a day away from UTC
 pub record IsTestable (jail : JailDef) : Type 0 where
-  pub zone : jail.zone ≡ pos 0
+  pub zone : IsNear jail.zone
   pub few : IsFew jail

@@ -15,22 +15,22 @@ use Rattle.jail_conf.specs.Conf.{conf}
 use Rattle.jail_conf.specs.Dates.{anchor}
 use Rattle.jail_conf.specs.declared.settings.Settings.{Settings}
 use Rattle.regex_tool.specs.Asks.{Asks}
-use Rattle.regex_tool.specs.Targets.{Target, target_of}
+use Rattle.regex_tool.specs.Targets.{Target, target_in}
 
 -- ---- of a pattern
 
 abbrev pub no_rule : BanRule
 no_rule = record { base = pos 1; increment = false; factor = 1000; multipliers = []; maxtime = 1; rndtime = 0 }
 
--- a jail with this one pattern of failures
-abbrev pub pattern_jail : List ℕ → JailDef
-pattern_jail regex = record {
+-- a jail with these patterns of failures
+abbrev pub plain_jail : List (List ℕ) → JailDef
+plain_jail patterns = record {
   name = codes "regex";
   watches = [];
   zone = pos 0;
   date = Default;
   pref = None;
-  fail = regex ∷ [];
+  fail = patterns;
   ignore_lines = [];
   ignore = [];
   findtime = 1;
@@ -40,31 +40,41 @@ pattern_jail regex = record {
   actions = [];
 }
 
+-- a jail with this one
+abbrev pub pattern_jail : List ℕ → JailDef
+pattern_jail regex = plain_jail (regex ∷ [])
+
 -- ---- of a filter
 
+abbrev pub option_text : Option (List ℕ) → List ℕ
+option_text None = []
+option_text (Some options) = codes "[" ++ options
+
 -- the jail of a filter, in four lines of a file
-abbrev pub jail_text : List ℕ → List ℕ
-jail_text name = codes "[" ++ name ++ codes "]\nenabled = true\nignoreself = false\nfilter = " ++ name ++ codes "\n"
+abbrev pub jail_text : Target → List ℕ
+jail_text target =
+    codes "[" ++ target.name ++ codes "]\nenabled = true\nignoreself = false\nfilter = " ++ target.name ++ option_text target.options ++ codes "\n"
 
 abbrev pub is_of_filters : TreeFile → Bool
 is_of_filters file = starts_with nat_eq file.path (codes "filter.d/")
 
-abbrev pub jail_file : List ℕ → TreeFile
-jail_file name = record { path = codes "jail.conf"; content = jail_text name }
+abbrev pub jail_file : Target → TreeFile
+jail_file target = record { path = codes "jail.conf"; content = jail_text target }
 
 -- the files of filters, and that jail
-unfoldable pub filter_tree : List ℕ → Tree → Tree
-filter_tree name tree = record { files = filter is_of_filters tree.files ++ jail_file name ∷ [] }
+unfoldable pub filter_tree : Target → Tree → Tree
+filter_tree target tree = record { files = filter is_of_filters tree.files ++ jail_file target ∷ [] }
 
-abbrev pub first_of : List JailDef → Option JailDef
-first_of [] = None
-first_of (jail ∷ jails) = Some jail
+-- the first jail, or one without patterns where there is none
+abbrev pub first_of : List JailDef → JailDef
+first_of [] = plain_jail []
+first_of (jail ∷ jails) = jail
 
 -- the files come to this one jail
 pub record IsJailOf (target : Target) (tree : Tree) (jail : JailDef) : Type 0 where
   pub settings : Settings
-  pub accepted : conf (filter_tree target.name tree) ≡ Ok settings
-  pub first : first_of settings.defs.jails ≡ Some jail
+  pub accepted : conf (filter_tree target tree) ≡ Ok settings
+  pub first : jail ≡ first_of settings.defs.jails
 
 -- those of the filter's directory do
 pub record IsOfFilter (shelf : Option Shelf) (target : Target) (jail : JailDef) : Type 0 where
@@ -92,9 +102,13 @@ abbrev pub lines_or : Option (List ℕ) → List (List ℕ) → List (List ℕ)
 lines_or None lines = lines
 lines_or (Some text) lines = text ∷ []
 
--- dates without a zone are those of UTC, no address is left out, and patterns of the words stand in place of the jail's
+-- dates without a zone are those of the words' zone, no address is left out, and patterns of the words stand in place of the jail's
 abbrev pub with_words : Asks → JailDef → JailDef
-with_words asks jail = record jail { zone = pos 0; date = date_or asks.date jail.date; ignore_lines = lines_or asks.ignore jail.ignore_lines; ignore = [] }
+with_words asks jail = record jail { zone = asks.zone; date = date_or asks.date jail.date; ignore_lines = lines_or asks.ignore jail.ignore_lines; ignore = [] }
+
+-- the filter that the words name, if they name one
+abbrev pub target_for : Asks → Option Target
+target_for asks = target_in asks.dir asks.regex
 
 abbrev pub IsBase : Option Shelf → List ℕ → Option Target → JailDef → Type 0
 IsBase shelf regex None jail = jail ≡ pattern_jail regex
@@ -103,5 +117,5 @@ IsBase shelf regex (Some target) jail = IsOfFilter shelf target jail
 -- the jail that the words ask to test
 pub record IsDefined (shelf : Option Shelf) (asks : Asks) (jail : JailDef) : Type 0 where
   pub base : JailDef
-  pub is_base : IsBase shelf asks.regex (target_of asks.regex) base
+  pub is_base : IsBase shelf asks.regex (target_for asks) base
   pub is : jail ≡ with_words asks base

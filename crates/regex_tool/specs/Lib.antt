@@ -4,8 +4,12 @@ pub mod Checks
 pub mod Counts
 pub mod Definitions
 pub mod Logs
+pub mod Outputs
 pub mod Readings
 pub mod Refusals
 pub mod Report
+pub mod Results
 pub mod Runs
+pub mod Sections
 pub mod Targets
+pub mod Zones

@@ -1,17 +1,12 @@
 -- The lines of a log, and what a filter finds in them.
-use Rattle.std.specs.Prelude.{◌≡◌, ℕ, List, [], ◌∷◌, ◌++◌, map}
-use Rattle.f2b_base.specs.declared.jail.JailDef.{JailDef}
+use Rattle.std.specs.Prelude.{ℕ, List, [], ◌∷◌, ◌++◌, map}
 use Rattle.filter_regex.specs.Findings.{finding}
-use Rattle.filter_regex.specs.Rules.{Rules, rules_of}
+use Rattle.filter_regex.specs.Rules.{Rules}
 use Rattle.filter_regex.specs.declared.finding.Finding.{Finding}
 use Rattle.filter_regex.specs.declared.finding.Finding.TheVariants.{Missed}
-use Rattle.log_follow.specs.Carried.{Carries}
 use Rattle.log_follow.specs.Lines.{line_of, lines_of, rest_of}
 use Rattle.log_follow.specs.declared.line.Line.{Line}
 use Rattle.log_follow.specs.declared.line.Line.TheVariants.{Whole, Long}
-use Rattle.regex_tool.specs.Counts.{counts_of}
-use Rattle.regex_tool.specs.declared.counts.Counts.{Counts}
-use Rattle.regex_tool.specs.declared.log_test.LogTest.{LogTest}
 
 -- how many seconds back a failure counts: a hundred years
 abbrev pub tested_time : ℕ
@@ -33,14 +28,3 @@ last_line (byte ∷ rest) = line_of (byte ∷ rest) ∷ []
 -- all lines of a log, also a last one without LF
 unfoldable pub log_lines : List ℕ → List Line
 log_lines bytes = lines_of bytes ++ last_line (rest_of bytes)
-
--- what was read of a log is these bytes
-pub record HasRead (jail : JailDef) (now : ℕ) (test : LogTest) (seen : List ℕ) : Type 0 where
-  pub rules : test.searcher ≡ rules_of jail
-  pub now_is : test.now ≡ now
-  pub carry : Carries test.carry seen
-  pub counts : test.counts ≡ counts_of jail (findings_of (rules_of jail) now (lines_of seen))
-
--- lines with these findings were counted behind others
-abbrev pub AddsFindings : Counts → List Finding → Counts → Type 0
-AddsFindings old more new = (jail : JailDef) (findings : List Finding) → old ≡ counts_of jail findings → new ≡ counts_of jail (findings ++ more)

@@ -18,43 +18,43 @@ use Rattle.jail_conf.specs.declared.fail.Fail.TheVariants as fail
 use Rattle.regex_tool.specs.Asks.{Asks, asks_of}
 use Rattle.regex_tool.specs.Builds.{IsRefusedFor}
 use Rattle.regex_tool.specs.Checks.{first_fault}
-use Rattle.regex_tool.specs.Definitions.{IsDefined, filter_tree}
-use Rattle.regex_tool.specs.Readings.{IsCounted}
+use Rattle.regex_tool.specs.Definitions.{IsDefined, filter_tree, target_for}
+use Rattle.regex_tool.specs.Outputs.{output}
+use Rattle.regex_tool.specs.Readings.{IsOfLog}
 use Rattle.regex_tool.specs.Refusals.{refusal_line}
-use Rattle.regex_tool.specs.Report.{report}
-use Rattle.regex_tool.specs.Targets.{Target, target_of, name_if}
-use Rattle.regex_tool.specs.declared.counts.Counts.{Counts}
+use Rattle.regex_tool.specs.Targets.{Target, name_if}
 use Rattle.regex_tool.specs.declared.kind.ToolKind.{ToolKind}
+use Rattle.regex_tool.specs.declared.results.Results.{Results}
 use Rattle.regex_tool.specs.declared.status.ToolStatus.{ToolStatus}
 use Rattle.regex_tool.specs.declared.status.ToolStatus.TheVariants.{Done, Usage, FileFault, ConfRefused, SinkFault, TooLarge, PatternRefused, NoMemory}
 
 -- ---- the jail that is asked for
 
 -- the filter's files come to this refusal
-pub record IsConfRefused (shelf : Option Shelf) (regex : List ℕ) (error : ConfError) : Type 0 where
+pub record IsConfRefused (shelf : Option Shelf) (named : Option Target) (error : ConfError) : Type 0 where
   pub target : Target
-  pub named : target_of regex ≡ Some target
+  pub is : named ≡ Some target
   pub tree : Tree
   pub files : IfSome shelf (IsTreeOf target.dir (IsATree tree))
-  pub refused : conf (filter_tree target.name tree) ≡ Err error
+  pub refused : conf (filter_tree target tree) ≡ Err error
 
 -- the directory of the filter has too many files, or too many bytes in them
-pub record IsTooLarge (shelf : Option Shelf) (regex : List ℕ) : Type 0 where
+pub record IsTooLarge (shelf : Option Shelf) (named : Option Target) : Type 0 where
   pub target : Target
-  pub named : target_of regex ≡ Some target
+  pub is : named ≡ Some target
   pub answer : IfSome shelf (IsTreeOf target.dir TreeTooLarge)
 
 -- why there is no jail to test
-abbrev pub HasTreeCause : List ℕ → Standing → Standing → ToolStatus → Type 0
-HasTreeCause regex old new FileFault = Rose (old.faults OfFiles) (new.faults OfFiles)
-HasTreeCause regex old new (ConfRefused error) = IsConfRefused old.shelf regex error
-HasTreeCause regex old new TooLarge = IsTooLarge old.shelf regex
-HasTreeCause regex old new NoMemory = Unit {0}
-HasTreeCause regex old new _ = ⊥
+abbrev pub HasTreeCause : Option Target → Standing → Standing → ToolStatus → Type 0
+HasTreeCause named old new FileFault = Rose (old.faults OfFiles) (new.faults OfFiles)
+HasTreeCause named old new (ConfRefused error) = IsConfRefused old.shelf named error
+HasTreeCause named old new TooLarge = IsTooLarge old.shelf named
+HasTreeCause named old new NoMemory = Unit {0}
+HasTreeCause named old new _ = ⊥
 
 -- what the files of a filter come to, or why to nothing
 abbrev pub IsJailFail : Target → Tree → ToolStatus → Type 0
-IsJailFail target tree (ConfRefused error) = conf (filter_tree target.name tree) ≡ Err error
+IsJailFail target tree (ConfRefused error) = conf (filter_tree target tree) ≡ Err error
 IsJailFail target tree NoMemory = Unit {0}
 IsJailFail target tree _ = ⊥
 
@@ -65,14 +65,14 @@ IsConfFail fail.NoMemory status = status ≡ NoMemory
 
 -- ---- a whole test
 
--- this is the report that was asked for
-pub record IsReport (shelf : Option Shelf) (asks : Asks) (now : ℕ) (text : List ℕ) : Type 0 where
+-- this is what is to be said of the test that was asked for
+pub record IsOutput (shelf : Option Shelf) (asks : Asks) (now : ℕ) (text : List ℕ) : Type 0 where
   pub jail : JailDef
   pub defined : IsDefined shelf asks jail
   pub none : first_fault jail ≡ None
-  pub counts : Counts
-  pub counted : IsCounted shelf jail (min now latest_reading) asks.log counts
-  pub is : text ≡ report jail counts
+  pub results : Results
+  pub of_log : IsOfLog shelf jail asks (min now latest_reading) results
+  pub is : text ≡ output asks.shows jail results
 
 -- the jail that is asked for has a pattern that is refused
 pub record IsPatternRefused (asks : Asks) (old new : Standing) (place : PatternPlace) (kind : ToolKind) : Type 0 where
@@ -80,11 +80,11 @@ pub record IsPatternRefused (asks : Asks) (old new : Standing) (place : PatternP
   pub defined : IsDefined old.shelf asks jail
   pub cause : IsRefusedFor jail old new place kind
 
--- why there is no report
+-- why there is nothing to be said
 abbrev pub HasCause : Asks → Standing → Standing → ToolStatus → Type 0
 HasCause asks old new FileFault = Rose (old.faults OfFiles) (new.faults OfFiles)
-HasCause asks old new (ConfRefused error) = IsConfRefused old.shelf asks.regex error
-HasCause asks old new TooLarge = IsTooLarge old.shelf asks.regex
+HasCause asks old new (ConfRefused error) = IsConfRefused old.shelf (target_for asks) error
+HasCause asks old new TooLarge = IsTooLarge old.shelf (target_for asks)
 HasCause asks old new (PatternRefused place kind) = IsPatternRefused asks old new place kind
 HasCause asks old new NoMemory = Unit {0}
 HasCause asks old new _ = ⊥
@@ -98,10 +98,10 @@ Closes text wanted old new status =
     ((status ≡ wanted) × Called old (Say text SaidDone) new)
     ⊎ (((status ≡ SinkFault) × Called old (Say text SayFailed) new) ⊎ ((status ≡ NoMemory) × (new ≡ old)))
 
--- the report that was asked for is said
+-- what was asked for is said
 pub record Reports (shelf : Option Shelf) (asks : Asks) (now : ℕ) (old new : Standing) (status : ToolStatus) : Type 0 where
   pub text : List ℕ
-  pub report_is : IsReport shelf asks now text
+  pub output_is : IsOutput shelf asks now text
   pub closes : Closes text Done old new status
 
 -- the test is refused for a cause, and that is said
@@ -109,7 +109,7 @@ pub record Refuses (asks : Asks) (old_files new_files old new : Standing) (statu
   pub refusal : ToolStatus
   pub some : refusal ≢ NoMemory
   pub cause : HasCause asks old_files new_files refusal
-  pub closes : Closes (refusal_line (name_if (target_of asks.regex)) refusal) refusal old new status
+  pub closes : Closes (refusal_line (name_if (target_for asks)) refusal) refusal old new status
 
 -- memory was wanted, and nothing said
 abbrev pub IsWanting : (old new : Standing) → ToolStatus → Type 0

@@ -1,14 +1,16 @@
--- Which words name a filter, by its file `filter.d/NAME.conf`.
-use Rattle.std.specs.Prelude.{ℕ, ◌-◌, ◌==◌, ◌&&◌, ◌||◌, not, nat_eq, Bool, List, [], ◌∷◌, length, take, drop, Option, None, Some, option_and_then, option_map, codes, if◌then◌else◌}
-use Rattle.std.specs.List.{ends_with, suffix_len}
+-- Which words name a filter: its file `filter.d/NAME.conf`, or its name in a directory of a configuration.
+use Rattle.std.specs.Prelude.{ℕ, ◌-◌, ◌==◌, ◌&&◌, ◌||◌, not, nat_eq, nat_le, Bool, List, [], ◌∷◌, length, take, drop, Option, None, Some, option_and_then, option_copied, option_map, codes, if◌then◌else◌}
+use Rattle.std.specs.List.{after_first, before_first, ends_with, list_all, position_or_len, suffix_len}
+use Rattle.std.specs.Option.{option_or}
 use Rattle.std.specs.Str.{bytes_eq}
 use Rattle.jail_conf.specs.Jails.{is_jail_name}
 use Rattle.regex_tool.specs.declared.target.Target as code
 
--- a filter by its name, and the directory of its configuration
+-- a filter by its name, the directory of its configuration, and what stands behind the bracket that begins its options
 pub record Target : Type 0 where
   pub dir : List ℕ
   pub name : List ℕ
+  pub options : Option (List ℕ)
 
 -- how many bytes stand behind the last slash
 abbrev pub file_len : List ℕ → ℕ
@@ -48,15 +50,40 @@ abbrev pub directory_in : List ℕ → Option (List ℕ)
 directory_in path = option_and_then directory (before_ending (codes "filter.d/") path)
 
 abbrev pub target : List ℕ → List ℕ → Target
-target dir name = record { dir = dir; name = name }
+target dir name = record { dir = dir; name = name; options = None }
 
 -- the filter that a path names, if it is the file of one
 unfoldable pub target_of : List ℕ → Option Target
 target_of path = option_and_then (λ name. option_map (λ dir. target dir name) (directory_in (before_file path))) (name_in (file_in path))
 
+-- options stand in one line
+abbrev pub is_option_text : List ℕ → Bool
+is_option_text text = list_all (λ byte. nat_le 32 byte) text
+
+abbrev pub optioned : (dir name options : List ℕ) → Option Target
+optioned dir name options =
+    if is_filter_name name && is_option_text options then Some (record { dir = dir; name = name; options = Some options }) else None
+
+abbrev pub bare : (dir name : List ℕ) → Option Target
+bare dir name = if is_filter_name name then Some (target dir name) else None
+
+abbrev pub is_bracket : ℕ → Bool
+is_bracket byte = byte == 91
+
+-- the filter that a name gives, perhaps with options, in the configuration of a directory
+unfoldable pub named_target : (dir regex : List ℕ) → Option Target
+named_target dir regex =
+    if position_or_len is_bracket regex == length regex then bare dir regex
+    else optioned dir (before_first is_bracket regex) (after_first is_bracket regex)
+
+-- the filter that a word names, where a directory may be given
+abbrev pub target_in : Option (List ℕ) → List ℕ → Option Target
+target_in None regex = target_of regex
+target_in (Some dir) regex = option_or (named_target dir regex) (target_of regex)
+
 -- what the code has of it
 abbrev pub shown : code.Target → Target
-shown t = target t.dir.now t.name.now
+shown t = record { dir = t.dir.now; name = t.name.now; options = option_copied t.options }
 
 -- the name of the jail that is tested
 abbrev pub name_if : Option Target → List ℕ

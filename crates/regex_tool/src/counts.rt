@@ -22,7 +22,7 @@ pub(crate) struct Counts {
 }
 
 /// The number of the pattern of failures that matched a line.
-fn by_fail(finding: Finding) -> Option<u32>
+pub(crate) fn by_fail(finding: Finding) -> Option<u32>
     ensures { result ≡ by_fail finding }
 {
     match finding {
@@ -35,7 +35,7 @@ fn by_fail(finding: Finding) -> Option<u32>
 }
 
 /// The number of the pattern for which a line is ignored.
-fn by_ignore(finding: Finding) -> Option<u32>
+pub(crate) fn by_ignore(finding: Finding) -> Option<u32>
     ensures { result ≡ by_ignore finding }
 {
     match finding {
@@ -44,7 +44,7 @@ fn by_ignore(finding: Finding) -> Option<u32>
     }
 }
 
-fn is_missed(finding: Finding) -> bool
+pub(crate) fn is_missed(finding: Finding) -> bool
     ensures { result ≡ is_missed finding }
 {
     matches!(finding, Finding::Missed | Finding::NoDate)

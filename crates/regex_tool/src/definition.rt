@@ -1,14 +1,14 @@
 //! The jail that is tested.
-ghost use Rattle.std.specs.Prelude.{◌≡◌, ◌<◌, ◌^◌, length, Some, option_copied, IfErr, IfOk};
+ghost use Rattle.std.specs.Prelude.{◌≡◌, ◌<◌, ◌++◌, ◌^◌, length, Some, option_copied, IfErr, IfOk, OnOk};
 ghost use Rattle.regex_tool.specs.Asks.{shown};
-ghost use Rattle.regex_tool.specs.Definitions.{pattern_jail, jail_text, jail_file, is_of_filters, filter_tree, first_of, date_spec, date_or, lines_or, with_words, IsBase, IsDefined, IsJailOf};
+ghost use Rattle.regex_tool.specs.Definitions.{plain_jail, pattern_jail, option_text, jail_text, jail_file, is_of_filters, filter_tree, first_of, date_spec, date_or, lines_or, with_words, target_for, IsBase, IsDefined, IsJailOf};
 ghost use Rattle.regex_tool.specs.Checks.{IsFew, IsTestable};
 ghost use Rattle.regex_tool.specs.Readings.{IsOpened};
 ghost use Rattle.regex_tool.specs.Runs.{HasTreeCause, IsConfFail, IsJailFail};
-ghost use Rattle.regex_tool.specs.Targets.{target_of, shown as shown_target};
+ghost use Rattle.regex_tool.specs.Targets.{shown as shown_target};
 
 use crate::status::ToolStatus;
-use crate::target::{Target, target_of};
+use crate::target::{Target, target_in};
 use crate::words::Asked;
 use f2b_base::{
     BanRule, Bytes, DateSpec, JailDef, NoMemory, Plain, Seq, Text, Tree, TreeAnswer, TreeFile,
@@ -17,12 +17,10 @@ use f2b_world::Files;
 use jail_conf::{ConfFail, Fail, Settings, conf};
 use std::alloc::Global;
 
-/// A jail with this one pattern of failures.
-fn pattern_jail(alloc: Global, regex: &str) -> Result<JailDef, NoMemory>
-    ensures { IfOk result (λ jail. jail ≡ pattern_jail regex.now) }
+/// A jail with these patterns of failures.
+fn plain_jail(alloc: Global, fail: Seq<Text>) -> Result<JailDef, NoMemory>
+    ensures { IfOk result (λ jail. jail ≡ plain_jail fail) }
 {
-    let mut fail = Seq::new(alloc);
-    fail.push(Text::from_str(alloc, regex)?)?;
     Ok(JailDef {
         name: Text::from_str(alloc, "regex")?,
         watches: Seq::new(alloc),
@@ -47,24 +45,44 @@ fn pattern_jail(alloc: Global, regex: &str) -> Result<JailDef, NoMemory>
     })
 }
 
+/// A jail with this one.
+fn pattern_jail(alloc: Global, regex: &str) -> Result<JailDef, NoMemory>
+    ensures { IfOk result (λ jail. jail ≡ pattern_jail regex.now) }
+{
+    let mut fail = Seq::new(alloc);
+    fail.push(Text::from_str(alloc, regex)?)?;
+    plain_jail(alloc, fail)
+}
+
+fn push_options(text: &mut Bytes, options: Option<&str>) -> Result<(), NoMemory>
+    ensures { OnOk result (text.new ≡ text.old ++ option_text (option_copied options.entry)) }
+{
+    let Some(options) = options else {
+        return Ok(());
+    };
+    text.push_slice(b"[")?;
+    text.push_slice(options.as_bytes())
+}
+
 /// The jail of a filter, in four lines of a file.
-fn jail_text(alloc: Global, name: &str) -> Result<Bytes, NoMemory>
-    ensures { IfOk result (λ text. text ≡ jail_text name.now) }
+fn jail_text(alloc: Global, target: Target<'_>) -> Result<Bytes, NoMemory>
+    ensures { IfOk result (λ text. text ≡ jail_text (shown_target target.entry)) }
 {
     let mut text = Bytes::from_slice(alloc, b"[")?;
-    text.push_slice(name.as_bytes())?;
+    text.push_slice(target.name.as_bytes())?;
     text.push_slice(b"]\nenabled = true\nignoreself = false\nfilter = ")?;
-    text.push_slice(name.as_bytes())?;
+    text.push_slice(target.name.as_bytes())?;
+    push_options(&mut text, target.options)?;
     text.push_slice(b"\n")?;
     Ok(text)
 }
 
-fn jail_file(alloc: Global, name: &str) -> Result<TreeFile, NoMemory>
-    ensures { IfOk result (λ file. file ≡ jail_file name.now) }
+fn jail_file(alloc: Global, target: Target<'_>) -> Result<TreeFile, NoMemory>
+    ensures { IfOk result (λ file. file ≡ jail_file (shown_target target.entry)) }
 {
     Ok(TreeFile {
         path: Text::from_str(alloc, "jail.conf")?,
-        content: jail_text(alloc, name)?,
+        content: jail_text(alloc, target)?,
     })
 }
 
@@ -76,8 +94,8 @@ fn is_of_filters(file: &TreeFile) -> bool
 
 /// The files of filters, and the jail of one of them.
 #[tactic(auto, unfolding(crate::specs::Definitions::filter_tree))]
-fn filter_tree(alloc: Global, name: &str, tree: &Tree) -> Result<Tree, NoMemory>
-    ensures { IfOk result (λ own. own ≡ filter_tree name.now tree.now) }
+fn filter_tree(alloc: Global, target: Target<'_>, tree: &Tree) -> Result<Tree, NoMemory>
+    ensures { IfOk result (λ own. own ≡ filter_tree (shown_target target.entry) tree.now) }
 {
     let mut files = Seq::new(alloc);
     for file in tree.files.as_slice() {
@@ -85,18 +103,18 @@ fn filter_tree(alloc: Global, name: &str, tree: &Tree) -> Result<Tree, NoMemory>
             files.push(file.copy()?)?;
         }
     }
-    files.push(jail_file(alloc, name)?)?;
+    files.push(jail_file(alloc, target)?)?;
     Ok(Tree { files })
 }
 
-/// The first jail of a configuration. That there is none is never so, and told as want of memory.
-#[tactic(auto, using(crate::proofs::DefinitionLemmas::first_at))]
-fn only_jail(settings: &Settings) -> Result<JailDef, NoMemory>
-    ensures { IfOk result (λ jail. first_of settings.now.defs.jails ≡ Some jail) }
+/// The first jail of a configuration, or one without patterns where there is none.
+#[tactic(auto, using(crate::proofs::DefinitionLemmas::first_at, crate::proofs::DefinitionLemmas::none_at))]
+fn only_jail(alloc: Global, settings: &Settings) -> Result<JailDef, NoMemory>
+    ensures { IfOk result (λ jail. jail ≡ first_of settings.now.defs.jails) }
 {
     match settings.defs.jails.as_slice().first() {
         Some(jail) => jail.copy(),
-        None => Err(NoMemory),
+        None => plain_jail(alloc, Seq::new(alloc)),
     }
 }
 
@@ -137,14 +155,15 @@ fn lines_or(alloc: Global, given: Option<&str>, lines: Seq<Text>) -> Result<Seq<
     Ok(own)
 }
 
-/// The jail with patterns of the words in place of its own. Dates without a zone are those of UTC, and no address is left out.
+/// The jail with patterns of the words in place of its own. Dates without a zone are those of the words' zone, and no address is left
+/// out.
 fn with_words(alloc: Global, asked: &Asked<'_>, jail: JailDef) -> Result<JailDef, NoMemory>
     ensures { IfOk result (λ own. own ≡ with_words (shown asked.now) jail) }
 {
     Ok(JailDef {
         name: jail.name,
         watches: jail.watches,
-        zone: 0,
+        zone: asked.zone.seconds,
         date: date_or(alloc, asked.date, jail.date)?,
         pref: jail.pref,
         fail: jail.fail,
@@ -174,22 +193,26 @@ fn filter_jail(alloc: Global, target: Target<'_>, tree: &Tree) -> Result<JailDef
     ensures few { IfOk result IsFew }
     ensures err { IfErr result (IsJailFail (shown_target target.entry) tree.now) }
 {
-    let own = filter_tree(alloc, target.name, tree)?;
+    let own = filter_tree(alloc, target, tree)?;
     match conf(alloc, &own) {
-        Ok(settings) => Ok(only_jail(&settings)?),
+        Ok(settings) => Ok(only_jail(alloc, &settings)?),
         Err(fail) => Err(conf_fail(fail)),
     }
 }
 
 /// The jail of a pattern, or of the filter that its path names.
-fn base_jail<F: Files>(alloc: Global, regex: &str, files: &mut F) -> Result<JailDef, ToolStatus>
-    ensures base { IfOk result (IsBase (F.stands files.old).shelf regex.now (target_of regex.now)) }
+fn base_jail<F: Files>(
+    alloc: Global,
+    asked: &Asked<'_>,
+    files: &mut F,
+) -> Result<JailDef, ToolStatus>
+    ensures base { IfOk result (IsBase (F.stands files.old).shelf (shown asked.now).regex (target_for (shown asked.now))) }
     ensures few { IfOk result IsFew }
-    ensures cause { IfErr result (HasTreeCause regex.now (F.stands files.old) (F.stands files.new)) }
+    ensures cause { IfErr result (HasTreeCause (target_for (shown asked.now)) (F.stands files.old) (F.stands files.new)) }
     ensures opened { IsOpened (F.stands files.old) (F.stands files.new) }
 {
-    let Some(target) = target_of(regex) else {
-        return Ok(pattern_jail(alloc, regex)?);
+    let Some(target) = target_in(asked.dir, asked.regex) else {
+        return Ok(pattern_jail(alloc, asked.regex)?);
     };
     match files.tree(target.dir) {
         TreeAnswer::Tree(tree) => filter_jail(alloc, target, &tree),
@@ -207,9 +230,9 @@ pub(crate) fn definition<F: Files>(
 ) -> Result<JailDef, ToolStatus>
     ensures defined { IfOk result (IsDefined (F.stands files.old).shelf (shown asked.now)) }
     ensures testable { IfOk result IsTestable }
-    ensures cause { IfErr result (HasTreeCause asked.now.regex.now (F.stands files.old) (F.stands files.new)) }
+    ensures cause { IfErr result (HasTreeCause (target_for (shown asked.now)) (F.stands files.old) (F.stands files.new)) }
     ensures opened { IsOpened (F.stands files.old) (F.stands files.new) }
 {
-    let base = base_jail(alloc, asked.regex, files)?;
+    let base = base_jail(alloc, asked, files)?;
     Ok(with_words(alloc, asked, base)?)
 }

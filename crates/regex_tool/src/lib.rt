@@ -1,8 +1,8 @@
 //! The pattern tester: which lines of a log a pattern or a filter finds.
 //!
 //! A caller hands in words, the time, files and a sink. One text is said: the report of a test, or why there is none. A line counts as it
-//! does in the server, by the same filter. A log is read piece by piece, so a test takes as little memory as its longest line. Nothing here
-//! writes a file, and nothing knows where standard output is.
+//! does in the server, by the same filter. A log is read piece by piece, so a test takes as little memory as its longest line, and
+//! that of the lines which the words want to be shown. Nothing here writes a file, and nothing knows where standard output is.
 #![tactic(auto)]
 
 mod build;
@@ -14,12 +14,18 @@ mod kind;
 mod log;
 mod log_file;
 mod log_test;
+mod output;
 mod refusal;
 mod report;
+mod results;
+mod section;
+mod sections;
+mod shows;
 mod status;
 mod target;
 mod tool;
 mod words;
+mod zone;
 
 pub use kind::ToolKind;
 pub use status::ToolStatus;

@@ -3,11 +3,13 @@ ghost use Rattle.std.specs.Prelude.{◌≡◌, ◌<◌, ◌++◌, ◌∷◌, ◌
 ghost use Rattle.f2b_base.specs.declared.jail.JailDef.{JailDef};
 ghost use Rattle.filter_regex.specs.Rules.{rules_of};
 ghost use Rattle.log_follow.specs.Lines.{line_of};
-ghost use Rattle.regex_tool.specs.Counts.{counts_of};
-ghost use Rattle.regex_tool.specs.Logs.{HasRead, AddsFindings, finding_of, findings_of, log_lines};
+ghost use Rattle.regex_tool.specs.Logs.{finding_of, log_lines};
+ghost use Rattle.regex_tool.specs.Results.{Adds, AreResults, HasRead};
+ghost use Rattle.regex_tool.specs.declared.shows.Shows.{Shows};
 
-use crate::counts::Counts;
 use crate::log_test::LogTest;
+use crate::results::Results;
+use crate::shows::Shows;
 use f2b_base::{JailDef, NoMemory, Seq};
 use filter_regex::{Filter, Finding, Searcher};
 use ignore_set::IgnoreSet;
@@ -35,22 +37,23 @@ fn found(
     }
 }
 
-/// Counts what the filter finds in some lines.
-fn count_lines(
+/// Counts and shows what the filter finds in some lines.
+fn take_lines(
+    alloc: Global,
     searcher: &mut Searcher<'_>,
     nobody: &IgnoreSet,
     lines: &[Line],
     now: u64,
-    counts: &mut Counts,
+    results: &mut Results,
 ) -> Result<(), NoMemory>
     requires nobody { nobody.now ≡ [] }
     requires now { now < 2 ^ 40 }
-    ensures counts { OnOk result (AddsFindings counts.old (findings_of searcher.old now lines.now) counts.new) }
+    ensures results { OnOk result (Adds searcher.old now results.old lines.now results.new) }
     ensures same { searcher.new ≡ searcher.old }
 {
     for line in lines {
         let finding = found(searcher, nobody, line, now)?;
-        counts.add(finding)?;
+        results.add(alloc, line, finding)?;
     }
     Ok(())
 }
@@ -61,11 +64,12 @@ impl<'f> LogTest<'f> {
         alloc: Global,
         jail: &JailDef,
         filter: &'f Filter,
+        shows: Shows,
         now: u64,
     ) -> Result<LogTest<'f>, NoMemory>
         requires built { filter.now ≡ rules_of jail.now }
         requires now { now < 2 ^ 40 }
-        ensures { IfOk result (λ test. HasRead jail.now now test []) }
+        ensures { IfOk result (λ test. HasRead jail.now shows now test []) }
     {
         Ok(LogTest {
             alloc,
@@ -73,39 +77,40 @@ impl<'f> LogTest<'f> {
             nobody: IgnoreSet::new(alloc, &Seq::new(alloc))?,
             now,
             carry: Carry::new(alloc),
-            counts: Counts::new(alloc, jail)?,
+            results: Results::new(alloc, jail, shows)?,
         })
     }
 
     /// Takes the next bytes of the log.
     pub(crate) fn feed(&mut self, bytes: &[u8]) -> Result<(), NoMemory>
-        ensures { OnOk result ((jail : JailDef) (now : ℕ) (seen : List ℕ) → HasRead jail now self.old seen → HasRead jail now self.new (seen ++ bytes.now)) }
+        ensures { OnOk result ((jail : JailDef) (shows : Shows) (now : ℕ) (seen : List ℕ) → HasRead jail shows now self.old seen → HasRead jail shows now self.new (seen ++ bytes.now)) }
     {
         if self.carry.len().checked_add(bytes.len() as u64).is_none() {
             return Err(NoMemory);
         }
         let lines = self.carry.take(self.alloc, bytes)?;
-        count_lines(
+        take_lines(
+            self.alloc,
             &mut self.searcher,
             &self.nobody,
             lines.as_slice(),
             self.now,
-            &mut self.counts,
+            &mut self.results,
         )
     }
 
-    /// Counts one line more.
+    /// Counts one line more, and shows it.
     fn add(&mut self, line: &Line) -> Result<(), NoMemory>
-        ensures { OnOk result (AddsFindings self.old.counts (finding_of self.old.searcher self.old.now line.now ∷ []) self.new.counts) }
+        ensures { OnOk result (Adds self.old.searcher self.old.now self.old.results (line.now ∷ []) self.new.results) }
     {
         let finding = found(&mut self.searcher, &self.nobody, line, self.now)?;
-        self.counts.add(finding)
+        self.results.add(self.alloc, line, finding)
     }
 
     /// Counts the rest, if there is one: without LF it is a line all the same.
     fn end(&mut self) -> Result<(), NoMemory>
-        ensures { OnOk result ((jail : JailDef) (now : ℕ) (seen : List ℕ) → HasRead jail now self.old seen →
-            self.new.counts ≡ counts_of jail (findings_of (rules_of jail) now (log_lines seen))) }
+        ensures { OnOk result ((jail : JailDef) (shows : Shows) (now : ℕ) (seen : List ℕ) → HasRead jail shows now self.old seen →
+            AreResults jail shows now (log_lines seen) self.new.results) }
     {
         if self.carry.len() == 0 {
             return Ok(());
@@ -115,23 +120,23 @@ impl<'f> LogTest<'f> {
     }
 
     /// What came of all lines.
-    pub(crate) fn finish(self) -> Result<Counts, NoMemory>
-        ensures { IfOk result (λ counts. (jail : JailDef) (now : ℕ) (seen : List ℕ) → HasRead jail now self.entry seen →
-            counts ≡ counts_of jail (findings_of (rules_of jail) now (log_lines seen))) }
+    pub(crate) fn finish(self) -> Result<Results, NoMemory>
+        ensures { IfOk result (λ results. (jail : JailDef) (shows : Shows) (now : ℕ) (seen : List ℕ) → HasRead jail shows now self.entry seen →
+            AreResults jail shows now (log_lines seen) results) }
     {
         let mut test = self;
         test.end()?;
-        Ok(test.counts)
+        Ok(test.results)
     }
 
     /// What comes of one line, where nothing was read before.
-    pub(crate) fn one_line(self, line: &str) -> Result<Counts, NoMemory>
-        ensures { IfOk result (λ counts. (jail : JailDef) (now : ℕ) → HasRead jail now self.entry [] →
-            counts ≡ counts_of jail (findings_of (rules_of jail) now (line_of line.now ∷ []))) }
+    pub(crate) fn one_line(self, line: &str) -> Result<Results, NoMemory>
+        ensures { IfOk result (λ results. (jail : JailDef) (shows : Shows) (now : ℕ) → HasRead jail shows now self.entry [] →
+            AreResults jail shows now (line_of line.now ∷ []) results) }
     {
         let mut test = self;
         let line = Line::of(test.alloc, line.as_bytes())?;
         test.add(&line)?;
-        Ok(test.counts)
+        Ok(test.results)
     }
 }

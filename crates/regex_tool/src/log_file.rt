@@ -1,11 +1,13 @@
 //! The log that is tested, as a file.
 ghost use Rattle.std.specs.Prelude.{◌≡◌, ◌<◌, ◌+◌, ◌^◌, IfErr, IfOk};
 ghost use Rattle.filter_regex.specs.Rules.{rules_of};
-ghost use Rattle.regex_tool.specs.Readings.{HasLogCause, IsCounted, IsLogRead, IsOpened};
+ghost use Rattle.regex_tool.specs.Asks.{shown};
+ghost use Rattle.regex_tool.specs.Readings.{HasLogCause, IsLogRead, IsOfLog, IsOpened};
 
-use crate::counts::Counts;
 use crate::log_test::LogTest;
+use crate::results::Results;
 use crate::status::ToolStatus;
+use crate::words::Asked;
 use f2b_base::{JailDef, LOOK_BYTES, NoMemory};
 use f2b_world::{FilePiece, Files};
 use filter_regex::Filter;
@@ -42,25 +44,25 @@ fn read_log<F: Files>(files: &mut F, path: &str, test: &mut LogTest<'_>) -> Resu
 }
 
 /// What comes of the lines of a log, or of its path as one line where there is no such file.
-pub(crate) fn counts<F: Files>(
+pub(crate) fn results<F: Files>(
     alloc: Global,
     files: &mut F,
     jail: &JailDef,
     filter: &Filter,
-    log: &str,
+    asked: &Asked<'_>,
     now: u64,
-) -> Result<Counts, ToolStatus>
+) -> Result<Results, ToolStatus>
     requires built { filter.now ≡ rules_of jail.now }
     requires now { now < 2 ^ 40 }
-    ensures counted { IfOk result (IsCounted (F.stands files.old).shelf jail.now now log.now) }
+    ensures results { IfOk result (IsOfLog (F.stands files.old).shelf jail.now (shown asked.now) now) }
     ensures cause { IfErr result (HasLogCause (F.stands files.old) (F.stands files.new)) }
     ensures opened { IsOpened (F.stands files.old) (F.stands files.new) }
 {
-    let mut test = LogTest::new(alloc, jail, filter, now)?;
-    if read_log(files, log, &mut test)? {
-        let counts = test.finish()?;
-        return Ok(counts);
+    let mut test = LogTest::new(alloc, jail, filter, asked.shows, now)?;
+    if read_log(files, asked.log, &mut test)? {
+        let results = test.finish()?;
+        return Ok(results);
     }
-    let counts = test.one_line(log)?;
-    Ok(counts)
+    let results = test.one_line(asked.log)?;
+    Ok(results)
 }

@@ -1,7 +1,7 @@
 //! `LogTest`, which stands for what was read of a log.
 ghost use Rattle.std.specs.Prelude.{◌≡◌, ◌<◌, ◌^◌, []};
 
-use crate::counts::Counts;
+use crate::results::Results;
 use filter_regex::Searcher;
 use ignore_set::IgnoreSet;
 use log_follow::Carry;
@@ -18,7 +18,7 @@ pub(crate) struct LogTest<'f> {
     pub now: u64,
     /// What came after the last LF.
     pub carry: Carry,
-    pub counts: Counts,
+    pub results: Results,
     ghost nobody_is: { nobody ≡ [] },
     ghost now_fits: { now < 2 ^ 40 },
 }

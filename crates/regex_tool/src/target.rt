@@ -1,14 +1,16 @@
-//! Filters that are named by their files.
+//! Filters that are named by their files, or by their names.
 ghost use Rattle.std.specs.Prelude.{◌≡◌, ◌≢◌, ℕ, List, ◌++◌, option_copied, option_map, IfSome, IfNone};
 ghost use Rattle.std.specs.List.{list_all};
 ghost use Rattle.jail_conf.specs.Jails.{is_name_byte, is_jail_name};
-ghost use Rattle.regex_tool.specs.Targets.{before_file, file_in, before_ending, is_filter_name, name_in, or_root, directory, directory_in, target_of, shown, name_if};
+ghost use Rattle.regex_tool.specs.Targets.{before_file, file_in, before_ending, is_filter_name, name_in, or_root, directory, directory_in, target_of, shown, name_if, is_option_text, optioned, bare, named_target, target_in};
 
 /// A filter by its name, and the directory of its configuration.
 #[derive(Clone, Copy)]
 pub(crate) struct Target<'w> {
     pub dir: &'w str,
     pub name: &'w str,
+    /// What stands behind the bracket that begins its options.
+    pub options: Option<&'w str>,
 }
 
 /// Whether the name of a jail may have the byte.
@@ -104,14 +106,74 @@ pub(crate) fn target_of(path: &str) -> Option<Target<'_>>
     let (before, file) = cut_file(path);
     let name = name_in(file)?;
     let dir = directory_in(before)?;
-    Some(Target { dir, name })
+    Some(Target {
+        dir,
+        name,
+        options: None,
+    })
+}
+
+/// Whether options stand in one line.
+fn is_option_text(text: &str) -> bool
+    ensures { result ≡ is_option_text text.now }
+{
+    text.as_bytes().iter().all(|byte| 32 <= *byte)
+}
+
+fn optioned<'w>(dir: &'w str, name: &'w str, options: &'w str) -> Option<Target<'w>>
+    ensures { option_map shown result ≡ optioned dir.entry.now name.entry.now options.entry.now }
+{
+    if !(is_filter_name(name) && is_option_text(options)) {
+        return None;
+    }
+    Some(Target {
+        dir,
+        name,
+        options: Some(options),
+    })
+}
+
+fn bare<'w>(dir: &'w str, name: &'w str) -> Option<Target<'w>>
+    ensures { option_map shown result ≡ bare dir.entry.now name.entry.now }
+{
+    if !is_filter_name(name) {
+        return None;
+    }
+    Some(Target {
+        dir,
+        name,
+        options: None,
+    })
+}
+
+/// The filter that a name gives, perhaps with options, in the configuration of a directory.
+#[tactic(auto, unfolding(crate::specs::Targets::named_target))]
+fn named_target<'w>(dir: &'w str, regex: &'w str) -> Option<Target<'w>>
+    ensures { option_map shown result ≡ named_target dir.entry.now regex.entry.now }
+{
+    match regex.split_once('[') {
+        Some((name, options)) => optioned(dir, name, options),
+        None => bare(dir, regex),
+    }
+}
+
+/// The filter that a word names, where a directory may be given.
+pub(crate) fn target_in<'w>(dir: Option<&'w str>, regex: &'w str) -> Option<Target<'w>>
+    ensures { option_map shown result ≡ target_in (option_copied dir.entry) regex.entry.now }
+{
+    if let Some(dir) = dir {
+        if let Some(target) = named_target(dir, regex) {
+            return Some(target);
+        }
+    }
+    target_of(regex)
 }
 
 /// The name of the jail that is tested.
-pub(crate) fn jail_name(regex: &str) -> &str
-    ensures { result.now ≡ name_if (target_of regex.now) }
+pub(crate) fn jail_name<'w>(dir: Option<&'w str>, regex: &'w str) -> &'w str
+    ensures { result.now ≡ name_if (target_in (option_copied dir.entry) regex.entry.now) }
 {
-    match target_of(regex) {
+    match target_in(dir, regex) {
         Some(target) => target.name,
         None => "regex",
     }

@@ -1,10 +1,12 @@
 //! The words that the tester is called with.
-ghost use Rattle.std.specs.Prelude.{◌≡◌, map, string_bytes, IfOk};
-ghost use Rattle.clap.specs.Words.{app_of};
-ghost use Rattle.regex_tool.specs.Asks.{tool, Answers};
+ghost use Rattle.std.specs.Prelude.{◌≡◌, false, map, option_copied, option_map, string_bytes, IfOk};
+ghost use Rattle.clap.specs.Words.{app_of, found_of, first_value, rule_of};
+ghost use Rattle.regex_tool.specs.Asks.{asks_by, bare_tool, flag, form_of, is_set, mark, shows_of, shown, tool, with_flags, with_places, with_values, Answers};
 
+use crate::shows::{Form, Shows};
+use crate::zone::{Zone, zone_or_utc};
 use clap::error::ErrorKind;
-use clap::{Arg, Command};
+use clap::{Arg, ArgAction, ArgMatches, Command};
 use std::alloc::{AllocError, Global};
 
 /// What the words ask for.
@@ -14,10 +16,15 @@ pub(crate) struct Asked<'w> {
     pub date: Option<&'w str>,
     /// The path of a log, or else the one line.
     pub log: &'w str,
-    /// A pattern of failures, or the file of a filter.
+    /// A pattern of failures, or a filter.
     pub regex: &'w str,
     /// The one pattern of ignored lines, in place of the filter's.
     pub ignore: Option<&'w str>,
+    /// The zone of dates without one.
+    pub zone: Zone,
+    /// The directory of a configuration, in which a filter may be named by its name.
+    pub dir: Option<&'w str>,
+    pub shows: Shows,
 }
 
 /// What is made of the words.
@@ -28,19 +35,122 @@ pub(crate) enum Answer<'w> {
     NoMemory,
 }
 
-fn command<'w>(alloc: Global) -> Result<Command<'w>, AllocError>
-    ensures { IfOk result (λ c. app_of c ≡ tool) }
+/// The options that have a value.
+fn with_values<'w>(alloc: Global, command: Command<'w>) -> Result<Command<'w>, AllocError>
+    ensures { IfOk result (λ c. app_of c ≡ with_values (app_of command.entry)) }
 {
     let date = Arg::new(alloc, "date").short('d');
+    let conf = Arg::new(alloc, "conf").short('c');
+    let out = Arg::new(alloc, "out").short('o');
+    let zone = Arg::new(alloc, "timezone").long("timezone");
+    command.arg(date)?.arg(conf)?.arg(out)?.arg(zone)
+}
+
+/// An option of one letter that has none.
+fn mark<'w>(alloc: Global, name: &'w str, letter: char) -> Arg<'w>
+    ensures rule { rule_of result ≡ mark name.entry.now letter }
+    ensures local { result.global ≡ false }
+{
+    Arg::new(alloc, name)
+        .short(letter)
+        .action(ArgAction::SetTrue)
+}
+
+/// An option that has none.
+fn flag<'w>(alloc: Global, name: &'w str) -> Arg<'w>
+    ensures rule { rule_of result ≡ flag name.entry.now }
+    ensures local { result.global ≡ false }
+{
+    Arg::new(alloc, name).long(name).action(ArgAction::SetTrue)
+}
+
+/// The options that have none.
+fn with_flags<'w>(alloc: Global, command: Command<'w>) -> Result<Command<'w>, AllocError>
+    ensures { IfOk result (λ c. app_of c ≡ with_flags (app_of command.entry)) }
+{
+    let detail = mark(alloc, "detail", 'v');
+    let matched = flag(alloc, "print-all-matched");
+    let ignored = flag(alloc, "print-all-ignored");
+    let missed = flag(alloc, "print-all-missed");
+    command.arg(detail)?.arg(matched)?.arg(ignored)?.arg(missed)
+}
+
+/// The words that stand alone.
+fn with_places<'w>(alloc: Global, command: Command<'w>) -> Result<Command<'w>, AllocError>
+    ensures { IfOk result (λ c. app_of c ≡ with_places (app_of command.entry)) }
+{
     let log = Arg::new(alloc, "log").required(true);
     let regex = Arg::new(alloc, "regex").required(true);
     let ignore = Arg::new(alloc, "ignore");
-    Command::new(alloc, "fail2ban-regex")
-        .no_binary_name(true)
-        .arg(date)?
-        .arg(log)?
-        .arg(regex)?
-        .arg(ignore)
+    command.arg(log)?.arg(regex)?.arg(ignore)
+}
+
+fn bare_command<'w>(alloc: Global) -> Command<'w>
+    ensures { app_of result ≡ bare_tool }
+{
+    Command::new(alloc, "fail2ban-regex").no_binary_name(true)
+}
+
+fn command<'w>(alloc: Global) -> Result<Command<'w>, AllocError>
+    ensures { IfOk result (λ c. app_of c ≡ tool) }
+{
+    let command = with_values(alloc, bare_command(alloc))?;
+    let command = with_flags(alloc, command)?;
+    with_places(alloc, command)
+}
+
+/// Whether an option without a value is given.
+fn is_set(given: Option<&str>) -> bool
+    ensures { result ≡ is_set (option_copied given.entry) }
+{
+    match given {
+        Some(text) => text == "true",
+        None => false,
+    }
+}
+
+/// What is said first, where `-o` names it.
+fn form_of(given: Option<&str>) -> Option<Form>
+    ensures { result ≡ form_of (option_copied given.entry) }
+{
+    match given {
+        None => Some(Form::Report),
+        Some("row") => Some(Form::Rows),
+        Some("ip") => Some(Form::Addresses),
+        Some(_) => None,
+    }
+}
+
+fn shows_of(matches: &ArgMatches<'_>, form: Form) -> Shows
+    ensures { result ≡ shows_of (first_value (found_of matches.now)) form }
+{
+    let detail = is_set(matches.get_str("detail"));
+    Shows {
+        form,
+        detail,
+        matched: detail || is_set(matches.get_str("print-all-matched")),
+        ignored: is_set(matches.get_str("print-all-ignored")),
+        missed: is_set(matches.get_str("print-all-missed")),
+    }
+}
+
+/// What is asked for, by the values of the arguments.
+fn asked_by<'w>(matches: &ArgMatches<'w>) -> Option<Asked<'w>>
+    ensures { option_map shown result ≡ asks_by (first_value (found_of matches.now)) }
+{
+    let log = matches.get_str("log")?;
+    let regex = matches.get_str("regex")?;
+    let form = form_of(matches.get_str("out"))?;
+    let zone = zone_or_utc(matches.get_str("timezone"))?;
+    Some(Asked {
+        date: matches.get_str("date"),
+        log,
+        regex,
+        ignore: matches.get_str("ignore"),
+        zone,
+        dir: matches.get_str("conf"),
+        shows: shows_of(matches, form),
+    })
 }
 
 /// Reads the words.
@@ -51,16 +161,8 @@ pub(crate) fn read_words<'w>(alloc: Global, words: &'w [String]) -> Answer<'w>
         return Answer::NoMemory;
     };
     match command.try_get_matches_from(words) {
-        Ok(matches) => match matches.get_str("log") {
-            Some(log) => match matches.get_str("regex") {
-                Some(regex) => Answer::Asked(Asked {
-                    date: matches.get_str("date"),
-                    log,
-                    regex,
-                    ignore: matches.get_str("ignore"),
-                }),
-                None => Answer::Usage,
-            },
+        Ok(matches) => match asked_by(&matches) {
+            Some(asked) => Answer::Asked(asked),
             None => Answer::Usage,
         },
         Err(error) => match error.kind() {

@@ -7,7 +7,7 @@ use Rattle.f2b_world.specs.declared.event.Event.{Event}
 use Rattle.filter_regex.specs.declared.error.BuildKind.TheVariants.{Syntax, TooBig}
 use Rattle.run_law.specs.Stages.{HasCause, IsRefusedAs, IsSteady, IsUnsaid}
 use Rattle.run_law.specs.declared.status.Status.{Status}
-use Rattle.run_law.specs.declared.status.Status.TheVariants.{Stopped, TurnsSpent, WorkloadDone, Usage, ConfFault, ConfRefused, DiskFault, NotAJournal, JournalFull, GateFault, SinkFault, ConfTooLarge, PatternRefused, NumbersSpent, NotBuilt, NoMemory}
+use Rattle.run_law.specs.declared.status.Status.TheVariants.{Stopped, TurnsSpent, WorkloadDone, Usage, ConfFault, ConfRefused, DiskFault, NotAJournal, JournalFull, GateFault, SinkFault, ConfTooLarge, PatternRefused, NumbersSpent, NoMemory}
 
 -- where nothing was called no count fell
 pub steady_refl : (s : Standing) → IsSteady s s
@@ -42,7 +42,6 @@ cause_later old mid new ConfTooLarge steady cause = tt
 cause_later old mid new (PatternRefused jail place Syntax) steady cause = cause
 cause_later old mid new (PatternRefused jail place TooBig) steady cause = rose_later _ _ _ (steady.counts OfPatterns) cause
 cause_later old mid new NumbersSpent steady cause = tt
-cause_later old mid new NotBuilt steady cause = tt
 cause_later old mid new NoMemory steady cause = tt
 
 -- what was counted up to a moment was counted up to a later one
@@ -66,7 +65,6 @@ cause_by_then old mid new ConfTooLarge before after cause = tt
 cause_by_then old mid new (PatternRefused jail place Syntax) before after cause = cause
 cause_by_then old mid new (PatternRefused jail place TooBig) before after cause = rose_by_then _ _ _ (before.counts OfPatterns) (after.counts OfPatterns) cause
 cause_by_then old mid new NumbersSpent before after cause = tt
-cause_by_then old mid new NotBuilt before after cause = tt
 cause_by_then old mid new NoMemory before after cause = tt
 
 -- ---- lines that could not be said, and refusals
@@ -86,7 +84,6 @@ unsaid_cause old new SinkFault is = is
 unsaid_cause old new ConfTooLarge is = absurd is
 unsaid_cause old new (PatternRefused jail place kind) is = absurd is
 unsaid_cause old new NumbersSpent is = absurd is
-unsaid_cause old new NotBuilt is = absurd is
 unsaid_cause old new NoMemory is = tt
 
 -- a refusal's line was said

@@ -1,4 +1,4 @@
--- An input that reads a log, and a tick, leave the jails as the set of the logs has them: each jail's definition, and whether it is idle.
+-- An input that reads a log, a tick, and the end of a try or of a check leave the jails as the set of the logs has them: each jail's definition, and whether it is idle.
 use Rattle.std.proofs.Common.{◌≡◌, ℕ, List, [], ◌∷◌, map, refl, ◌∙◌, ap, ap₂}
 use Rattle.std.specs.Prelude.{bytes_eq}
 use Rattle.std.specs.List.{filter}
@@ -6,8 +6,9 @@ use Rattle.f2b_base.specs.declared.ban.Ban.{Ban}
 use Rattle.f2b_base.specs.declared.ban.Failure.{Failure}
 use Rattle.f2b_base.specs.declared.input.Input.{Input}
 use Rattle.f2b_base.specs.declared.input.What.{What}
-use Rattle.f2b_base.specs.declared.input.What.TheVariants.{Read, Tick}
+use Rattle.f2b_base.specs.declared.input.What.TheVariants.{Read, Tick, Ended, CheckFailed}
 use Rattle.f2b_base.specs.declared.jail.Place.{Place}
+use Rattle.f2b_base.specs.declared.job.Outcome.{Outcome}
 use Rattle.f2b_model.specs.Full.{is_full}
 use Rattle.f2b_model.specs.Lanes.{books}
 use Rattle.f2b_model.specs.Lists.{in_order}
@@ -77,6 +78,12 @@ read_leaves jail path place fs word w = in_jail_same jail (read_in_jail moves w.
 tick_leaves : Leaves Tick
 tick_leaves word w = refl
 
+ended_leaves : (job : ℕ) (outcome : Outcome) → Leaves (Ended job outcome)
+ended_leaves job outcome word w = refl
+
+failed_leaves : (job : ℕ) (outcome : Outcome) → Leaves (CheckFailed job outcome)
+failed_leaves job outcome word w = refl
+
 jails_step_same : (w : JailsState) (input : Input) → Leaves input.what → logged (step_by moves w input).jails ≡ logged w.jails
 jails_step_same w input leaves =
     let after = done moves input.word input.what (at_reading moves input.secs w) in
@@ -93,3 +100,9 @@ read_jails jail path place fs s = step_same s.state (input_at s (Read jail path 
 
 pub tick_jails : (s : Server) → log_jails (taken Tick s) ≡ log_jails s
 tick_jails s = step_same s.state (input_at s Tick) tick_leaves
+
+pub ended_jails : (job : ℕ) (outcome : Outcome) (s : Server) → log_jails (taken (Ended job outcome) s) ≡ log_jails s
+ended_jails job outcome s = step_same s.state (input_at s (Ended job outcome)) (ended_leaves job outcome)
+
+pub failed_jails : (job : ℕ) (outcome : Outcome) (s : Server) → log_jails (taken (CheckFailed job outcome) s) ≡ log_jails s
+failed_jails job outcome s = step_same s.state (input_at s (CheckFailed job outcome)) (failed_leaves job outcome)

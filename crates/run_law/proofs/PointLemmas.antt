@@ -15,7 +15,7 @@ use Rattle.run_law.specs.Server.{Server}
 use Rattle.run_law.specs.Stages.{IsAt, IsRefusal, IsSaying, Owes, Refuses, Says, SayFails}
 use Rattle.run_law.specs.declared.plan.Plan.{Plan}
 use Rattle.run_law.specs.declared.status.Status.{Status}
-use Rattle.run_law.specs.declared.status.Status.TheVariants.{Stopped, TurnsSpent, WorkloadDone, Usage, ConfFault, ConfRefused, DiskFault, NotAJournal, JournalFull, GateFault, SinkFault, ConfTooLarge, PatternRefused, NumbersSpent, NotBuilt, NoMemory}
+use Rattle.run_law.specs.declared.status.Status.TheVariants.{Stopped, TurnsSpent, WorkloadDone, Usage, ConfFault, ConfRefused, DiskFault, NotAJournal, JournalFull, GateFault, SinkFault, ConfTooLarge, PatternRefused, NumbersSpent, NoMemory}
 
 -- ---- walks of a run
 
@@ -62,7 +62,6 @@ paid_call plan (Over SinkFault) = refl
 paid_call plan (Over ConfTooLarge) = refl
 paid_call plan (Over (PatternRefused jail place kind)) = refl
 paid_call plan (Over NumbersSpent) = refl
-paid_call plan (Over NotBuilt) = refl
 paid_call plan (Over NoMemory) = refl
 
 next_at : (r : Run) (there : Point) → IsAt r there → next_call r ≡ point_call r.plan there
@@ -105,7 +104,6 @@ saying_call plan (Over SinkFault) line lines saying = absurd saying
 saying_call plan (Over ConfTooLarge) line lines saying = refl
 saying_call plan (Over (PatternRefused jail place kind)) line lines saying = refl
 saying_call plan (Over NumbersSpent) line lines saying = refl
-saying_call plan (Over NotBuilt) line lines saying = refl
 saying_call plan (Over NoMemory) line lines saying = refl
 
 -- lines that are owed are what may be said
@@ -169,7 +167,6 @@ refusal_says SinkFault is = absurd is
 refusal_says ConfTooLarge is = tt
 refusal_says (PatternRefused jail place kind) is = tt
 refusal_says NumbersSpent is = tt
-refusal_says NotBuilt is = tt
 refusal_says NoMemory is = absurd is
 
 -- a run that is over ends with its status
@@ -188,7 +185,6 @@ over_ends SinkFault r over = over
 over_ends ConfTooLarge r over = over
 over_ends (PatternRefused jail place kind) r over = over
 over_ends NumbersSpent r over = over
-over_ends NotBuilt r over = over
 over_ends NoMemory r over = tt
 
 owes_refusal : (now : ℕ) (status : Status) (r : Run) → IsRefusal status → r.owed ≡ [] → Owes (refused now status r) (status_lines now status)

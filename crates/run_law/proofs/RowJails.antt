@@ -16,6 +16,7 @@ use Rattle.f2b_world.specs.Walks.{after}
 use Rattle.f2b_world.specs.declared.answer.Look.{Look}
 use Rattle.f2b_world.specs.declared.event.Event.{Event}
 use Rattle.f2b_world.specs.declared.event.Event.TheVariants.{Clock, Look as LookAt}
+use Rattle.child_table.specs.Children.{nobody}
 use Rattle.log_set.specs.Logs.{Watching}
 use Rattle.run_law.specs.Law.{Free, MayCome, feed, standing}
 use Rattle.run_law.specs.Points.{Point, Run, AtTurn, AtClock}
@@ -75,7 +76,7 @@ log jail path base seen = record { jail = jail; path = path; watch = record { ba
 
 -- a server of that view that follows these logs, with so many turns left
 abbrev pub server : View → List Watching → ℕ → Server
-server view logs left = record { state = back view; now = 900; word = 0; logs = logs; left = left }
+server view logs left = record { state = back view; now = 900; word = 0; logs = logs; children = nobody; left = left }
 
 abbrev pub plan : Plan
 plan = record { root = codes "/c"; turns = 9 }

@@ -2,6 +2,8 @@
 use Rattle.std.proofs.Common.{ℕ, Bool, true, false, zero, suc, ◌≡◌, ◌+◌, ◌⊎◌, inl, inr, ◌++◌, List, [], ◌∷◌, length, take, Option, Some, None, Result, Ok, Err, refl, sym, ap, ◌∙◌, append-nil, append_assoc, subst}
 use Rattle.std.specs.Prelude.{slice_get, option_map}
 use Rattle.f2b_base.specs.declared.input.What.{What}
+use Rattle.f2b_base.specs.declared.job.Outcome.{Outcome}
+use Rattle.f2b_base.specs.declared.job.Outcome.TheVariants.{Status as EndedWith, NotStarted, TimedOut}
 use Rattle.f2b_base.specs.declared.outside.TreeAnswer.{TreeAnswer}
 use Rattle.f2b_base.specs.declared.outside.TreeAnswer.TheVariants.{Tree, Failed as TreeFailed, TooLarge as TreeTooLarge, NoMemory as TreeNoMemory}
 use Rattle.f2b_world.specs.Told.{History, grown}
@@ -10,33 +12,40 @@ use Rattle.f2b_world.specs.declared.answer.Look.{Look}
 use Rattle.f2b_world.specs.declared.answer.Look.TheVariants.{File, Absent, Failed as LookFailed, NoMemory as LookNoMemory}
 use Rattle.f2b_world.specs.declared.answer.MakeAnswer.{MakeAnswer}
 use Rattle.f2b_world.specs.declared.answer.MakeAnswer.TheVariants.{Built, Syntax as WasSyntax, TooBig as WasTooBig}
+use Rattle.f2b_world.specs.declared.answer.PollAnswer.{PollAnswer}
+use Rattle.f2b_world.specs.declared.answer.PollAnswer.TheVariants.{Running, Ended as PollEnded, Failed as PollFailed}
 use Rattle.f2b_world.specs.declared.answer.Said.{Said}
 use Rattle.f2b_world.specs.declared.answer.Said.TheVariants.{Done, Failed as SayFailed}
+use Rattle.f2b_world.specs.declared.answer.StartAnswer.{StartAnswer}
+use Rattle.f2b_world.specs.declared.answer.StartAnswer.TheVariants.{Started, Failed as StartFailed, NoMemory as StartNoMemory}
 use Rattle.f2b_world.specs.declared.event.Event.{Event}
-use Rattle.f2b_world.specs.declared.event.Event.TheVariants.{Say, Make, Clock, Config, Names, Look as LookAt, Pause}
+use Rattle.f2b_world.specs.declared.event.Event.TheVariants.{Say, Make, Clock, Config, Names, Look as LookAt, ChildStart, ChildPoll, ChildKill, Pause}
 use Rattle.jail_conf.specs.Conf.{conf}
 use Rattle.jail_conf.specs.declared.conf_error.ConfError.{ConfError}
 use Rattle.jail_conf.specs.declared.settings.Settings.{Settings}
+use Rattle.child_table.specs.declared.child.Child.{Child}
 use Rattle.log_set.specs.Logs.{Watching}
-use Rattle.run_law.specs.Calls.{Call, AskSay, IsNext}
+use Rattle.run_law.specs.Calls.{Call, AskKill, AskPoll, AskSay, IsNext}
 use Rattle.run_law.specs.Clock.{tick_news}
 use Rattle.run_law.specs.Law.{Free, Ends, IsOver, MayCome, begin, begin_with, call_of, feed, moved, point_call, turn_call, turns}
 use Rattle.run_law.specs.Looks.{log_call, look_news, look_taken, looked, looked_at, now_is, unread_news}
 use Rattle.run_law.specs.News.{News, brings, brings_by, entered}
 use Rattle.run_law.specs.Paths.{Path, Naming, first_naming, named, with_paths}
-use Rattle.run_law.specs.Patterns.{Pattern, is_any_action}
-use Rattle.run_law.specs.Points.{Place, AtClock, AtLook, AtPause, Point, AtTree, AtMakes, AtFirst, AtNames, AtTurn, Over, Run}
+use Rattle.run_law.specs.Patterns.{Pattern}
+use Rattle.run_law.specs.Points.{Place, AtClock, AtLook, AtPoll, AtKill, AtStart, AtPause, Point, AtTree, AtMakes, AtFirst, AtNames, AtTurn, Over, Run}
+use Rattle.run_law.specs.Polls.{end_news, ended_as, gone, has_succeeded, killed_at, polled_at}
 use Rattle.run_law.specs.Said.{joined}
 use Rattle.run_law.specs.Served.{SaysAll, SaysInOrder, lines_by, run_after, said_by}
 use Rattle.run_law.specs.Server.{Server, begun, is_spent, read_at}
 use Rattle.run_law.specs.Stages.{IsSaying}
-use Rattle.run_law.specs.Start.{accepted, defined, first_turn, made, make_call, makes_on, names_call, names_in, start_news, to_names, tree_read, unread_by}
-use Rattle.run_law.specs.Turn.{to_logs, to_looks}
+use Rattle.run_law.specs.Start.{defined, first_turn, made, make_call, makes_on, names_call, names_in, start_news, to_names, tree_read, unread_by}
+use Rattle.run_law.specs.Starts.{child_started, without_child}
+use Rattle.run_law.specs.Turn.{to_logs, to_looks, to_polls, to_starts}
 use Rattle.run_law.specs.Words.{plan_of}
 use Rattle.run_law.proofs.PointLemmas.{paid_call, saying_call}
 use Rattle.run_law.specs.declared.plan.Plan.{Plan}
 use Rattle.run_law.specs.declared.status.Status.{Status}
-use Rattle.run_law.specs.declared.status.Status.TheVariants.{Stopped, TurnsSpent, WorkloadDone, Usage, ConfFault, ConfRefused, DiskFault, NotAJournal, JournalFull, GateFault, SinkFault, ConfTooLarge, PatternRefused, NumbersSpent, NotBuilt, NoMemory}
+use Rattle.run_law.specs.declared.status.Status.TheVariants.{Stopped, TurnsSpent, WorkloadDone, Usage, ConfFault, ConfRefused, DiskFault, NotAJournal, JournalFull, GateFault, SinkFault, ConfTooLarge, PatternRefused, NumbersSpent, NoMemory}
 
 -- ---- an event that is no say leaves what was said
 
@@ -53,12 +62,8 @@ pub brings_says : (news : News) (next : Server → Point) (s : Server) (r : Run)
 unfolding brings
 brings_says news next s r = brings_by_says news.what news next s r
 
-accepted_says : (action : Bool) (settings : Settings) (r : Run) → (accepted action settings r).said ≡ r.said
-accepted_says true settings r = refl
-accepted_says false settings r = refl
-
 defined_says : (o : Result Settings ConfError) (r : Run) → (defined o r).said ≡ r.said
-defined_says (Ok settings) r = accepted_says (is_any_action settings.defs) settings r
+defined_says (Ok settings) r = refl
 defined_says (Err error) r = refl
 
 tree_says : (answer : TreeAnswer) (r : Run) → (tree_read answer r).said ≡ r.said
@@ -90,9 +95,31 @@ looked_at_says : (o : Option Watching) (answer : Look) (i : ℕ) (s : Server) (r
 looked_at_says None answer i s r = refl
 looked_at_says (Some l) answer i s r = looked_says answer l i s r
 
+ended_says : (passed : Bool) (outcome : Outcome) (c : Child) (i : ℕ) (s : Server) (r : Run) → (ended_as passed outcome c i s r).said ≡ r.said
+ended_says true outcome c i s r = refl
+ended_says false outcome c i s r = brings_says (end_news c outcome) (to_polls i) (gone i s) r
+
+polled_says : (o : Option Child) (answer : PollAnswer) (i : ℕ) (s : Server) (r : Run) → (polled_at o answer i s r).said ≡ r.said
+polled_says None answer i s r = refl
+polled_says (Some c) (PollEnded status) i s r = ended_says (has_succeeded c.task (EndedWith status)) (EndedWith status) c i s r
+polled_says (Some c) Running i s r = refl
+polled_says (Some c) PollFailed i s r = refl
+
+killed_says : (o : Option Child) (i : ℕ) (s : Server) (r : Run) → (killed_at o i s r).said ≡ r.said
+killed_says None i s r = refl
+killed_says (Some c) i s r = ended_says (has_succeeded c.task TimedOut) TimedOut c i s r
+
+started_says : (answer : StartAnswer) (c : Child) (s : Server) (r : Run) → (child_started answer c s r).said ≡ r.said
+started_says Started c s r = refl
+started_says StartFailed c s r = brings_says (end_news c NotStarted) to_starts (without_child c s) r
+started_says StartNoMemory c s r = refl
+
 turns_says : (place : Place) (event : Event) (s : Server) (r : Run) → (turns place event s r).said ≡ r.said
 turns_says AtClock (Clock answer) s r = brings_says (tick_news (read_at answer s)) to_logs (read_at answer s) r
 turns_says (AtLook i) (LookAt path head from max answer) s r = looked_at_says (slice_get s.logs i) answer i s r
+turns_says (AtPoll i) (ChildPoll job answer) s r = polled_says (slice_get s.children.running i) answer i s r
+turns_says (AtKill i) (ChildKill job) s r = killed_says (slice_get s.children.running i) i s r
+turns_says (AtStart c text) (ChildStart job command answer) s r = started_says answer c s r
 turns_says AtPause (Pause ms) s r = refl
 turns_says _ _ s r = refl
 
@@ -118,9 +145,20 @@ look_says_none : (o : Option Watching) (bytes : List ℕ) (answer : Said) → Is
 look_says_none None bytes answer next = next
 look_says_none (Some l) bytes answer next = next
 
+poll_says_none : (o : Option Child) (bytes : List ℕ) (answer : Said) → IsNext (option_map (λ (c : Child). AskPoll c.job) o) (Say bytes answer) → ⊥
+poll_says_none None bytes answer next = next
+poll_says_none (Some c) bytes answer next = next
+
+kill_says_none : (o : Option Child) (bytes : List ℕ) (answer : Said) → IsNext (option_map (λ (c : Child). AskKill c.job) o) (Say bytes answer) → ⊥
+kill_says_none None bytes answer next = next
+kill_says_none (Some c) bytes answer next = next
+
 turn_says_none : (place : Place) (s : Server) (bytes : List ℕ) (answer : Said) → IsNext (turn_call place s) (Say bytes answer) → ⊥
 turn_says_none AtClock s bytes answer next = next
 turn_says_none (AtLook i) s bytes answer next = look_says_none (slice_get s.logs i) bytes answer next
+turn_says_none (AtPoll i) s bytes answer next = poll_says_none (slice_get s.children.running i) bytes answer next
+turn_says_none (AtKill i) s bytes answer next = kill_says_none (slice_get s.children.running i) bytes answer next
+turn_says_none (AtStart c text) s bytes answer next = next
 turn_says_none AtPause s bytes answer next = next
 
 -- a say is no call of a point
@@ -153,7 +191,6 @@ owed_call plan (Over SinkFault) line lines = inl refl
 owed_call plan (Over ConfTooLarge) line lines = inr refl
 owed_call plan (Over (PatternRefused jail place kind)) line lines = inr refl
 owed_call plan (Over NumbersSpent) line lines = inr refl
-owed_call plan (Over NotBuilt) line lines = inr refl
 owed_call plan (Over NoMemory) line lines = inr refl
 
 -- what is said is all that is owed
@@ -170,6 +207,20 @@ pub pause_next : (plan : Plan) (point : Point) (owed : List (List ℕ)) (ms : �
 pause_next plan point [] ms next = refl
 pause_next plan point (line ∷ lines) ms next =
     let P : Option Call → Type 0 = λ c. IsNext c (Pause ms) in
+    elim (owed_call plan point line lines) [ inl none ↦ absurd (subst P none next) | inr says ↦ absurd (subst P says next) ]
+
+-- so does a start of a command
+pub start_next : (plan : Plan) (point : Point) (owed : List (List ℕ)) (job : ℕ) (text : List ℕ) (answer : StartAnswer) → IsNext (call_of plan point owed) (ChildStart job text answer) → owed ≡ []
+start_next plan point [] job text answer next = refl
+start_next plan point (line ∷ lines) job text answer next =
+    let P : Option Call → Type 0 = λ c. IsNext c (ChildStart job text answer) in
+    elim (owed_call plan point line lines) [ inl none ↦ absurd (subst P none next) | inr says ↦ absurd (subst P says next) ]
+
+-- and a poll of one
+pub poll_next : (plan : Plan) (point : Point) (owed : List (List ℕ)) (job : ℕ) (answer : PollAnswer) → IsNext (call_of plan point owed) (ChildPoll job answer) → owed ≡ []
+poll_next plan point [] job answer next = refl
+poll_next plan point (line ∷ lines) job answer next =
+    let P : Option Call → Type 0 = λ c. IsNext c (ChildPoll job answer) in
     elim (owed_call plan point line lines) [ inl none ↦ absurd (subst P none next) | inr says ↦ absurd (subst P says next) ]
 
 -- ---- lines that were said
@@ -206,7 +257,7 @@ walk r said g (event ∷ es) st along (suc k) =
     let P : List ℕ → Type 0 = λ b. Stands (after feed MayCome Free (feed r event) (take k es)) b in
     subst P (append_assoc said (said_by (event ∷ [])) (said_by (take k es)) ∙ ap (λ b. said ++ b) (sym (said_on event (take k es)))) rest
 
-may_at : (r : Run) (g : History) (es : List Event) (k : ℕ) (event : Event) → Along feed MayCome Free r g es → slice_get es k ≡ Some event → MayCome (after feed MayCome Free r (take k es)) event
+pub may_at : (r : Run) (g : History) (es : List Event) (k : ℕ) (event : Event) → Along feed MayCome Free r g es → slice_get es k ≡ Some event → MayCome (after feed MayCome Free r (take k es)) event
 may_at r g [] k event along is = absurd (cc)
 may_at r g (first ∷ es) zero event along is = let same : first ≡ event = cc in let P : Event → Type 0 = λ e. MayCome r e in subst P same along.0.allowed
 may_at r g (first ∷ es) (suc k) event along is = may_at (feed r first) (grown g (first ∷ [])) es k event along.1 is
@@ -251,7 +302,6 @@ says_all words SinkFault es st over = tt
 says_all words ConfTooLarge es st over = over_all words ConfTooLarge es tt st over
 says_all words (PatternRefused jail place kind) es st over = over_all words (PatternRefused jail place kind) es tt st over
 says_all words NumbersSpent es st over = over_all words NumbersSpent es tt st over
-says_all words NotBuilt es st over = over_all words NotBuilt es tt st over
 says_all words NoMemory es st over = tt
 
 whole : (es : List Event) → take (length es) es ≡ es

@@ -61,9 +61,9 @@ of_jails jails = record { defs = record { purge = 86400; jails = jails }; socket
 abbrev with_action : JailDef
 with_action = record (jail (codes "a") [] []) { actions = record { name = codes "fw"; family = Both; start = []; stop = []; ban = []; unban = []; check = []; timeout = 60 } ∷ [] }
 
-refuses_an_action : next_call (defined (Ok (of_jails (jail (codes "b") [] [] ∷ with_action ∷ []))) (opening plan)) ≡ Some (AskSay (codes "0 ERROR not built\n"))
-unfolding status_lines error_line stamped digits
-refuses_an_action = refl
+takes_an_action : next_call (defined (Ok (of_jails (jail (codes "b") [] [] ∷ with_action ∷ []))) (opening plan)) ≡ Some AskClock
+unfolding expanded_tags
+takes_an_action = refl
 
 -- ---- patterns, jail by jail
 

@@ -1,7 +1,10 @@
 -- From the law alone: a run ends for its turns exactly where it has made as many pauses as it was asked for.
 use Rattle.std.proofs.Common.{ℕ, zero, suc, ◌≡◌, ◌≢◌, ◌<◌, ◌≤◌, ◌+◌, ◌-◌, ◌++◌, Bool, true, false, cond, List, [], ◌∷◌, Option, Some, None, Result, Ok, Err, refl, sym, ◌∙◌, subst, arith}
-use Rattle.std.specs.Prelude.{slice_get, option_map}
+use Rattle.std.specs.Prelude.{length, nat_lt, slice_get, option_map}
 use Rattle.f2b_base.specs.declared.input.What.{What}
+use Rattle.f2b_base.specs.declared.job.Job.{Job}
+use Rattle.f2b_base.specs.declared.job.Outcome.{Outcome}
+use Rattle.f2b_base.specs.declared.job.Outcome.TheVariants.{Status as EndedWith, NotStarted, TimedOut}
 use Rattle.f2b_base.specs.declared.outside.TreeAnswer.{TreeAnswer}
 use Rattle.f2b_base.specs.declared.outside.TreeAnswer.TheVariants.{Tree, Failed as TreeFailed, TooLarge as TreeTooLarge, NoMemory as TreeNoMemory}
 use Rattle.f2b_world.specs.Told.{History, grown}
@@ -10,33 +13,42 @@ use Rattle.f2b_world.specs.declared.answer.Look.{Look}
 use Rattle.f2b_world.specs.declared.answer.Look.TheVariants.{File, Absent, Failed as LookFailed, NoMemory as LookNoMemory}
 use Rattle.f2b_world.specs.declared.answer.MakeAnswer.{MakeAnswer}
 use Rattle.f2b_world.specs.declared.answer.MakeAnswer.TheVariants.{Built, Syntax as WasSyntax, TooBig as WasTooBig}
+use Rattle.f2b_world.specs.declared.answer.PollAnswer.{PollAnswer}
+use Rattle.f2b_world.specs.declared.answer.PollAnswer.TheVariants.{Running, Ended as PollEnded, Failed as PollFailed}
 use Rattle.f2b_world.specs.declared.answer.Said.TheVariants.{Done, Failed as SayFailed}
+use Rattle.f2b_world.specs.declared.answer.StartAnswer.{StartAnswer}
+use Rattle.f2b_world.specs.declared.answer.StartAnswer.TheVariants.{Started, Failed as StartFailed, NoMemory as StartNoMemory}
 use Rattle.f2b_world.specs.declared.event.Event.{Event}
-use Rattle.f2b_world.specs.declared.event.Event.TheVariants.{Say, Make, Clock, Config, Names, Look as LookAt, Pause}
+use Rattle.f2b_world.specs.declared.event.Event.TheVariants.{Say, Make, Clock, Config, Names, Look as LookAt, ChildStart, ChildPoll, ChildKill, Pause}
 use Rattle.filter_regex.specs.declared.error.BuildKind.TheVariants.{Syntax, TooBig}
 use Rattle.jail_conf.specs.Conf.{conf}
 use Rattle.jail_conf.specs.declared.conf_error.ConfError.{ConfError}
 use Rattle.jail_conf.specs.declared.settings.Settings.{Settings}
+use Rattle.child_table.specs.Late.{is_late}
+use Rattle.child_table.specs.declared.child.Child.{Child}
 use Rattle.log_set.specs.Logs.{Watching, next_look}
-use Rattle.run_law.specs.Calls.{Call, IsNext}
+use Rattle.run_law.specs.Calls.{Call, AskKill, AskPoll, IsNext}
+use Rattle.run_law.specs.Children.{checked_first, startable}
 use Rattle.run_law.specs.Clock.{tick_news}
 use Rattle.run_law.specs.Law.{Free, Ends, IsOver, MayCome, call_of, feed, moved, opening, point_call, turns}
 use Rattle.run_law.specs.Looks.{log_call, look_news, look_taken, looked, looked_at, now_is, unread_news}
 use Rattle.run_law.specs.News.{News, after_news, brings, brings_by, entered, goes_to, lines_in, owing, refused, server_after}
-use Rattle.run_law.specs.Patterns.{Pattern, is_any_action, patterns_of}
+use Rattle.run_law.specs.Patterns.{Pattern, patterns_of}
 use Rattle.run_law.specs.Paths.{Path, Naming, first_naming, named, with_paths}
 use Rattle.run_law.specs.Pause.{paused, turned}
-use Rattle.run_law.specs.Points.{Place, AtClock, AtLook, AtPause, Point, AtTree, AtMakes, AtFirst, AtNames, AtTurn, Over, Run}
+use Rattle.run_law.specs.Polls.{end_news, ended_as, gone, gone_passed, has_succeeded, killed_at, polled_at, still_point}
+use Rattle.run_law.specs.Points.{Place, AtClock, AtLook, AtPoll, AtKill, AtStart, AtPause, Point, AtTree, AtMakes, AtFirst, AtNames, AtTurn, Over, Run}
 use Rattle.run_law.specs.Refusals.{status_lines}
 use Rattle.run_law.specs.Served.{CountsTurns, pauses_in}
-use Rattle.run_law.specs.Server.{Server, begun, is_spent, is_stopping, log_jails, read_at}
-use Rattle.run_law.specs.Start.{accepted, defined, first_turn, made, make_call, makes_on, names_call, names_in, start_news, to_makes, to_names, tree_read, unread_by}
-use Rattle.run_law.specs.Turn.{look_point, to_accept, to_children, to_end, to_logs, to_looks, to_starts}
+use Rattle.run_law.specs.Server.{Server, begun, is_spent, is_stopping, jobs, lanes_up, log_jails, read_at}
+use Rattle.run_law.specs.Start.{defined, first_turn, made, make_call, makes_on, names_call, names_in, start_news, to_makes, to_names, tree_read, unread_by}
+use Rattle.run_law.specs.Starts.{child_started, with_child, without_child}
+use Rattle.run_law.specs.Turn.{look_point, start_place, start_point, to_accept, to_children, to_end, to_logs, to_looks, to_polls, to_starts}
 use Rattle.run_law.proofs.PointLemmas.{paid_call}
 use Rattle.run_law.proofs.SaidLemmas.{pause_next}
 use Rattle.run_law.specs.declared.plan.Plan.{Plan}
 use Rattle.run_law.specs.declared.status.Status.{Status}
-use Rattle.run_law.specs.declared.status.Status.TheVariants.{Stopped, TurnsSpent, WorkloadDone, Usage, ConfFault, ConfRefused, DiskFault, NotAJournal, JournalFull, GateFault, SinkFault, ConfTooLarge, PatternRefused, NumbersSpent, NotBuilt, NoMemory}
+use Rattle.run_law.specs.declared.status.Status.TheVariants.{Stopped, TurnsSpent, WorkloadDone, Usage, ConfFault, ConfRefused, DiskFault, NotAJournal, JournalFull, GateFault, SinkFault, ConfTooLarge, PatternRefused, NumbersSpent, NoMemory}
 
 -- ---- where the entries of a turn lead: to a place of it, with the same server
 
@@ -44,9 +56,36 @@ record IsOfTurn (point : Point) (s : Server) : Type 0 where
   pub place : Place
   pub is : point ≡ AtTurn place s
 
+end_of_turn : (s : Server) → IsOfTurn (to_end s) s
+unfolding to_end
+end_of_turn s = record { place = AtPause; is = refl }
+
+start_of_turn : (o : Option Job) (s : Server) → IsOfTurn (start_point o s) s
+start_of_turn (Some job) s = record { place = start_place s.now job (checked_first s.children (lanes_up s) (jobs s) job.id); is = refl }
+start_of_turn None s = end_of_turn s
+
+starts_of_turn : (s : Server) → IsOfTurn (to_starts s) s
+unfolding to_starts
+starts_of_turn s = start_of_turn (startable s.now s.children (jobs s)) s
+
+accept_of_turn : (s : Server) → IsOfTurn (to_accept s) s
+unfolding to_accept
+accept_of_turn s = starts_of_turn s
+
+poll_of_turn : (more : Bool) (i : ℕ) (s : Server) → IsOfTurn (cond more (AtTurn (AtPoll i) s) (to_accept s)) s
+poll_of_turn true i s = record { place = AtPoll i; is = refl }
+poll_of_turn false i s = accept_of_turn s
+
+polls_of_turn : (i : ℕ) (s : Server) → IsOfTurn (to_polls i s) s
+polls_of_turn i s = poll_of_turn (nat_lt i (length s.children.running)) i s
+
+still_of_turn : (late : Bool) (i : ℕ) (s : Server) → IsOfTurn (still_point late i s) s
+still_of_turn true i s = record { place = AtKill i; is = refl }
+still_of_turn false i s = polls_of_turn (i + 1) s
+
 children_of_turn : (s : Server) → IsOfTurn (to_children s) s
-unfolding to_children to_accept to_starts to_end
-children_of_turn s = record { place = AtPause; is = refl }
+unfolding to_children
+children_of_turn s = polls_of_turn 0 s
 
 look_of_turn : (o : Option ℕ) (s : Server) → IsOfTurn (look_point o s) s
 look_of_turn (Some i) s = record { place = AtLook i; is = refl }
@@ -126,12 +165,8 @@ module _ (all : ℕ) (some : 1 ≤ all) (r : Run) (plan : r.plan.turns ≡ all) 
   makes_fits settings [] = record { plan = plan; point = refl; paid = tt }
   makes_fits settings (p ∷ ps) = record { plan = plan; point = refl; paid = tt }
 
-  accepted_fits : (action : Bool) (settings : Settings) → Fits all 0 (accepted action settings r)
-  accepted_fits true settings = refused_fits NotBuilt early tt
-  accepted_fits false settings = makes_fits settings (patterns_of settings.defs)
-
   defined_fits : (o : Result Settings ConfError) → Fits all 0 (defined o r)
-  defined_fits (Ok settings) = accepted_fits (is_any_action settings.defs) settings
+  defined_fits (Ok settings) = makes_fits settings (patterns_of settings.defs)
   defined_fits (Err error) = refused_fits (ConfRefused error) early tt
 
   tree_fits : (answer : TreeAnswer) → Fits all 0 r → Fits all 0 (tree_read answer r)
@@ -181,21 +216,40 @@ module _ (all made : ℕ) (r : Run) (plan : r.plan.turns ≡ all) (s : Server) (
       (λ lines. of_turn all made r (next u) u lines (turn u) plan (omega (arith, sum, same)) (omega (arith, some, same)))
       (λ lines. record { plan = plan; point = sooner; paid = tt })
 
-  -- the run only goes on
-  plain_fits : (point : Point) → IsOfTurn point s → Fits all made (goes_to point r)
-  plain_fits point turn =
+  -- the run only goes on, to a server with as many turns left
+  plain_fits : (point : Point) (t : Server) → IsOfTurn point t → t.left ≡ s.left → Fits all made (goes_to point r)
+  plain_fits point t turn left =
       let P : Point → Type 0 = λ p. Fits all made (goes_to p r) in
-      subst P (sym turn.is) (record { plan = plan; point = (sum, some); paid = tt })
+      subst P (sym turn.is) (record { plan = plan; point = (omega (arith, sum, left), omega (arith, some, left)); paid = tt })
 
   looked_fits : (answer : Look) (l : Watching) (i : ℕ) → Fits all made r → Fits all made (looked answer l i s r)
   looked_fits (File file) l i fits = turn_fits (look_news s.now l (look_taken s l file)) (to_looks (i + 1)) (now_is i l file s) (looks_of_turn (i + 1)) refl
-  looked_fits Absent l i fits = plain_fits (to_looks (i + 1) s) (looks_of_turn (i + 1) s)
+  looked_fits Absent l i fits = plain_fits (to_looks (i + 1) s) s (looks_of_turn (i + 1) s) refl
   looked_fits LookFailed l i fits = turn_fits (unread_news s l) (to_looks (i + 1)) s (looks_of_turn (i + 1)) refl
   looked_fits LookNoMemory l i fits = fits
 
   looked_at_fits : (o : Option Watching) (answer : Look) (i : ℕ) → Fits all made r → Fits all made (looked_at o answer i s r)
   looked_at_fits None answer i fits = fits
   looked_at_fits (Some l) answer i fits = looked_fits answer l i fits
+
+  ended_fits : (passed : Bool) (outcome : Outcome) (c : Child) (i : ℕ) → Fits all made (ended_as passed outcome c i s r)
+  ended_fits true outcome c i = plain_fits (to_polls i (gone_passed c.job i s)) (gone_passed c.job i s) (polls_of_turn i (gone_passed c.job i s)) refl
+  ended_fits false outcome c i = turn_fits (end_news c outcome) (to_polls i) (gone i s) (polls_of_turn i) refl
+
+  polled_fits : (o : Option Child) (answer : PollAnswer) (i : ℕ) → Fits all made r → Fits all made (polled_at o answer i s r)
+  polled_fits None answer i fits = fits
+  polled_fits (Some c) (PollEnded status) i fits = ended_fits (has_succeeded c.task (EndedWith status)) (EndedWith status) c i
+  polled_fits (Some c) Running i fits = plain_fits (still_point (is_late s.now c) i s) s (still_of_turn (is_late s.now c) i s) refl
+  polled_fits (Some c) PollFailed i fits = plain_fits (still_point (is_late s.now c) i s) s (still_of_turn (is_late s.now c) i s) refl
+
+  killed_fits : (o : Option Child) (i : ℕ) → Fits all made r → Fits all made (killed_at o i s r)
+  killed_fits None i fits = fits
+  killed_fits (Some c) i fits = ended_fits (has_succeeded c.task TimedOut) TimedOut c i
+
+  started_fits : (answer : StartAnswer) (c : Child) → Fits all made r → Fits all made (child_started answer c s r)
+  started_fits Started c fits = plain_fits (to_starts (with_child c s)) (with_child c s) (starts_of_turn (with_child c s)) refl
+  started_fits StartFailed c fits = turn_fits (end_news c NotStarted) to_starts (without_child c s) starts_of_turn refl
+  started_fits StartNoMemory c fits = fits
 
   turned_fits : (n : ℕ) → s.left ≡ suc n → r.owed ≡ [] → Fits all (suc made) (goes_to (turned n s) r)
   turned_fits zero left paid = record { plan = plan; point = omega (arith, sum, left); paid = paid }
@@ -231,6 +285,14 @@ look_no_pause : (o : Option Watching) (ms : ℕ) → IsNext (option_map log_call
 look_no_pause None ms next = next
 look_no_pause (Some l) ms next = next
 
+poll_no_pause : (o : Option Child) (ms : ℕ) → IsNext (option_map (λ (c : Child). AskPoll c.job) o) (Pause ms) → ⊥
+poll_no_pause None ms next = next
+poll_no_pause (Some c) ms next = next
+
+kill_no_pause : (o : Option Child) (ms : ℕ) → IsNext (option_map (λ (c : Child). AskKill c.job) o) (Pause ms) → ⊥
+kill_no_pause None ms next = next
+kill_no_pause (Some c) ms next = next
+
 -- a pause is the last call of a turn
 pause_fits : (all made : ℕ) (r : Run) (p : Point) (ms : ℕ) → r.plan.turns ≡ all → FitsPoint all made p → r.owed ≡ [] → IsNext (point_call r.plan p) (Pause ms)
     → Fits all (suc made) (moved p (Pause ms) r)
@@ -240,6 +302,9 @@ pause_fits all made r (AtFirst settings) ms plan point paid next = absurd next
 pause_fits all made r (AtNames settings naming s) ms plan point paid next = absurd (names_no_pause naming.left ms next)
 pause_fits all made r (AtTurn AtClock s) ms plan point paid next = absurd next
 pause_fits all made r (AtTurn (AtLook i) s) ms plan point paid next = absurd (look_no_pause (slice_get s.logs i) ms next)
+pause_fits all made r (AtTurn (AtPoll i) s) ms plan point paid next = absurd (poll_no_pause (slice_get s.children.running i) ms next)
+pause_fits all made r (AtTurn (AtKill i) s) ms plan point paid next = absurd (kill_no_pause (slice_get s.children.running i) ms next)
+pause_fits all made r (AtTurn (AtStart c text) s) ms plan point paid next = absurd next
 pause_fits all made r (AtTurn AtPause s) ms plan point paid next = paused_fits all made r plan s point.0 point.1 paid
 pause_fits all made r (Over status) ms plan point paid next = absurd next
 
@@ -247,6 +312,9 @@ turns_fit : (all made : ℕ) (r : Run) (place : Place) (s : Server) (event : Eve
 turns_fit all made r AtClock s (Clock answer) plan point fits plain =
     let t = read_at answer s in turn_fits all made r plan s point.0 point.1 (tick_news t) to_logs t logs_of_turn refl
 turns_fit all made r (AtLook i) s (LookAt path head from max answer) plan point fits plain = looked_at_fits all made r plan s point.0 point.1 (slice_get s.logs i) answer i fits
+turns_fit all made r (AtPoll i) s (ChildPoll job answer) plan point fits plain = polled_fits all made r plan s point.0 point.1 (slice_get s.children.running i) answer i fits
+turns_fit all made r (AtKill i) s (ChildKill job) plan point fits plain = killed_fits all made r plan s point.0 point.1 (slice_get s.children.running i) i fits
+turns_fit all made r (AtStart c text) s (ChildStart job command answer) plan point fits plain = started_fits all made r plan s point.0 point.1 answer c fits
 turns_fit all made r AtPause s (Pause ms) plan point fits plain = absurd plain
 turns_fit all made r _ s _ plan point fits plain = fits
 
@@ -289,7 +357,6 @@ say_sooner all made some plan (Over SinkFault) owed event point paid next = poin
 say_sooner all made some plan (Over ConfTooLarge) owed event point paid next = point
 say_sooner all made some plan (Over (PatternRefused jail place kind)) owed event point paid next = point
 say_sooner all made some plan (Over NumbersSpent) owed event point paid next = point
-say_sooner all made some plan (Over NotBuilt) owed event point paid next = point
 say_sooner all made some plan (Over NoMemory) owed event point paid next = point
 
 paid_none : (p : Point) → IsPaid p []
@@ -342,7 +409,6 @@ over_fits all made SinkFault other point = point
 over_fits all made ConfTooLarge other point = point
 over_fits all made (PatternRefused jail place kind) other point = point
 over_fits all made NumbersSpent other point = point
-over_fits all made NotBuilt other point = point
 over_fits all made NoMemory other point = point
 
 ends_over : (status : Status) (r : Run) → status ≢ NoMemory → Ends status r → r.point ≡ Over status
@@ -361,7 +427,6 @@ ends_over SinkFault r loud ends = ends.point
 ends_over ConfTooLarge r loud ends = ends.point
 ends_over (PatternRefused jail place kind) r loud ends = ends.point
 ends_over NumbersSpent r loud ends = ends.point
-ends_over NotBuilt r loud ends = ends.point
 
 -- a run that was planned ends for its turns exactly where it has made as many pauses
 pub counts_turns : (plan : Plan) (status : Status) (g : History) (es : List Event) → 1 ≤ plan.turns → Along feed MayCome Free (opening plan) g es → Ends status (after feed MayCome Free (opening plan) es)

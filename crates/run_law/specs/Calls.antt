@@ -1,7 +1,7 @@
 -- Calls on the outside with their arguments, and which event is which call.
 use Rattle.std.specs.Prelude.{ℕ, ◌≡◌, List, Option, Some, None}
 use Rattle.f2b_world.specs.declared.event.Event.{Event}
-use Rattle.f2b_world.specs.declared.event.Event.TheVariants.{Say, Make, Clock, Config, Names, Look as LookAt, Pause}
+use Rattle.f2b_world.specs.declared.event.Event.TheVariants.{Say, Make, Clock, Config, Names, Look as LookAt, ChildStart, ChildPoll, ChildKill, Pause}
 
 pub data Call : Type 0 where
   AskSay : List ℕ → Call
@@ -11,6 +11,10 @@ pub data Call : Type 0 where
   AskNames : List ℕ → Call
   -- a path, how many of the first bytes, from which offset on, and how many bytes at most
   AskLook : List ℕ → ℕ → ℕ → ℕ → Call
+  -- the number of a job, and a command
+  AskStart : ℕ → List ℕ → Call
+  AskPoll : ℕ → Call
+  AskKill : ℕ → Call
   AskPause : ℕ → Call
 
 -- the event is this call, with some answer
@@ -21,6 +25,9 @@ Makes (AskMake text) (Make made answer) = made ≡ text
 Makes AskClock (Clock answer) = Unit {0}
 Makes (AskNames dir) (Names there answer) = there ≡ dir
 Makes (AskLook path head from max) (LookAt there first begin most answer) = (there ≡ path) × (first ≡ head) × (begin ≡ from) × (most ≡ max)
+Makes (AskStart job text) (ChildStart there command answer) = (there ≡ job) × (command ≡ text)
+Makes (AskPoll job) (ChildPoll there answer) = there ≡ job
+Makes (AskKill job) (ChildKill there) = there ≡ job
 Makes (AskPause ms) (Pause waited) = waited ≡ ms
 Makes _ _ = ⊥
 

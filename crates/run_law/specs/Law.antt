@@ -4,16 +4,18 @@ use Rattle.f2b_world.specs.Told.{History}
 use Rattle.f2b_world.specs.Walks.{Walks}
 use Rattle.f2b_world.specs.declared.answer.Said.TheVariants.{Done as SayDone, Failed as SayFailed}
 use Rattle.f2b_world.specs.declared.event.Event.{Event}
-use Rattle.f2b_world.specs.declared.event.Event.TheVariants.{Say, Make, Clock as ClockRead, Config, Names, Look as LookAt, Pause as Paused}
+use Rattle.f2b_world.specs.declared.event.Event.TheVariants.{Say, Make, Clock as ClockRead, Config, Names, Look as LookAt, ChildStart, ChildPoll, ChildKill, Pause as Paused}
 use Rattle.run_law.specs.Calls.{Call, AskSay, AskTree, AskClock, IsNext}
 use Rattle.run_law.specs.Clock.{clock_call, clock_read}
 use Rattle.run_law.specs.Looks.{look_call, looked_at}
 use Rattle.run_law.specs.News.{goes_to, refused}
 use Rattle.run_law.specs.Pause.{pause_call, paused}
-use Rattle.run_law.specs.Points.{Place, AtClock, AtLook, AtPause, Point, AtTree, AtMakes, AtFirst, AtNames, AtTurn, Over, Run}
+use Rattle.run_law.specs.Points.{Place, AtClock, AtLook, AtPoll, AtKill, AtStart, AtPause, Point, AtTree, AtMakes, AtFirst, AtNames, AtTurn, Over, Run}
+use Rattle.run_law.specs.Polls.{kill_call, killed_at, poll_call, polled_at}
 use Rattle.run_law.specs.Said.{joined}
 use Rattle.run_law.specs.Server.{Server}
 use Rattle.run_law.specs.Start.{first_read, make_call, makes_on, names_call, names_read, tree_read}
+use Rattle.run_law.specs.Starts.{child_started, start_call}
 use Rattle.run_law.specs.Words.{plan_of}
 use Rattle.run_law.specs.declared.plan.Plan.{Plan}
 use Rattle.run_law.specs.declared.status.Status.{Status}
@@ -24,6 +26,9 @@ use Rattle.run_law.specs.declared.status.Status.TheVariants.{Usage, SinkFault, N
 abbrev pub turn_call : Place → Server → Option Call
 turn_call AtClock s = clock_call
 turn_call (AtLook i) s = look_call i s
+turn_call (AtPoll i) s = poll_call i s
+turn_call (AtKill i) s = kill_call i s
+turn_call (AtStart c text) s = start_call c text
 turn_call AtPause s = pause_call
 
 abbrev pub point_call : Plan → Point → Option Call
@@ -52,6 +57,9 @@ MayCome r event = IsNext (next_call r) event
 abbrev pub turns : Place → Event → Server → Run → Run
 turns AtClock (ClockRead answer) s r = clock_read answer s r
 turns (AtLook i) (LookAt path head from max answer) s r = looked_at (slice_get s.logs i) answer i s r
+turns (AtPoll i) (ChildPoll job answer) s r = polled_at (slice_get s.children.running i) answer i s r
+turns (AtKill i) (ChildKill job) s r = killed_at (slice_get s.children.running i) i s r
+turns (AtStart c text) (ChildStart job command answer) s r = child_started answer c s r
 turns AtPause (Paused ms) s r = paused s r
 turns _ _ s r = r
 

@@ -6,6 +6,7 @@ pub mod Patterns
 pub mod Paths
 pub mod Changes
 pub mod Logs
+pub mod Children
 pub mod Server
 pub mod Points
 pub mod Calls
@@ -13,6 +14,8 @@ pub mod News
 pub mod Turn
 pub mod Clock
 pub mod Looks
+pub mod Polls
+pub mod Starts
 pub mod Pause
 pub mod Start
 pub mod Law

@@ -1,6 +1,6 @@
 -- The patterns of a configuration.
-use Rattle.std.specs.Prelude.{ℕ, nat_lt, Bool, List, length, map}
-use Rattle.std.specs.List.{flat_map, list_any}
+use Rattle.std.specs.Prelude.{ℕ, List, map}
+use Rattle.std.specs.List.{flat_map}
 use Rattle.f2b_base.specs.declared.jail.Defs.{Defs}
 use Rattle.f2b_base.specs.declared.jail.JailDef.{JailDef}
 use Rattle.filter_regex.specs.Rules.{patterns, rules_of}
@@ -21,7 +21,3 @@ patterns_of_jail d = map (pattern_in d) (patterns (rules_of d))
 -- jail by jail, each in the order in which its patterns are built
 abbrev pub patterns_of : Defs → List Pattern
 patterns_of defs = flat_map patterns_of_jail defs.jails
-
--- whether some jail has an action
-abbrev pub is_any_action : Defs → Bool
-is_any_action defs = list_any (λ (d : JailDef). nat_lt 0 (length d.actions)) defs.jails

@@ -4,6 +4,7 @@
 -- said before the call of the point, all of them in one call. So no point knows of lines: an event gives news, and `brings` does the
 -- rest.
 use Rattle.std.specs.Prelude.{ℕ, List}
+use Rattle.child_table.specs.declared.child.Child.{Child}
 use Rattle.jail_conf.specs.declared.settings.Settings.{Settings}
 use Rattle.run_law.specs.Paths.{Naming}
 use Rattle.run_law.specs.Patterns.{Pattern}
@@ -16,6 +17,12 @@ pub data Place : Type 0 where
   AtClock : Place
   -- at the log of that place in its list, from 0
   AtLook : ℕ → Place
+  -- at the child of that place in the list of those that run, from 0
+  AtPoll : ℕ → Place
+  -- that child is late
+  AtKill : ℕ → Place
+  -- at the start of a child, with its command
+  AtStart : Child → List ℕ → Place
   AtPause : Place
 
 pub data Point : Type 0 where

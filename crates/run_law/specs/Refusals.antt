@@ -11,7 +11,7 @@ use Rattle.jail_conf.specs.declared.conf_error.ConfError.{ConfError}
 use Rattle.jail_conf.specs.declared.conf_error.ConfKind.{ConfKind}
 use Rattle.jail_conf.specs.declared.conf_error.ConfKind.TheVariants as conf
 use Rattle.run_law.specs.declared.status.Status.{Status}
-use Rattle.run_law.specs.declared.status.Status.TheVariants.{Stopped, TurnsSpent, WorkloadDone, Usage, ConfFault, ConfRefused, DiskFault, NotAJournal, JournalFull, GateFault, SinkFault, ConfTooLarge, PatternRefused, NumbersSpent, NotBuilt, NoMemory}
+use Rattle.run_law.specs.declared.status.Status.TheVariants.{Stopped, TurnsSpent, WorkloadDone, Usage, ConfFault, ConfRefused, DiskFault, NotAJournal, JournalFull, GateFault, SinkFault, ConfTooLarge, PatternRefused, NumbersSpent, NoMemory}
 use Rattle.run_law.specs.Said.{stamped}
 
 -- ---- a pattern
@@ -85,7 +85,6 @@ status_text SinkFault = None
 status_text ConfTooLarge = Some (codes "Configuration too large")
 status_text (PatternRefused jail place kind) = Some (pattern_refusal jail place kind)
 status_text NumbersSpent = Some (codes "numbers spent")
-status_text NotBuilt = Some (codes "not built")
 status_text NoMemory = None
 
 -- a text that says what went wrong

@@ -4,12 +4,19 @@ use Rattle.f2b_world.specs.Told.{History, Adds}
 use Rattle.f2b_world.specs.Walks.{after, Along}
 use Rattle.f2b_world.specs.declared.answer.Said.TheVariants.{Done}
 use Rattle.f2b_world.specs.declared.event.Event.{Event}
-use Rattle.f2b_world.specs.declared.event.Event.TheVariants.{Say, Pause}
+use Rattle.f2b_world.specs.declared.event.Event.TheVariants.{Say, ChildPoll, ChildStart, Pause}
+use Rattle.f2b_world.specs.declared.answer.StartAnswer.{StartAnswer}
+use Rattle.f2b_base.specs.declared.job.Job.{Job}
+use Rattle.child_table.specs.Children.{jobs_of}
+use Rattle.child_table.specs.declared.child.Child.{Child}
+use Rattle.run_law.specs.Children.{checked_first, startable}
 use Rattle.f2b_world.specs.Told.{Standing}
 use Rattle.run_law.specs.Law.{MayCome, Free, Ends, feed, begin}
-use Rattle.run_law.specs.Points.{Run}
+use Rattle.run_law.specs.Points.{AtClock, AtStart, AtPause, Point, AtTurn, Run}
 use Rattle.run_law.specs.Said.{joined}
+use Rattle.run_law.specs.Server.{Server, jobs, lanes_up}
 use Rattle.run_law.specs.Stages.{HasCause}
+use Rattle.run_law.specs.Turn.{start_place}
 use Rattle.run_law.specs.Words.{plan_of}
 use Rattle.run_law.specs.declared.status.Status.{Status}
 use Rattle.run_law.specs.declared.status.Status.TheVariants.{TurnsSpent, Usage, SinkFault, NoMemory}
@@ -65,13 +72,48 @@ pub record CountsTurns (turns : ℕ) (status : Status) (es : List Event) : Type 
   pub spent : status ≡ TurnsSpent → pauses_in es ≡ turns
   pub sooner : status ≢ TurnsSpent → status ≢ NoMemory → pauses_in es < turns
 
+-- ---- commands
+
+-- The child is started for this job, with this command: while fewer than 16 run, the job is the least among the first unsettled jobs of
+-- the lanes that is due and does not run, and what runs is the check of its lane, where one comes first, and else its own command.
+pub record IsStartFor (s : Server) (c : Child) (text : List ℕ) (job : Job) : Type 0 where
+  pub next : startable s.now s.children (jobs s) ≡ Some job
+  pub child : AtStart c text ≡ start_place s.now job (checked_first s.children (lanes_up s) (jobs s) job.id)
+
+-- at this point a child is started under that number, with that command
+abbrev pub StartsAt : Point → ℕ → List ℕ → Type 0
+StartsAt (AtTurn (AtStart c text) s) id command = (job : Job) × IsStartFor s c text job × (id ≡ c.job) × (command ≡ text)
+StartsAt _ id command = ⊥
+
+-- at this point as many run as may, or no job may be started
+abbrev pub IsAllStarted : Point → Type 0
+IsAllStarted (AtTurn AtPause s) = startable s.now s.children (jobs s) ≡ None
+IsAllStarted _ = ⊥
+
+pub record StartsInTurn (words : List (List ℕ)) (es : List Event) : Type 0 where
+  pub starts : (k id : ℕ) (command : List ℕ) (answer : StartAnswer) → slice_get es k ≡ Some (ChildStart id command answer) → StartsAt (run_after words (take k es)).point id command
+  pub paused : (k ms : ℕ) → slice_get es k ≡ Some (Pause ms) → IsAllStarted (run_after words (take k es)).point
+
+-- the jobs whose command, or whose check, was polled
+abbrev pub polls_in : List Event → List ℕ
+polls_in [] = []
+polls_in (ChildPoll job answer ∷ es) = job ∷ polls_in es
+polls_in (_ ∷ es) = polls_in es
+
+-- Each command that runs as a turn begins is polled once up to the pause of that turn, by the numbers of their jobs, and no other one is.
+pub record PollsEachOnce (words : List (List ℕ)) (es : List Event) : Type 0 where
+  pub polls : (before turn later : List Event) (ms : ℕ) (s : Server) → es ≡ before ++ (turn ++ Pause ms ∷ later) → (run_after words before).point ≡ AtTurn AtClock s → pauses_in turn ≡ 0
+      → polls_in turn ≡ jobs_of s.children.running
+
 -- ---- the whole run
 
--- The run's events obey the law from the first to the last, the run ends with this status where no call is left, and its lines were said
--- in their order.
+-- The run's events obey the law from the first to the last, the run ends with this status where no call is left, its lines were said in
+-- their order, its commands were started in their turn, and each of them was polled once a turn.
 pub record IsRun (old new : Option History) (words : List (List ℕ)) (status : Status) : Type 0 where
   pub law : Adds old new (λ g es. Obeys (begin words) g es × Ends status (run_after words es))
   pub lines : Adds old new (λ g es. SaysInOrder words status es)
+  pub commands : Adds old new (λ g es. StartsInTurn words es)
+  pub polls : Adds old new (λ g es. PollsEachOnce words es)
 
 -- The cause of each status, in every world: words outside the table, or a cause behind them. That all turns were made is told by the
 -- events.

@@ -4,10 +4,14 @@ use Rattle.f2b_base.specs.Limits.{latest_reading}
 use Rattle.f2b_base.specs.declared.input.Input.{Input}
 use Rattle.f2b_base.specs.declared.input.What.{What}
 use Rattle.f2b_base.specs.declared.outside.Reading.{Reading}
+use Rattle.f2b_base.specs.declared.job.Job.{Job}
+use Rattle.f2b_base.specs.declared.job.UpLane.{UpLane}
+use Rattle.f2b_model.specs.Jobs.{pending}
 use Rattle.f2b_model.specs.Lanes.{books}
 use Rattle.f2b_model.specs.State.{Jail}
 use Rattle.f2b_model.specs.Steps.{moves}
 use Rattle.f2b_model.specs.Whole.{State, step, told, empty_state, is_whole_spent}
+use Rattle.child_table.specs.Children.{Children, nobody}
 use Rattle.log_set.specs.Logs.{LogJail, Watching}
 use Rattle.run_law.specs.Logs.{log_jail, logs_of}
 use Rattle.run_law.specs.Said.{lines_of}
@@ -20,6 +24,8 @@ pub record Server : Type 0 where
   pub word : ℕ
   -- in the order of the jails and their watches
   pub logs : List Watching
+  -- the commands that run, and the checks that have passed
+  pub children : Children
   -- the turns that are left
   pub left : ℕ
 
@@ -31,6 +37,13 @@ jails s = s.state.jails.jails
 -- as the set of the logs has them
 abbrev pub log_jails : Server → List LogJail
 log_jails s = map log_jail (jails s)
+
+-- the jobs that are not settled, and the lanes that are up
+abbrev pub jobs : Server → List Job
+jobs s = pending s.state.lanes.jobs
+
+abbrev pub lanes_up : Server → List UpLane
+lanes_up s = s.state.lanes.up
 
 abbrev pub is_stopping : Server → Bool
 is_stopping s = s.state.lanes.stopping
@@ -51,7 +64,7 @@ read_at answer s = record s { now = max s.now (moment_of answer); word = answer.
 
 -- a server at its first reading: nothing happened yet
 abbrev pub begun : ℕ → Reading → Server
-begun turns answer = record { state = empty_state; now = moment_of answer; word = answer.word; logs = []; left = turns }
+begun turns answer = record { state = empty_state; now = moment_of answer; word = answer.word; logs = []; children = nobody; left = turns }
 
 -- ---- an input
 

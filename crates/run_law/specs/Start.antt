@@ -18,11 +18,11 @@ use Rattle.run_law.specs.Calls.{Call, AskMake, AskNames}
 use Rattle.run_law.specs.Changes.{config_changes}
 use Rattle.run_law.specs.News.{News, brings, goes_to, refused}
 use Rattle.run_law.specs.Paths.{Path, Naming, directory, first_naming, named, with_paths}
-use Rattle.run_law.specs.Patterns.{Pattern, is_any_action, patterns_of}
+use Rattle.run_law.specs.Patterns.{Pattern, patterns_of}
 use Rattle.run_law.specs.Points.{Point, AtMakes, AtFirst, AtNames, AtTurn, AtClock, Run}
 use Rattle.run_law.specs.Said.{ready_line, unread_line}
 use Rattle.run_law.specs.Server.{Server, begun, following}
-use Rattle.run_law.specs.declared.status.Status.TheVariants.{ConfFault, ConfRefused, ConfTooLarge, NotBuilt, PatternRefused}
+use Rattle.run_law.specs.declared.status.Status.TheVariants.{ConfFault, ConfRefused, ConfTooLarge, PatternRefused}
 
 -- ---- calls
 
@@ -41,13 +41,8 @@ abbrev pub to_makes : Settings → List Pattern → Point
 to_makes settings [] = AtFirst settings
 to_makes settings (p ∷ ps) = AtMakes settings (p ∷ ps)
 
--- no command is built yet
-abbrev pub accepted : Bool → Settings → Run → Run
-accepted true settings r = refused 0 NotBuilt r
-accepted false settings r = goes_to (to_makes settings (patterns_of settings.defs)) r
-
 abbrev pub defined : Result Settings ConfError → Run → Run
-defined (Ok settings) r = accepted (is_any_action settings.defs) settings r
+defined (Ok settings) r = goes_to (to_makes settings (patterns_of settings.defs)) r
 defined (Err error) r = refused 0 (ConfRefused error) r
 
 abbrev pub tree_read : TreeAnswer → Run → Run

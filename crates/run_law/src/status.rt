@@ -47,8 +47,6 @@ pub enum Status {
     },
     /// The serials of bans or the ids of jobs are used up.
     NumbersSpent,
-    /// A jail has an action, and commands are not built.
-    NotBuilt,
     NoMemory,
 }
 
@@ -80,7 +78,6 @@ impl Status {
             Status::ConfTooLarge => 10,
             Status::PatternRefused { .. } => 11,
             Status::NumbersSpent => 12,
-            Status::NotBuilt => 13,
             Status::NoMemory => 71,
         }
     }

@@ -61,6 +61,7 @@ module _ (a b : Standing) (settings : Settings) (reading : Reading) (walk : Path
     clocked = record { core = first.read.core; sound = record { base = never; from = empty_sound }; now = first.read.now; word = first.read.word };
     state = refl;
     logs = refl;
+    children = refl;
     left = refl;
   }
 
@@ -70,7 +71,7 @@ module _ (a b : Standing) (settings : Settings) (reading : Reading) (walk : Path
     runs = λ r is at.
         let s = begun plan.turns reading in
         let one = walks.runs r s at.paid (begins_keeping plan).clocked in
-        let two = configures.runs plan one.here s one.paid (record { clocked = one.keeps; state = refl; logs = refl; left = refl }) in
+        let two = configures.runs plan one.here s one.paid (record { clocked = one.keeps; state = refl; logs = refl; children = refl; left = refl }) in
         record {
           to = two.to;
           server = two.server;
@@ -152,6 +153,7 @@ module _ (a b : Standing) (settings : Settings) (walk : PathWalk) (defs : Defs) 
             found = walk.found;
             jails = follows.jails ∙ ap (λ (ds : Defs). map fresh ds.jails) defs_is;
             logs = follows.logs ∙ keeps.logs;
+            children = follows.children ∙ keeps.children;
             left = follows.left ∙ keeps.left;
           };
         });

@@ -71,6 +71,7 @@ no_jails s defs is not_changed =
 pub record Follows (defs : Defs) (s t : Server) : Type 0 where
   pub jails : jails t ≡ map fresh defs.jails
   pub logs : t.logs ≡ s.logs
+  pub children : t.children ≡ s.children
   pub left : t.left ≡ s.left
 
 -- the server behind the configuration has its jails, and all else is as before
@@ -80,11 +81,11 @@ after_input defs s what state is =
     subst P (sym is) (by_test (config_changes s.state defs) _
     (λ yes.
     let Q : Bool → Type 0 = λ b. Follows defs s (server_after (input_if b defs) s) in
-    subst Q (sym yes) (record { jails = first_step s.state s.now s.word defs state; logs = refl; left = refl }))
+    subst Q (sym yes) (record { jails = first_step s.state s.now s.word defs state; logs = refl; children = refl; left = refl }))
     (λ no.
     let Q : Bool → Type 0 = λ b. Follows defs s (server_after (input_if b defs) s) in
     let none : map fresh defs.jails ≡ [] = ap (map fresh) (no_jails s.state defs state no) in
-    subst Q (sym no) (record { jails = ap (λ (t : State). t.jails.jails) state ∙ sym none; logs = refl; left = refl })))
+    subst Q (sym no) (record { jails = ap (λ (t : State). t.jails.jails) state ∙ sym none; logs = refl; children = refl; left = refl })))
 
 -- ---- what the code keeps of fresh jails
 

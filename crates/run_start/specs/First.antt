@@ -2,6 +2,7 @@
 use Rattle.std.specs.Prelude.{◌≡◌, List, [], map}
 use Rattle.f2b_model.specs.Moves.{fresh}
 use Rattle.f2b_world.specs.Told.{Standing}
+use Rattle.child_table.specs.Children.{nobody}
 use Rattle.jail_conf.specs.declared.settings.Settings.{Settings}
 use Rattle.run_law.specs.Law.{Goes}
 use Rattle.run_law.specs.Paths.{Path, with_paths}
@@ -19,6 +20,7 @@ pub record KeepsFirst (plan : Plan) (settings : Settings) (s : Server) (kept : C
   pub found : List Path
   pub jails : jails s ≡ map fresh (with_paths settings.defs found).jails
   pub logs : s.logs ≡ []
+  pub children : s.children ≡ nobody
   pub left : s.left ≡ plan.turns
 
 -- the run comes to the first turn of a server that the code keeps

@@ -3,6 +3,7 @@ use Rattle.std.specs.Prelude.{ℕ, ◌≡◌, true, List, [], ◌∷◌}
 use Rattle.f2b_base.specs.declared.jail.WatchDef.{WatchDef}
 use Rattle.f2b_model.specs.Whole.{empty_state}
 use Rattle.f2b_world.specs.Told.{Standing}
+use Rattle.child_table.specs.Children.{nobody}
 use Rattle.jail_conf.specs.declared.settings.Settings.{Settings}
 use Rattle.log_follow.specs.Globs.{has_wildcard}
 use Rattle.run_law.specs.Law.{Goes, Halts}
@@ -38,6 +39,7 @@ pub record KeepsBegun (plan : Plan) (s : Server) (kept : Clocked) : Type 0 where
   pub clocked : KeepsClocked s kept
   pub state : s.state ≡ empty_state
   pub logs : s.logs ≡ []
+  pub children : s.children ≡ nobody
   pub left : s.left ≡ plan.turns
 
 -- the run comes to where the walk stands

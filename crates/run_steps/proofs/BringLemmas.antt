@@ -14,7 +14,7 @@ use Rattle.run_law.specs.Said.{lines_of}
 use Rattle.run_law.specs.Server.{Server, is_spent, taken, told_lines}
 use Rattle.run_law.specs.Stages.{Brings, BringFails, HasCause, IsRefusedAs, IsUnsaid, Refuses, Says, SayFails}
 use Rattle.run_law.specs.declared.status.Status.{Status}
-use Rattle.run_law.specs.declared.status.Status.TheVariants.{Stopped, TurnsSpent, WorkloadDone, Usage, ConfFault, ConfRefused, DiskFault, NotAJournal, JournalFull, GateFault, SinkFault, ConfTooLarge, PatternRefused, NumbersSpent, NotBuilt, NoMemory}
+use Rattle.run_law.specs.declared.status.Status.TheVariants.{Stopped, TurnsSpent, WorkloadDone, Usage, ConfFault, ConfRefused, DiskFault, NotAJournal, JournalFull, GateFault, SinkFault, ConfTooLarge, PatternRefused, NumbersSpent, NoMemory}
 use Rattle.run_law.proofs.CauseLemmas.{unsaid_cause}
 use Rattle.run_law.proofs.StageLemmas.{brings_taken, brings_told, fails_taken, fails_told, fails_spent, fails_early}
 use Rattle.run_steps.specs.Keeping.{IsUnbrought, KeepsClocked, StepsTo, input_of, news_of}
@@ -111,7 +111,6 @@ unsaid_unbrought before (Some what) a b SinkFault is = is
 unsaid_unbrought before (Some what) a b ConfTooLarge is = is
 unsaid_unbrought before (Some what) a b (PatternRefused jail place kind) is = is
 unsaid_unbrought before (Some what) a b NumbersSpent is = absurd is
-unsaid_unbrought before (Some what) a b NotBuilt is = is
 unsaid_unbrought before (Some what) a b NoMemory is = is
 
 -- no number was left
@@ -143,7 +142,6 @@ unbrought_cause before (Some what) a b GateFault is = absurd is
 unbrought_cause before (Some what) a b SinkFault is = is
 unbrought_cause before (Some what) a b ConfTooLarge is = absurd is
 unbrought_cause before (Some what) a b (PatternRefused jail place kind) is = absurd is
-unbrought_cause before (Some what) a b NotBuilt is = absurd is
 unbrought_cause before (Some what) a b NoMemory is = tt
 
 pub ruleset bringing = (bring_done, bring_unsaid, bring_spent, bring_memory, bring_told, told_unsaid)

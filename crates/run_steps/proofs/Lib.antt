@@ -3,3 +3,4 @@ pub mod BringLemmas
 pub mod ConfigLemmas
 pub mod StartLemmas
 pub mod RunningLemmas
+pub mod NumberLemmas

@@ -26,10 +26,11 @@ pub record KeepsClocked (s : Server) (kept : Clocked) : Type 0 where
   pub now : kept.now ≡ s.now
   pub word : kept.word ≡ s.word
 
--- besides, the followed logs of its jails, and the turns that are left
+-- besides, the followed logs of its jails, the commands that run, and the turns that are left
 pub record KeepsRunning (s : Server) (kept : Running) : Type 0 where
   pub clocked : KeepsClocked s kept.clocked
   pub logs : IsSetOf kept.logs (log_jails s) s.logs
+  pub children : kept.children ≡ s.children
   pub left : kept.left ≡ s.left
 
 -- these news, whatever the server is

@@ -1,6 +1,8 @@
 //! `Clocked`, what takes inputs.
 ghost use Rattle.std.specs.Prelude.{◌≤◌};
 ghost use Rattle.f2b_base.specs.Limits.{latest_reading};
+ghost use Rattle.f2b_model.specs.Jobs.{AreById};
+ghost use Rattle.run_steps.specs.Numbers.{AreById-prop};
 
 use f2b_base::Defs;
 use jail_core::Core;
@@ -14,6 +16,7 @@ pub struct Clocked {
     /// The last reading's word.
     pub word: u64,
     ghost timely: { now ≤ latest_reading },
+    ghost numbered: { AreById 0 core.lanes.jobs core.lanes.next_job } by { AreById-prop 0 core.lanes.jobs core.lanes.next_job },
 }
 
 impl Clocked {

@@ -175,7 +175,6 @@ fn status_text(alloc: Global, status: &Status) -> Result<Option<Bytes>, NoMemory
         Status::ConfTooLarge => Bytes::from_slice(alloc, b"Configuration too large"),
         Status::PatternRefused { jail, place, kind } => pattern_refusal(alloc, jail, *place, *kind),
         Status::NumbersSpent => Bytes::from_slice(alloc, b"numbers spent"),
-        Status::NotBuilt => Bytes::from_slice(alloc, b"not built"),
     }?;
     Ok(Some(text))
 }

@@ -1,6 +1,7 @@
 //! `Running`, what a run keeps over its turns.
 
 use crate::clocked::Clocked;
+use child_table::ChildTable;
 use log_set::LogSet;
 
 /// What a run keeps of a server over its turns. The filters of the logs are borrowed.
@@ -8,6 +9,8 @@ use log_set::LogSet;
 pub struct Running<'f> {
     pub clocked: Clocked,
     pub logs: LogSet<'f>,
+    /// The commands that run, and the checks that have passed.
+    pub children: ChildTable,
     /// The turns that are left, this one among them.
     pub left: u64,
 }

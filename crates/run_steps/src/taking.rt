@@ -16,6 +16,7 @@ use run_law::Status;
 use std::alloc::Global;
 
 // The step alone, with what it tells.
+#[tactic(auto, using(crate::proofs::NumberLemmas::step_numbered))]
 fn step(clocked: Clocked, what: What) -> Result<(Clocked, Told), NoMemory>
     requires fit { IsFitWhat what }
     requires bounded { IsBoundedWhat what }

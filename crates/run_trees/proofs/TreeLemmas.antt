@@ -1,5 +1,5 @@
 -- The configuration of a run is read, or the run is refused.
-use Rattle.std.proofs.Common.{ℕ, ◌≡◌, Bool, true, false, List, Option, Some, None, Result, Ok, Err, refl, sym, ap, ◌∙◌, subst}
+use Rattle.std.proofs.Common.{ℕ, ◌≡◌, List, Option, Some, None, Result, Ok, Err, refl, sym, ap, subst}
 use Rattle.f2b_base.specs.declared.outside.Tree.{Tree}
 use Rattle.f2b_base.specs.declared.outside.TreeAnswer.{TreeAnswer}
 use Rattle.f2b_base.specs.declared.outside.TreeAnswer.TheVariants.{Tree as TreeGiven, Failed as TreeFailed, TooLarge as TreeTooLarge, NoMemory as TreeNoMemory}
@@ -13,42 +13,37 @@ use Rattle.jail_conf.specs.declared.settings.Settings.{Settings}
 use Rattle.run_law.specs.Calls.{IsNext}
 use Rattle.run_law.specs.Law.{feed, moved, point_call}
 use Rattle.run_law.specs.News.{goes_to, refused}
-use Rattle.run_law.specs.Patterns.{is_any_action, patterns_of}
+use Rattle.run_law.specs.Patterns.{patterns_of}
 use Rattle.run_law.specs.Points.{Point, AtTree, Run}
 use Rattle.run_law.specs.Stages.{HasCause, IsRefusal, IsRefusedAs, IsSteady, Refuses}
-use Rattle.run_law.specs.Start.{accepted, defined, to_makes, tree_read}
+use Rattle.run_law.specs.Start.{defined, to_makes, tree_read}
 use Rattle.run_law.specs.declared.plan.Plan.{Plan}
 use Rattle.run_law.specs.declared.status.Status.{Status}
-use Rattle.run_law.specs.declared.status.Status.TheVariants.{ConfFault, ConfRefused, ConfTooLarge, NotBuilt, NoMemory}
+use Rattle.run_law.specs.declared.status.Status.TheVariants.{ConfFault, ConfRefused, ConfTooLarge, NoMemory}
 use Rattle.run_law.proofs.CauseLemmas.{refused_cause, steady_call, steady_refl}
 use Rattle.run_law.proofs.PointLemmas.{halts_after, halts_here, point_goes}
 use Rattle.run_steps.specs.Starting.{StartFails, Starts}
 use Rattle.run_steps.proofs.StartLemmas.{refused_call, starts_call, start_fails_here}
-use Rattle.run_trees.specs.Trees.{HasAction, IsDecided, IsOfTree, IsRead}
+use Rattle.run_trees.specs.Trees.{IsDecided, IsOfTree, IsRead}
 
 -- ---- what a tree comes to
 
-pub tree_acts : (tree : Tree) (settings : Settings) (acts : Bool) → conf tree ≡ Ok settings → acts ≡ is_any_action settings.defs → acts ≡ true → HasAction tree
-tree_acts tree settings acts is same holds = record { settings = settings; defined = is; acts = sym same ∙ holds }
+pub tree_read_so : (tree : Tree) (settings : Settings) → conf tree ≡ Ok settings → AreStorableDefs settings.defs → IsRead tree settings
+tree_read_so tree settings is stored = record { defined = is; storable = stored }
 
-pub tree_read_so : (tree : Tree) (settings : Settings) (acts : Bool) → conf tree ≡ Ok settings → AreStorableDefs settings.defs → acts ≡ is_any_action settings.defs → acts ≡ false → IsRead tree settings
-tree_read_so tree settings acts is stored same none = record { defined = is; still = sym same ∙ none; storable = stored }
-
-pub ruleset deciding = (tree_acts, tree_read_so)
+pub ruleset deciding = (tree_read_so)
 
 -- ---- where an answer leads
 
 leads_on : (answer : TreeAnswer) (settings : Settings) (r : Run) → IsDecided answer (Ok settings) → tree_read answer r ≡ goes_to (to_makes settings (patterns_of settings.defs)) r
 leads_on (TreeGiven tree) settings r is =
-    ap (λ (outcome : Result Settings ConfError). defined outcome r) is.defined ∙ ap (λ (acts : Bool). accepted acts settings r) is.still
+    ap (λ (outcome : Result Settings ConfError). defined outcome r) is.defined
 leads_on TreeFailed settings r is = absurd is
 leads_on TreeTooLarge settings r is = absurd is
 leads_on TreeNoMemory settings r is = absurd is
 
 leads_away : (answer : TreeAnswer) (refusal : Status) (r : Run) → IsDecided answer (Err refusal) → tree_read answer r ≡ refused 0 refusal r
 leads_away (TreeGiven tree) (ConfRefused error) r is = ap (λ (outcome : Result Settings ConfError). defined outcome r) is
-leads_away (TreeGiven tree) NotBuilt r is =
-    ap (λ (outcome : Result Settings ConfError). defined outcome r) is.defined ∙ ap (λ (acts : Bool). accepted acts is.settings r) is.acts
 leads_away TreeFailed ConfFault r is = refl
 leads_away TreeTooLarge ConfTooLarge r is = refl
 leads_away _ _ r is = absurd is
@@ -100,14 +95,12 @@ asked_steady a b (Some event) asked = steady_call a b event asked
 
 pub tree_refusal : (answer : TreeAnswer) (refusal : Status) → IsDecided answer (Err refusal) → IsRefusal refusal
 tree_refusal (TreeGiven tree) (ConfRefused error) is = tt
-tree_refusal (TreeGiven tree) NotBuilt is = tt
 tree_refusal TreeFailed ConfFault is = tt
 tree_refusal TreeTooLarge ConfTooLarge is = tt
 tree_refusal _ _ is = absurd is
 
 tree_cause : (a b : Standing) (root : List ℕ) (answer : TreeAnswer) (refusal : Status) → Asked a (config_event root answer) b → IsDecided answer (Err refusal) → HasCause a b refusal
 tree_cause a b root (TreeGiven tree) (ConfRefused error) asked is = record { tree = tree; refused = is }
-tree_cause a b root (TreeGiven tree) NotBuilt asked is = tt
 tree_cause a b root TreeFailed ConfFault asked is = asked.counts.cause
 tree_cause a b root TreeTooLarge ConfTooLarge asked is = tt
 tree_cause a b root _ _ asked is = absurd is

@@ -6,27 +6,19 @@ ghost use Rattle.f2b_model.specs.Lists.{AllOf};
 ghost use Rattle.f2b_model.specs.Sound.{AreFitDefs};
 ghost use Rattle.f2b_model.specs.Storable.{AreStorableDefs};
 ghost use Rattle.filter_regex.specs.Rules.{IsSupported};
-ghost use Rattle.run_law.specs.Patterns.{is_any_action, patterns_of};
+ghost use Rattle.run_law.specs.Patterns.{patterns_of};
 ghost use Rattle.run_law.specs.Points.{AtTree};
 ghost use Rattle.run_law.specs.Stages.{HasCause, IsSteady};
 ghost use Rattle.run_law.specs.Start.{to_makes};
 ghost use Rattle.run_steps.specs.Starting.{Starts, StartFails};
 ghost use Rattle.run_trees.specs.Trees.{IsDecided, IsOfTree};
 
-use f2b_base::{Defs, NoMemory, Tree, TreeAnswer};
+use f2b_base::{NoMemory, Tree, TreeAnswer};
 use f2b_world::World;
 use jail_conf::{Fail, Settings, conf};
 use run_law::{Plan, Status};
 use run_steps::refuse;
 use std::alloc::Global;
-
-// Whether some jail has an action.
-fn has_action(defs: &Defs) -> bool
-    ensures { result ≡ is_any_action defs.now }
-{
-    let jails = defs.jails.as_slice();
-    jails.iter().any(|jail| 0 < jail.actions.len())
-}
 
 // The configuration of a tree, or why the run is refused.
 #[tactic(auto, using(crate::proofs::TreeLemmas::deciding))]
@@ -34,12 +26,7 @@ fn decide(alloc: Global, tree: &Tree) -> Result<Result<Settings, Status>, NoMemo
     ensures { IfOk result (IsDecided (TreeGiven tree.now)) }
 {
     match conf(alloc, tree) {
-        Ok(settings) => {
-            if has_action(&settings.defs) {
-                return Ok(Err(Status::NotBuilt));
-            }
-            Ok(Ok(settings))
-        }
+        Ok(settings) => Ok(Ok(settings)),
         Err(Fail::Refused(error)) => Ok(Err(Status::ConfRefused(error))),
         Err(Fail::NoMemory) => Err(NoMemory),
     }
@@ -59,7 +46,7 @@ fn take_answer(alloc: Global, answer: TreeAnswer) -> Result<Result<Settings, Sta
 
 /// Reads the configuration of a plan.
 ///
-/// It is refused where it could not be read, is too large or is refused itself, and where a jail has an action: no command is built.
+/// The run is refused where it could not be read, is too large or is refused itself.
 #[tactic(auto, using(crate::proofs::TreeLemmas::reading, crate::proofs::SupportLemmas::supporting, run_law::proofs::CauseLemmas::counting))]
 pub fn read_settings<W: World>(
     alloc: Global,

@@ -4,6 +4,12 @@
 #![tactic(auto)]
 
 #[cfg(test)]
+mod commands;
+#[cfg(test)]
+mod limits;
+#[cfg(test)]
+mod play;
+#[cfg(test)]
 mod tests;
 #[cfg(test)]
 mod trees;

@@ -1,15 +1,16 @@
-use f2b_base::{Bytes, Reading, Seq, Text, Tree, TreeAnswer, TreeFile};
-use f2b_mem::{FileChange, Image, MemWorld, Script};
-use f2b_world::{Event, Said};
-use server_top::server;
+//! Runs of one jail with one log.
+use crate::play;
+use crate::play::{File, Given, tree};
+use f2b_base::{Bytes, Seq, Text};
+use f2b_mem::FileChange;
 use std::alloc::Global;
 use std::test::Fail;
 
 /// One run: what it is given, and how it ends and what it says.
 struct Row {
     words: &'static str,
-    /// The configuration, or none.
-    conf: &'static str,
+    /// The files of the configuration.
+    conf: &'static [File<'static>],
     /// What is written to the log before the first turn, before the second, and so on.
     log: &'static [&'static str],
     readings: &'static [u64],
@@ -19,14 +20,20 @@ struct Row {
     said: &'static str,
 }
 
-const WEB: &str =
-    "[web]\nenabled = true\nlogpath = /log\nignoreself = false\ndatepattern = Epoch\nfailregex = ^ fail from <IP4>$\nfindtime = 600\nmaxretry = 3\nbantime = 60\n";
+const WEB: &[File] = &[(
+    "jail.conf",
+    "[web]\nenabled = true\nlogpath = /log\nignoreself = false\ndatepattern = Epoch\nfailregex = ^ fail from <IP4>$\nfindtime = 600\nmaxretry = 3\nbantime = 60\n",
+)];
 
-const LONG: &str =
-    "[web]\nenabled = true\nlogpath = /log\nignoreself = false\ndatepattern = Epoch\nfailregex = ^ fail from <IP4>$\nfindtime = 600\nmaxretry = 3\nbantime = 600\n";
+const LONG: &[File] = &[(
+    "jail.conf",
+    "[web]\nenabled = true\nlogpath = /log\nignoreself = false\ndatepattern = Epoch\nfailregex = ^ fail from <IP4>$\nfindtime = 600\nmaxretry = 3\nbantime = 600\n",
+)];
 
-const OPEN: &str =
-    "[web]\nenabled = true\nlogpath = /log\nignoreself = false\ndatepattern = Epoch\nfailregex = (<IP4>\nfindtime = 600\nmaxretry = 3\nbantime = 60\n";
+const OPEN: &[File] = &[(
+    "jail.conf",
+    "[web]\nenabled = true\nlogpath = /log\nignoreself = false\ndatepattern = Epoch\nfailregex = (<IP4>\nfindtime = 600\nmaxretry = 3\nbantime = 60\n",
+)];
 
 const STARTS: [Row; 7] = [
     Row {
@@ -40,7 +47,7 @@ const STARTS: [Row; 7] = [
     },
     Row {
         words: "--conf /c --turns 3",
-        conf: "",
+        conf: &[],
         log: &[],
         readings: &[1000],
         fails: &[],
@@ -49,7 +56,10 @@ const STARTS: [Row; 7] = [
     },
     Row {
         words: "--conf /c --turns 3",
-        conf: "[web]\nenabled = true\nlogpath = /log\nfailregex = ^ fail from <IP4>$\nbantime = 0\n",
+        conf: &[(
+            "jail.conf",
+            "[web]\nenabled = true\nlogpath = /log\nfailregex = ^ fail from <IP4>$\nbantime = 0\n",
+        )],
         log: &[],
         readings: &[],
         fails: &[],
@@ -210,17 +220,6 @@ const ROTATIONS: [Row; 2] = [
     },
 ];
 
-fn tree(alloc: Global, conf: &str) -> Result<TreeAnswer, Fail> {
-    let mut files = Seq::new(alloc);
-    if !conf.is_empty() {
-        files.push(TreeFile {
-            path: Text::from_str(alloc, "jail.conf")?,
-            content: Bytes::from_slice(alloc, conf.as_bytes())?,
-        })?;
-    }
-    Ok(TreeAnswer::Tree(Tree { files }))
-}
-
 /// The log grows by a part before each turn, or becomes it.
 fn changes(alloc: Global, log: &[&str], rotated: bool) -> Result<Seq<FileChange>, Fail> {
     let mut changes = Seq::new(alloc);
@@ -239,65 +238,16 @@ fn changes(alloc: Global, log: &[&str], rotated: bool) -> Result<Seq<FileChange>
     Ok(changes)
 }
 
-fn readings(alloc: Global, secs: &[u64]) -> Result<Seq<Reading>, Fail> {
-    let mut readings = Seq::new(alloc);
-    for secs in secs {
-        readings.push(Reading {
-            secs: *secs,
-            word: 0,
-        })?;
-    }
-    Ok(readings)
-}
-
-fn world(alloc: Global, row: &Row, rotated: bool) -> Result<MemWorld, Fail> {
-    let mut trees = Seq::new(alloc);
-    trees.push(tree(alloc, row.conf)?)?;
-    let script = Script {
-        readings: readings(alloc, row.readings)?,
-        trees,
+fn is_as_wanted(alloc: Global, row: &Row, rotated: bool) -> Result<bool, Fail> {
+    let given = Given {
+        words: row.words,
+        tree: tree(alloc, row.conf)?,
+        readings: row.readings,
         changes: changes(alloc, row.log, rotated)?,
         children: Seq::new(alloc),
-        clients: Seq::new(alloc),
-        fails: Seq::from(row.fails.to_vec(alloc)?),
-        image: Image {
-            slot0: Bytes::new(alloc),
-            slot1: Bytes::new(alloc),
-        },
+        fails: row.fails,
     };
-    Ok(MemWorld::new(alloc, script)?)
-}
-
-/// What was said without a fault.
-fn said(alloc: Global, events: &[Event]) -> Result<Bytes, Fail> {
-    let mut said = Bytes::new(alloc);
-    for event in events {
-        if let Event::Say {
-            bytes,
-            answer: Said::Done,
-        } = event
-        {
-            said.push_slice(bytes.as_slice())?;
-        }
-    }
-    Ok(said)
-}
-
-/// The status of a row's run, what it said, and whether its world is still told.
-fn run(alloc: Global, row: &Row, rotated: bool) -> Result<(u8, Bytes, bool), Fail> {
-    let mut words = Vec::new(alloc);
-    for word in row.words.split_whitespace() {
-        words.push(String::from_str(alloc, word)?)?;
-    }
-    let mut world = world(alloc, row, rotated)?;
-    let status = server(alloc, words.as_slice(), &mut world);
-    let said = said(alloc, world.events())?;
-    Ok((status.number(), said, world.is_told()))
-}
-
-fn is_as_wanted(alloc: Global, row: &Row, rotated: bool) -> Result<bool, Fail> {
-    let (status, said, told) = run(alloc, row, rotated)?;
-    Ok(told && status == row.status && said.as_slice() == row.said.as_bytes())
+    play::is_as_wanted(alloc, given, row.status, row.said)
 }
 
 #[test]

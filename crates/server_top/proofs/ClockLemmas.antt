@@ -13,15 +13,16 @@ use Rattle.f2b_model.specs.Whole.{State, Now, now_of}
 use Rattle.f2b_model.specs.declared.jail_now.JailNow.{JailNow}
 use Rattle.f2b_world.specs.Told.{Standing, Called}
 use Rattle.f2b_world.specs.declared.event.Event.TheVariants.{Clock}
-use Rattle.log_set.specs.Logs.{IsSetOf, Logs, next_look}
+use Rattle.log_set.specs.Logs.{IsSetOf, Logs}
 use Rattle.run_law.specs.Clock.{tick_news}
 use Rattle.run_law.specs.Law.{Goes}
 use Rattle.run_law.specs.News.{brings, nothing, only}
 use Rattle.run_law.specs.Points.{AtClock, Run}
-use Rattle.run_law.specs.Server.{Server, is_stopping, log_jails, read_at}
-use Rattle.run_law.specs.Stages.{Brings, BringFails, IsAt, IsSaying, Moves, MoveFails}
-use Rattle.run_law.specs.Turn.{look_point, to_accept, to_children, to_end, to_logs, to_looks, to_starts}
+use Rattle.run_law.specs.Server.{Server, log_jails, read_at}
+use Rattle.run_law.specs.Stages.{Brings, BringFails, IsAt, Moves, MoveFails}
+use Rattle.run_law.specs.Turn.{to_logs}
 use Rattle.run_law.specs.declared.status.Status.{Status}
+use Rattle.run_law.proofs.EntryLemmas.{saying_logs}
 use Rattle.run_law.proofs.JailLemmas.{tick_jails}
 use Rattle.run_law.proofs.PointLemmas.{says_none, turn_goes}
 use Rattle.run_law.proofs.StageLemmas.{brings_same, brings_told, fails_same, halts_bringing, reaches_brought}
@@ -90,26 +91,15 @@ read_keeps before mid answer s reads keeps = record {
   word = reads.word;
 }
 
-running_read : (before mid : Running) (answer : Reading) (s : Server) → ReadsAt before.clocked answer mid.clocked → mid.logs ≡ before.logs → mid.left ≡ before.left → KeepsRunning s before → KeepsRunning (read_at answer s) mid
-running_read before mid answer s reads logs left keeps =
+running_read : (before mid : Running) (answer : Reading) (s : Server) → ReadsAt before.clocked answer mid.clocked → mid.logs ≡ before.logs → mid.children ≡ before.children → mid.left ≡ before.left
+    → KeepsRunning s before → KeepsRunning (read_at answer s) mid
+running_read before mid answer s reads logs children left keeps =
     let P : Logs → Type 0 = λ ws. IsSetOf ws (log_jails s) s.logs in
-    record { clocked = read_keeps before.clocked mid.clocked answer s reads keeps.clocked; logs = subst P (sym logs) keeps.logs; left = left ∙ keeps.left }
+    record { clocked = read_keeps before.clocked mid.clocked answer s reads keeps.clocked; logs = subst P (sym logs) keeps.logs; children = children ∙ keeps.children; left = left ∙ keeps.left }
 
-pub clock_reads : (a b : Standing) (answer : Reading) (before after : Running) → Called a (Clock answer) b → ReadsAt before.clocked answer after.clocked → after.logs ≡ before.logs → after.left ≡ before.left → ReadsClock a b before after
-clock_reads a b answer before after call reads logs left = record { answer = answer; call = call; reads = reads; logs = logs; left = left }
-
-saying_looks : (o : Option ℕ) (s : Server) → IsSaying (look_point o s)
-unfolding to_children to_accept to_starts to_end
-saying_looks None s = tt
-saying_looks (Some i) s = tt
-
-saying_either : (stopping : Bool) (s : Server) → IsSaying (cond stopping (to_children s) (to_looks 0 s))
-saying_either true s = saying_looks None s
-saying_either false s = saying_looks (next_look 0 (log_jails s) s.logs) s
-
-saying_logs : (s : Server) → IsSaying (to_logs s)
-unfolding to_logs
-saying_logs s = saying_either (is_stopping s) s
+pub clock_reads : (a b : Standing) (answer : Reading) (before after : Running) → Called a (Clock answer) b → ReadsAt before.clocked answer after.clocked → after.logs ≡ before.logs → after.children ≡ before.children
+    → after.left ≡ before.left → ReadsClock a b before after
+clock_reads a b answer before after call reads logs children left = record { answer = answer; call = call; reads = reads; logs = logs; children = children; left = left }
 
 module _ (a b c : Standing) (before mid : Running) (reads : ReadsClock a b before mid) where
   -- the clock leads to what a tick brings
@@ -117,7 +107,7 @@ module _ (a b c : Standing) (before mid : Running) (reads : ReadsClock a b befor
   clock_goes r s at = turn_goes a b (Clock reads.answer) r AtClock s reads.call at tt refl
 
   keeps_read : (s : Server) → KeepsRunning s before → KeepsRunning (read_at reads.answer s) mid
-  keeps_read s keeps = running_read before mid reads.answer s reads.reads reads.logs reads.left keeps
+  keeps_read s keeps = running_read before mid reads.answer s reads.reads reads.logs reads.children reads.left keeps
 
   pub clock_moves : (after : Running) → Brings KeepsRunning b c (news_of [] (tick_of mid.clocked) []) mid after → Moves KeepsRunning a c at_clock to_logs before after
   clock_moves after brought = record {

@@ -24,17 +24,17 @@ pause_goes : (a b : Standing) (r : Run) (s : Server) → Called a (Pause 250) b 
 unfolding to_end
 pause_goes a b r s call at = turn_goes a b (Pause 250) r AtPause s call at refl refl
 
-pub pause_moves : (a b : Standing) (before after : Running) → 1 < before.left → Called a (Pause 250) b → after.clocked ≡ before.clocked → after.logs ≡ before.logs → after.left + 1 ≡ before.left
+pub pause_moves : (a b : Standing) (before after : Running) → 1 < before.left → Called a (Pause 250) b → after.clocked ≡ before.clocked → after.logs ≡ before.logs → after.children ≡ before.children → after.left + 1 ≡ before.left
     → Moves KeepsRunning a b to_end at_clock before after
-pause_moves a b before after some call clocked logs left = record {
+pause_moves a b before after some call clocked logs children left = record {
   runs = λ r s at keeps.
       let n : ℕ = s.left - 1 in
       let is : before.left ≡ s.left = keeps.left in
       let left_is : after.left ≡ n = omega (arith, left, is) in
-      let kept : Running = record { clocked = before.clocked; logs = before.logs; left = n } in
-      let same : kept ≡ after = λ i. record { clocked = sym clocked i; logs = sym logs i; left = sym left_is i } in
+      let kept : Running = record { clocked = before.clocked; logs = before.logs; children = before.children; left = n } in
+      let same : kept ≡ after = λ i. record { clocked = sym clocked i; logs = sym logs i; children = sym children i; left = sym left_is i } in
       let t : Server = record s { left = n } in
-      let keeps_next : KeepsRunning t kept = record { clocked = record { core = keeps.clocked.core; sound = keeps.clocked.sound; now = keeps.clocked.now; word = keeps.clocked.word }; logs = keeps.logs; left = refl } in
+      let keeps_next : KeepsRunning t kept = record { clocked = record { core = keeps.clocked.core; sound = keeps.clocked.sound; now = keeps.clocked.now; word = keeps.clocked.word }; logs = keeps.logs; children = keeps.children; left = refl } in
       let P : Running → Type 0 = λ k. KeepsRunning t k in
       record {
         to = paused s r;

@@ -1,5 +1,6 @@
 -- A run from its plan to its end.
-use Rattle.std.proofs.Common.{◌≡◌, List, [], ◌∷◌, map, refl, sym, subst}
+use Rattle.std.proofs.Common.{◌≡◌, List, [], ◌∷◌, map, refl, sym, ◌∙◌, subst}
+use Rattle.child_table.specs.Children.{Children, nobody}
 use Rattle.f2b_world.specs.Told.{Standing}
 use Rattle.f2b_model.specs.Lists.{AllOf}
 use Rattle.f2b_model.specs.Moves.{fresh}
@@ -75,21 +76,22 @@ are_awake : (plan : Plan) (settings : Settings) (s : Server) (kept : Clocked) �
 are_awake plan settings s kept keeps = subst AreAwake (sym keeps.jails) (all_awake (with_paths settings.defs keeps.found).jails)
 
 -- what the code keeps at the first turn
-running_first : (plan : Plan) (settings : Settings) (s : Server) (kept : Clocked) (logs : Logs) → KeepsFirst plan settings s kept → FollowsAll kept logs
-    → KeepsRunning (following s) (record { clocked = kept; logs = logs; left = plan.turns })
-running_first plan settings s kept logs keeps follows =
+running_first : (plan : Plan) (settings : Settings) (s : Server) (kept : Clocked) (logs : Logs) (t : Children) → t ≡ nobody → KeepsFirst plan settings s kept → FollowsAll kept logs
+    → KeepsRunning (following s) (record { clocked = kept; logs = logs; children = t; left = plan.turns })
+running_first plan settings s kept logs t none keeps follows =
     let P : List Watching → Type 0 = λ old. IsSetOf logs (log_jails s) (logs_of old (jails s)) in
     record {
       clocked = record { core = keeps.clocked.core; sound = keeps.clocked.sound; now = keeps.clocked.now; word = keeps.clocked.word };
       logs = subst P (sym keeps.logs) (follows.sets s keeps.clocked (are_awake plan settings s kept keeps));
+      children = none ∙ sym keeps.children;
       left = sym keeps.left;
     }
 
-pub serves : (a d e : Standing) (plan : Plan) (kept : Clocked) (logs : Logs) (status : Status) → Prepares a d plan kept → FollowsAll kept logs
-    → MoveFails KeepsRunning d e at_clock (record { clocked = kept; logs = logs; left = plan.turns }) status → Halts a.told e.told (opening plan) status
-serves a d e plan kept logs status prepared follows fails =
+pub serves : (a d e : Standing) (plan : Plan) (kept : Clocked) (logs : Logs) (t : Children) (status : Status) → Prepares a d plan kept → FollowsAll kept logs → t ≡ nobody
+    → MoveFails KeepsRunning d e at_clock (record { clocked = kept; logs = logs; children = t; left = plan.turns }) status → Halts a.told e.told (opening plan) status
+serves a d e plan kept logs t status prepared follows none fails =
     halts_after a.told d.told e.told (opening plan) prepared.to status prepared.goes
-    (fails.runs prepared.to (following prepared.server) prepared.at (running_first plan prepared.settings prepared.server kept logs prepared.keeps follows))
+    (fails.runs prepared.to (following prepared.server) prepared.at (running_first plan prepared.settings prepared.server kept logs t none prepared.keeps follows))
 
 pub ruleset preparing = (fails_read, fails_on, fails_behind, prepares)
 

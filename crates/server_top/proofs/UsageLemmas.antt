@@ -6,7 +6,7 @@ use Rattle.run_law.specs.Stages.{IsRefusedAs, IsUnsaid}
 use Rattle.run_law.specs.Words.{plan_of}
 use Rattle.run_law.specs.declared.plan.Plan.{Plan}
 use Rattle.run_law.specs.declared.status.Status.{Status}
-use Rattle.run_law.specs.declared.status.Status.TheVariants.{Stopped, TurnsSpent, WorkloadDone, Usage, ConfFault, ConfRefused, DiskFault, NotAJournal, JournalFull, GateFault, SinkFault, ConfTooLarge, PatternRefused, NumbersSpent, NotBuilt, NoMemory}
+use Rattle.run_law.specs.declared.status.Status.TheVariants.{Stopped, TurnsSpent, WorkloadDone, Usage, ConfFault, ConfRefused, DiskFault, NotAJournal, JournalFull, GateFault, SinkFault, ConfTooLarge, PatternRefused, NumbersSpent, NoMemory}
 use Rattle.run_law.proofs.ServeLemmas.{run_memory}
 use Rattle.server_top.specs.Usage.{IsOfUsage}
 
@@ -25,7 +25,6 @@ unsaid_usage words old new SinkFault is = (is, tt)
 unsaid_usage words old new ConfTooLarge is = absurd is
 unsaid_usage words old new (PatternRefused jail place kind) is = absurd is
 unsaid_usage words old new NumbersSpent is = absurd is
-unsaid_usage words old new NotBuilt is = absurd is
 unsaid_usage words old new NoMemory is = (tt, tt)
 
 pub usage_caused : (words : List (List ℕ)) (old new : Standing) (status : Status) → plan_of words ≡ None → IsRefusedAs old new Usage status → IsCaused words old new status × IsOfUsage status

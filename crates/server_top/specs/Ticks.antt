@@ -28,6 +28,7 @@ pub record ReadsClock (old new : Standing) (before after : Running) : Type 0 whe
   pub call : Called old (Clock answer) new
   pub reads : ReadsAt before.clocked answer after.clocked
   pub logs : after.logs ≡ before.logs
+  pub children : after.children ≡ before.children
   pub left : after.left ≡ before.left
 
 -- a tick, where a ban is due

@@ -16,6 +16,7 @@ const FORGOTTEN_A_TURN: u64 = 10_000;
 
 // Takes over a reading of the clock. Now never goes back, and a reading above the latest counts as it. What no longer matters of
 // failures gives its memory back.
+#[tactic(auto, using(run_steps::proofs::NumberLemmas::same_numbered))]
 fn at_reading(clocked: Clocked, reading: Reading) -> Clocked
     ensures { ReadsAt clocked reading result }
 {
@@ -29,7 +30,7 @@ fn at_reading(clocked: Clocked, reading: Reading) -> Clocked
     }
 }
 
-// Reads the clock. The logs and the turns that are left stay as they are.
+// Reads the clock. The logs, the commands that run and the turns that are left stay as they are.
 #[tactic(auto, using(crate::proofs::ClockLemmas::clock_reads, run_law::proofs::CauseLemmas::counting))]
 fn read<'f, W: World>(world: &mut W, running: Running<'f>) -> Running<'f>
     ensures reads { ReadsClock (W.stands world.old) (W.stands world.new) running.entry result }
@@ -39,11 +40,13 @@ fn read<'f, W: World>(world: &mut W, running: Running<'f>) -> Running<'f>
     let Running {
         clocked,
         logs,
+        children,
         left,
     } = running;
     Running {
         clocked: at_reading(clocked, reading),
         logs,
+        children,
         left,
     }
 }
@@ -64,12 +67,14 @@ fn tick<'f, W: World>(
     let Running {
         clocked,
         logs,
+        children,
         left,
     } = running;
     let clocked = bring(alloc, world, clocked, &[], Some(What::Tick), &[])?;
     Ok(Running {
         clocked,
         logs,
+        children,
         left,
     })
 }

@@ -24,11 +24,13 @@ pub fn pause<'f, W: Time>(world: &mut W, running: Running<'f>) -> Running<'f>
     let Running {
         clocked,
         logs,
+        children,
         left,
     } = running;
     Running {
         clocked,
         logs,
+        children,
         left: left - 1,
     }
 }

@@ -11,7 +11,8 @@ ghost use Rattle.server_top.specs.Usage.{IsOfUsage};
 
 use crate::turns::make_turns;
 use crate::words::read_words;
-use f2b_world::{Directories, World};
+use child_table::ChildTable;
+use f2b_world::{Children, Directories, World};
 use filter_regex::Filter;
 use run_law::{Plan, Status};
 use run_start::{first_turn, follow};
@@ -41,7 +42,11 @@ fn prepare<W: World + Directories>(
 
 // What the plan asks for.
 #[tactic(auto, using(crate::proofs::ServeLemmas::serving, run_law::proofs::CauseLemmas::counting))]
-fn serve<W: World + Directories>(alloc: Global, world: &mut W, plan: &Plan) -> Result<(), Status>
+fn serve<W: World + Directories + Children>(
+    alloc: Global,
+    world: &mut W,
+    plan: &Plan,
+) -> Result<(), Status>
     requires { 1 ≤ plan.now.turns }
     ensures ok { OnOk result (Halts (W.stands world.old).told (W.stands world.new).told (opening plan.now) AllTurns) }
     ensures err { IfErr result (Halts (W.stands world.old).told (W.stands world.new).told (opening plan.now)) }
@@ -52,6 +57,7 @@ fn serve<W: World + Directories>(alloc: Global, world: &mut W, plan: &Plan) -> R
     let running = Running {
         clocked,
         logs,
+        children: ChildTable::new(alloc),
         left: plan.turns,
     };
     make_turns(alloc, world, running)?;
@@ -60,7 +66,11 @@ fn serve<W: World + Directories>(alloc: Global, world: &mut W, plan: &Plan) -> R
 
 // Reads the words, and does what they ask for.
 #[tactic(auto, using(crate::proofs::UsageLemmas::running))]
-fn run<W: World + Directories>(alloc: Global, words: &[String], world: &mut W) -> Result<(), Status>
+fn run<W: World + Directories + Children>(
+    alloc: Global,
+    words: &[String],
+    world: &mut W,
+) -> Result<(), Status>
     ensures ok { OnOk result (IsRun (W.stands world.old).told (W.stands world.new).told (map string_bytes words.now) AllTurns) }
     ensures err { IfErr result (IsRun (W.stands world.old).told (W.stands world.new).told (map string_bytes words.now)) }
     ensures cause { IfErr result (IsCaused (map string_bytes words.now) (W.stands world.old) (W.stands world.new)) }
@@ -78,7 +88,11 @@ fn run<W: World + Directories>(alloc: Global, words: &[String], world: &mut W) -
 ///
 /// Each call on the outside is the one that the law gives after the calls before it, and the run ends where the law gives none. Lines
 /// are said in the order of what happened, all that an event tells in one call, before any other call.
-pub fn server<W: World + Directories>(alloc: Global, words: &[String], world: &mut W) -> Status
+pub fn server<W: World + Directories + Children>(
+    alloc: Global,
+    words: &[String],
+    world: &mut W,
+) -> Status
     ensures law { IsRun (W.stands world.old).told (W.stands world.new).told (map string_bytes words.now) result }
 
     // In every world, told or not.

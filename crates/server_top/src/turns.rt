@@ -1,27 +1,28 @@
 //! The turns of a run.
 ghost use Rattle.std.specs.Prelude.{◌≡◌, ◌≤◌, ◌<◌, ◌+◌, IfErr, IfOk, OnOk};
 ghost use Rattle.run_law.specs.Stages.{HasCause, IsSteady, Moves, MoveFails};
-ghost use Rattle.run_law.specs.Turn.{to_end};
+ghost use Rattle.run_law.specs.Turn.{to_children, to_end};
 ghost use Rattle.run_law.specs.declared.status.Status.TheVariants.{TurnsSpent as AllTurns};
 ghost use Rattle.run_steps.specs.Keeping.{KeepsRunning};
 ghost use Rattle.server_top.specs.Ticks.{at_clock};
 
 use crate::clock::read_clock;
 use crate::pause::{last_pause, pause};
-use f2b_world::World;
+use f2b_world::{Children, World};
 use run_law::Status;
 use run_steps::Running;
 use std::alloc::Global;
+use turn_children::{poll_children, start_children};
 use turn_logs::look_at_logs;
 
-// What a turn does before its pause: the clock, and the logs.
+// The clock and the looks of a turn.
 #[tactic(auto, using(crate::proofs::TurnLemmas::turning, run_law::proofs::CauseLemmas::counting))]
-fn work<'f, W: World>(
+fn observe<'f, W: World>(
     alloc: Global,
     world: &mut W,
     running: Running<'f>,
 ) -> Result<Running<'f>, Status>
-    ensures ok { IfOk result (Moves KeepsRunning (W.stands world.old) (W.stands world.new) at_clock to_end running.entry) }
+    ensures ok { IfOk result (Moves KeepsRunning (W.stands world.old) (W.stands world.new) at_clock to_children running.entry) }
     ensures err { IfErr result (MoveFails KeepsRunning (W.stands world.old) (W.stands world.new) at_clock running.entry) }
     ensures cause { IfErr result (HasCause (W.stands world.old) (W.stands world.new)) }
     ensures steady { IsSteady (W.stands world.old) (W.stands world.new) }
@@ -32,9 +33,45 @@ fn work<'f, W: World>(
     Ok(running)
 }
 
+// The commands of a turn: those that run, and those that are to be started.
+#[tactic(auto, using(crate::proofs::TurnLemmas::acting, run_law::proofs::CauseLemmas::counting))]
+fn act<'f, W: World + Children>(
+    alloc: Global,
+    world: &mut W,
+    running: Running<'f>,
+) -> Result<Running<'f>, Status>
+    ensures ok { IfOk result (Moves KeepsRunning (W.stands world.old) (W.stands world.new) to_children to_end running.entry) }
+    ensures err { IfErr result (MoveFails KeepsRunning (W.stands world.old) (W.stands world.new) to_children running.entry) }
+    ensures cause { IfErr result (HasCause (W.stands world.old) (W.stands world.new)) }
+    ensures steady { IsSteady (W.stands world.old) (W.stands world.new) }
+    ensures left { IfOk result (λ after. after.left ≡ running.entry.left) }
+{
+    let running = poll_children(alloc, world, running)?;
+    let running = start_children(alloc, world, running)?;
+    Ok(running)
+}
+
+// What a turn does before its pause.
+#[tactic(auto, using(crate::proofs::TurnLemmas::turning, run_law::proofs::CauseLemmas::counting))]
+fn work<'f, W: World + Children>(
+    alloc: Global,
+    world: &mut W,
+    running: Running<'f>,
+) -> Result<Running<'f>, Status>
+    ensures ok { IfOk result (Moves KeepsRunning (W.stands world.old) (W.stands world.new) at_clock to_end running.entry) }
+    ensures err { IfErr result (MoveFails KeepsRunning (W.stands world.old) (W.stands world.new) at_clock running.entry) }
+    ensures cause { IfErr result (HasCause (W.stands world.old) (W.stands world.new)) }
+    ensures steady { IsSteady (W.stands world.old) (W.stands world.new) }
+    ensures left { IfOk result (λ after. after.left ≡ running.entry.left) }
+{
+    let running = observe(alloc, world, running)?;
+    let running = act(alloc, world, running)?;
+    Ok(running)
+}
+
 // A turn that is not the last.
 #[tactic(auto, using(crate::proofs::TurnLemmas::turning, run_law::proofs::CauseLemmas::counting))]
-fn turn<'f, W: World>(
+fn turn<'f, W: World + Children>(
     alloc: Global,
     world: &mut W,
     running: Running<'f>,
@@ -52,7 +89,11 @@ fn turn<'f, W: World>(
 
 // The last turn.
 #[tactic(auto, using(crate::proofs::TurnLemmas::turning))]
-fn last_turn<W: World>(alloc: Global, world: &mut W, running: Running<'_>) -> Result<(), Status>
+fn last_turn<W: World + Children>(
+    alloc: Global,
+    world: &mut W,
+    running: Running<'_>,
+) -> Result<(), Status>
     requires { running.left ≡ 1 }
     ensures ok { OnOk result (MoveFails KeepsRunning (W.stands world.old) (W.stands world.new) at_clock running.entry AllTurns) }
     ensures err { IfErr result (MoveFails KeepsRunning (W.stands world.old) (W.stands world.new) at_clock running.entry) }
@@ -65,7 +106,11 @@ fn last_turn<W: World>(alloc: Global, world: &mut W, running: Running<'_>) -> Re
 
 /// Makes the turns that are left, and ends the run.
 #[tactic(auto, using(crate::proofs::TurnLemmas::turning, run_law::proofs::CauseLemmas::counting))]
-pub fn make_turns<W: World>(alloc: Global, world: &mut W, first: Running<'_>) -> Result<(), Status>
+pub fn make_turns<W: World + Children>(
+    alloc: Global,
+    world: &mut W,
+    first: Running<'_>,
+) -> Result<(), Status>
     requires { 1 ≤ first.left }
     ensures ok { OnOk result (MoveFails KeepsRunning (W.stands world.old) (W.stands world.new) at_clock first.entry AllTurns) }
     ensures err { IfErr result (MoveFails KeepsRunning (W.stands world.old) (W.stands world.new) at_clock first.entry) }

@@ -9,7 +9,7 @@ use Rattle.f2b_world.specs.declared.answer.Look.TheVariants.{File, Absent, Faile
 use Rattle.f2b_world.specs.declared.event.Event.TheVariants.{Look as LookAt}
 use Rattle.log_follow.specs.Watches.{ask_in}
 use Rattle.log_follow.specs.declared.step.Ask.{Ask}
-use Rattle.log_set.specs.Logs.{AsksAt, IsAskAt, LiesAt, Watching, after_look, next_look}
+use Rattle.log_set.specs.Logs.{AsksAt, IsAskAt, LiesAt, Watching, after_look}
 use Rattle.log_set.specs.declared.taken.Taken.{Taken}
 use Rattle.log_set.proofs.SetLemmas.{answers_at, as_many}
 use Rattle.run_law.specs.Calls.{Call, IsNext}
@@ -18,28 +18,16 @@ use Rattle.run_law.specs.Looks.{log_call, look_call, look_news, look_taken, look
 use Rattle.run_law.specs.News.{News, after_news, brings}
 use Rattle.run_law.specs.Points.{AtLook, Run}
 use Rattle.run_law.specs.Server.{Server, log_jails}
-use Rattle.run_law.specs.Stages.{Brings, BringFails, IsAt, IsSaying, IsSteady, MoveFails, Moves, Reaches}
-use Rattle.run_law.specs.Turn.{look_point, to_accept, to_children, to_end, to_looks, to_starts}
+use Rattle.run_law.specs.Stages.{Brings, BringFails, IsAt, IsSteady, MoveFails, Moves, Reaches}
+use Rattle.run_law.specs.Turn.{to_looks}
 use Rattle.run_law.specs.declared.status.Status.{Status}
 use Rattle.run_law.specs.declared.status.Status.TheVariants.{NoMemory}
 use Rattle.run_law.proofs.CauseLemmas.{steady_call, steady_refl}
+use Rattle.run_law.proofs.EntryLemmas.{saying_looks}
 use Rattle.run_law.proofs.PointLemmas.{goes_refl, goes_trans, halts_after, halts_here, turn_goes}
 use Rattle.run_steps.specs.Keeping.{KeepsRunning, news_of}
 use Rattle.run_steps.specs.declared.running.Running.{Running}
 use Rattle.turn_logs.specs.Looking.{IsAnswerAt, LookBrings, LookFails, TakesLook, TellsRotated, TellsUnread, at_look}
-
--- ---- lines may be said behind a look
-
-saying_children : (s : Server) → IsSaying (to_children s)
-unfolding to_children to_accept to_starts to_end
-saying_children s = tt
-
-saying_point : (o : Option ℕ) (s : Server) → IsSaying (look_point o s)
-saying_point None s = saying_children s
-saying_point (Some i) s = tt
-
-pub saying_looks : (i : ℕ) (s : Server) → IsSaying (to_looks i s)
-saying_looks i s = saying_point (next_look i (log_jails s) s.logs) s
 
 -- ---- what an answer brings
 

@@ -33,12 +33,14 @@ fn bring_on<'f, W: World>(
     let Running {
         clocked,
         logs,
+        children,
         left,
     } = running;
     let clocked = bring(alloc, world, clocked, lines, what, &[])?;
     Ok(Running {
         clocked,
         logs,
+        children,
         left,
     })
 }

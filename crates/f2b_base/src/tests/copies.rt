@@ -175,58 +175,98 @@ fn copies(rt: &impl Abort, what: What) -> Result<(), NoMemory> {
     Ok(())
 }
 
+/// What is asked of a jail, or found there.
+#[derive(Clone, Copy)]
+enum OfJail {
+    Read,
+    Ban,
+    Unban,
+    Attempt,
+    Ignore,
+    Findtime,
+    Bantime,
+    Maxretry,
+    Idle,
+}
+
+fn read(alloc: Global, jail: Text) -> Result<What, NoMemory> {
+    Ok(What::Read {
+        jail,
+        path: text(alloc, "/var/log/auth.log")?,
+        place: place(alloc)?,
+        found: one(alloc, failure(alloc)?)?,
+    })
+}
+
+fn ban(alloc: Global, jail: Text) -> Result<What, NoMemory> {
+    let addrs = one(alloc, HOST)?;
+    Ok(What::Ban { jail, addrs })
+}
+
+fn ignore(jail: Text) -> What {
+    let cidr = Cidr {
+        base: HOST,
+        bits: 32,
+    };
+    What::Ignore {
+        jail,
+        cidr,
+        add: true,
+    }
+}
+
+fn of_jail(alloc: Global, kind: OfJail) -> Result<What, NoMemory> {
+    let jail = text(alloc, "sshd")?;
+    Ok(match kind {
+        OfJail::Read => read(alloc, jail)?,
+        OfJail::Ban => ban(alloc, jail)?,
+        OfJail::Unban => What::Unban {
+            jail: Some(jail),
+            addrs: None,
+        },
+        OfJail::Attempt => What::Attempt { jail, addr: HOST },
+        OfJail::Ignore => ignore(jail),
+        OfJail::Findtime => What::Findtime { jail, secs: 600 },
+        OfJail::Bantime => What::Bantime { jail, secs: -1 },
+        OfJail::Maxretry => What::Maxretry { jail, number: 5 },
+        OfJail::Idle => What::Idle { jail, idle: true },
+    })
+}
+
+fn copy_each(rt: &impl Abort, alloc: Global, kinds: &[OfJail]) -> Result<(), NoMemory> {
+    for kind in kinds {
+        copies(rt, of_jail(alloc, *kind)?)?;
+    }
+    Ok(())
+}
+
 #[test]
 fn what_was_read_copies(rt: HostRuntime) -> Result<(), Fail> {
-    let jail = text(rt.alloc(), "sshd")?;
-    let path = text(rt.alloc(), "/var/log/auth.log")?;
-    let place = place(rt.alloc())?;
-    let found = one(rt.alloc(), failure(rt.alloc())?)?;
-    let read = What::Read {
-        jail,
-        path,
-        place,
-        found,
-    };
-    copies(&rt, read)?;
+    copy_each(&rt, rt.alloc(), &[OfJail::Read])?;
     Ok(())
 }
 
 #[test]
 fn bans_by_command_copy(rt: HostRuntime) -> Result<(), Fail> {
-    let jail = text(rt.alloc(), "sshd")?;
-    let addrs = one(rt.alloc(), HOST)?;
-    copies(&rt, What::Ban { jail, addrs })?;
-    let jail = Some(text(rt.alloc(), "sshd")?);
-    copies(&rt, What::Unban { jail, addrs: None })?;
-    let jail = text(rt.alloc(), "sshd")?;
-    copies(&rt, What::Attempt { jail, addr: HOST })?;
+    copy_each(
+        &rt,
+        rt.alloc(),
+        &[OfJail::Ban, OfJail::Unban, OfJail::Attempt],
+    )?;
     Ok(())
 }
 
+const SETTINGS: [OfJail; 5] = [
+    OfJail::Ignore,
+    OfJail::Findtime,
+    OfJail::Bantime,
+    OfJail::Maxretry,
+    OfJail::Idle,
+];
+
 #[test]
 fn settings_of_a_jail_copy(rt: HostRuntime) -> Result<(), Fail> {
-    let alloc = rt.alloc();
-    let cidr = Cidr {
-        base: HOST,
-        bits: 32,
-    };
-    let jail = text(alloc, "sshd")?;
-    copies(
-        &rt,
-        What::Ignore {
-            jail,
-            cidr,
-            add: true,
-        },
-    )?;
-    let jail = text(alloc, "sshd")?;
-    copies(&rt, What::Findtime { jail, secs: 600 })?;
-    let jail = text(alloc, "sshd")?;
-    copies(&rt, What::Bantime { jail, secs: -1 })?;
-    let jail = text(alloc, "sshd")?;
-    copies(&rt, What::Maxretry { jail, number: 5 })?;
-    let jail = text(alloc, "sshd")?;
-    copies(&rt, What::Idle { jail, idle: true })?;
+    copy_each(&rt, rt.alloc(), &SETTINGS)?;
     Ok(())
 }
 
@@ -244,22 +284,29 @@ fn inputs_of_the_whole_server_copy(rt: HostRuntime) -> Result<(), Fail> {
     Ok(())
 }
 
-#[test]
-fn what_the_outside_brings_copies(rt: HostRuntime) -> Result<(), Fail> {
-    let alloc = rt.alloc();
+fn answer(alloc: Global) -> Result<TreeAnswer, NoMemory> {
     let file = TreeFile {
         path: text(alloc, "jail.conf")?,
         content: Bytes::from_slice(alloc, b"[]")?,
     };
-    let answer = TreeAnswer::Tree(Tree {
+    Ok(TreeAnswer::Tree(Tree {
         files: one(alloc, file)?,
-    });
-    assert_eq!(rt; answer.copy()?, answer);
-    let look = FileLook {
+    }))
+}
+
+fn look(alloc: Global) -> Result<FileLook, NoMemory> {
+    Ok(FileLook {
         size: 2,
         head: Bytes::from_slice(alloc, &[b'a'])?,
         bytes: Bytes::from_slice(alloc, &[b'a', b'b'])?,
-    };
+    })
+}
+
+#[test]
+fn what_the_outside_brings_copies(rt: HostRuntime) -> Result<(), Fail> {
+    let answer = answer(rt.alloc())?;
+    assert_eq!(rt; answer.copy()?, answer);
+    let look = look(rt.alloc())?;
     assert_eq!(rt; look.copy()?, look);
     Ok(())
 }

@@ -4,6 +4,7 @@ ghost use Rattle.f2b_base.specs.Span.{IsRule};
 
 use crate::{BanRule, NoMemory, Seq, Span, ban_span};
 use std::alloc::Global;
+use std::process::Abort;
 use std::test::Fail;
 
 fn rule(alloc: Global, times: &[u64], maxtime: u64) -> Result<BanRule, NoMemory>
@@ -23,27 +24,25 @@ fn rule(alloc: Global, times: &[u64], maxtime: u64) -> Result<BanRule, NoMemory>
     })
 }
 
+/// Rows of how many bans were before, and the seconds of the next one.
+fn are_spans(rt: &impl Abort, rule: &BanRule, rows: &[(u32, u64)])
+    requires { IsRule rule.now }
+{
+    for &(count, secs) in rows {
+        assert_eq!(rt; ban_span(rule, count, 7, 8), Span::Secs(secs), "at {count}");
+    }
+}
+
+const DOUBLED: [(u32, u64); 4] = [(0, 600), (1, 1800), (2, 3600), (3, 5000)];
+
+const MULTIPLIED: [(u32, u64); 4] = [(0, 600), (1, 4500), (2, 27000), (3, 27000)];
+
 #[test]
 fn bans_last_longer_each_time(rt: HostRuntime) -> Result<(), Fail> {
     let doubling = rule(rt.alloc(), &[], 5000)?;
+    are_spans(&rt, &doubling, &DOUBLED);
     let multiplied = rule(rt.alloc(), &[1, 5, 30], 3_153_600_000)?;
-    for (count, doubled, times) in [
-        (0, 600, 600),
-        (1, 1800, 4500),
-        (2, 3600, 27000),
-        (3, 5000, 27000),
-    ] {
-        assert_eq!(rt;
-            ban_span(&doubling, count, 7, 8),
-            Span::Secs(doubled),
-            "at {count}"
-        );
-        assert_eq!(rt;
-            ban_span(&multiplied, count, 7, 8),
-            Span::Secs(times),
-            "at {count}"
-        );
-    }
+    are_spans(&rt, &multiplied, &MULTIPLIED);
     Ok(())
 }
 

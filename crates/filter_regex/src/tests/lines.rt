@@ -3,6 +3,8 @@ use super::*;
 
 const NOW: u64 = 1_700_000_110;
 
+const AT: u64 = 1_700_000_100;
+
 const SSHD: Parts<'static> = Parts {
     dated: Dated::Epoch,
     pref: r"^\s*\S+ sshd(?:-session)?\[[0-9]+\]: <F-CONTENT>.+</F-CONTENT>$",
@@ -12,136 +14,259 @@ const SSHD: Parts<'static> = Parts {
     ignore_lines: "^ backup \nfor probe from",
 };
 
-#[test]
-fn lines_of_sshd(rt: HostRuntime) -> Result<(), Fail> {
-    let filter = filter(rt.alloc(), SSHD)?;
-    let mut searcher = filter.searcher(rt.alloc())?;
-    let ignore = ignoring(rt.alloc(), "10.0.0.0/8\n::1")?;
-    let at = 1_700_000_100;
-    let rows = [
-        (
-            "1700000100 a sshd[12]: Failed password for root from 192.0.2.7 port 22 ssh2",
-            failure(SEVEN, at, 1),
-        ),
-        (
-            "1700000100 a sshd[12]: Failed none for invalid user x from 10.1.1.1 port 1 ssh2 from 192.0.2.7 port 22",
-            failure(SEVEN, at, 1),
-        ),
-        (
-            "1700000100 a sshd-session[7]: Invalid user admin from 2001:db8::7 port 4",
-            failure(Addr::V6(0x2001_0db8_0000_0000_0000_0000_0000_0007), at, 2),
-        ),
-        (
-            "1700000100 a sshd[7]: Connection closed by authenticating user root 192.0.2.9 port 22 [preauth]",
-            failure(Addr::V4(0xC000_0209), at, 3),
-        ),
-        (
-            "1700000100 a sshd[7]: Accepted password for root from 192.0.2.7 port 22 ssh2",
-            Finding::Missed,
-        ),
-        (
-            "1700000100 a cron[7]: Failed password for root from 192.0.2.7 port 22",
-            Finding::Missed,
-        ),
-        (
-            "1700000100 a sshd[7]: Invalid user a from host.example.org",
-            Finding::NameOnly(2),
-        ),
-        (
-            "1700000100 a sshd[7]: Invalid user a from ::ffff:10.0.0.1",
-            Finding::IgnoredAddr(2),
-        ),
-        (
-            "1700000100 backup sshd[7]: Invalid user a from 192.0.2.7",
-            Finding::Ignored(1),
-        ),
-        (
-            "1700000100 a sshd[7]: Failed password for probe from 192.0.2.7 port 22",
-            Finding::Ignored(2),
-        ),
-        // Ignored comes before the missing date, and that before the prefix.
-        ("x for probe from", Finding::Ignored(2)),
-        ("a sshd[7]: Invalid user a from 192.0.2.7", Finding::NoDate),
-        // The date may stand anywhere.
-        (
-            "a sshd[7]: Invalid user 1700000100.25 from 192.0.2.7",
-            failure(SEVEN, at, 2),
-        ),
-    ];
+const LINES_OF_SSHD: [(&str, Finding); 13] = [
+    (
+        "1700000100 a sshd[12]: Failed password for root from 192.0.2.7 port 22 ssh2",
+        Finding::Failure {
+            addr: SEVEN,
+            time: AT,
+            index: 1,
+        },
+    ),
+    (
+        "1700000100 a sshd[12]: Failed none for invalid user x from 10.1.1.1 port 1 ssh2 from 192.0.2.7 port 22",
+        Finding::Failure {
+            addr: SEVEN,
+            time: AT,
+            index: 1,
+        },
+    ),
+    (
+        "1700000100 a sshd-session[7]: Invalid user admin from 2001:db8::7 port 4",
+        Finding::Failure {
+            addr: Addr::V6(0x2001_0db8_0000_0000_0000_0000_0000_0007),
+            time: AT,
+            index: 2,
+        },
+    ),
+    (
+        "1700000100 a sshd[7]: Connection closed by authenticating user root 192.0.2.9 port 22 [preauth]",
+        Finding::Failure {
+            addr: Addr::V4(0xC000_0209),
+            time: AT,
+            index: 3,
+        },
+    ),
+    (
+        "1700000100 a sshd[7]: Accepted password for root from 192.0.2.7 port 22 ssh2",
+        Finding::Missed,
+    ),
+    (
+        "1700000100 a cron[7]: Failed password for root from 192.0.2.7 port 22",
+        Finding::Missed,
+    ),
+    (
+        "1700000100 a sshd[7]: Invalid user a from host.example.org",
+        Finding::NameOnly(2),
+    ),
+    (
+        "1700000100 a sshd[7]: Invalid user a from ::ffff:10.0.0.1",
+        Finding::IgnoredAddr(2),
+    ),
+    (
+        "1700000100 backup sshd[7]: Invalid user a from 192.0.2.7",
+        Finding::Ignored(1),
+    ),
+    (
+        "1700000100 a sshd[7]: Failed password for probe from 192.0.2.7 port 22",
+        Finding::Ignored(2),
+    ),
+    // Ignored comes before the missing date, and that before the prefix.
+    ("x for probe from", Finding::Ignored(2)),
+    ("a sshd[7]: Invalid user a from 192.0.2.7", Finding::NoDate),
+    // The date may stand anywhere.
+    (
+        "a sshd[7]: Invalid user 1700000100.25 from 192.0.2.7",
+        Finding::Failure {
+            addr: SEVEN,
+            time: AT,
+            index: 2,
+        },
+    ),
+];
+
+/// Rows of a line and what a searcher finds in it.
+fn are_found(
+    rt: &impl Abort,
+    searcher: &mut Searcher<'_>,
+    ignore: &IgnoreSet,
+    rows: &[(&str, Finding)],
+) -> Result<(), Fail> {
     for (line, finding) in rows {
-        assert_eq!(rt; searcher.found(&ignore, line, NOW, 600)?, finding, "{line}");
+        assert_eq!(rt; searcher.found(ignore, line, NOW, 600)?, *finding, "{line}");
     }
     Ok(())
 }
 
+/// The same, of a searcher of a jail and the masks of hosts that are never banned.
+fn jail_finds(
+    rt: &impl Abort,
+    alloc: Global,
+    parts: Parts<'_>,
+    masks: &str,
+    rows: &[(&str, Finding)],
+) -> Result<(), Fail> {
+    let filter = filter(alloc, parts)?;
+    let mut searcher = filter.searcher(alloc)?;
+    let ignore = ignoring(alloc, masks)?;
+    are_found(rt, &mut searcher, &ignore, rows)
+}
+
 #[test]
-fn times(rt: HostRuntime) -> Result<(), Fail> {
-    let filter = filter(
-        rt.alloc(),
-        Parts {
-            fail: "^ fail from <IP4>$",
-            ..NONE
+fn lines_of_sshd(rt: HostRuntime) -> Result<(), Fail> {
+    jail_finds(&rt, rt.alloc(), SSHD, "10.0.0.0/8\n::1", &LINES_OF_SSHD)
+}
+
+const LINE: &str = "1700000100 fail from 192.0.2.7";
+
+const EARLY: &str = "0000000000 fail from 192.0.2.7";
+
+const TIMES: [(&str, u64, u64, Finding); 8] = [
+    (
+        LINE,
+        1_700_000_110,
+        600,
+        Finding::Failure {
+            addr: SEVEN,
+            time: 1_700_000_100,
+            index: 1,
         },
-    )?;
-    let mut searcher = filter.searcher(rt.alloc())?;
-    let none = ignoring(rt.alloc(), "")?;
-    let line = "1700000100 fail from 192.0.2.7";
-    let early = "0000000000 fail from 192.0.2.7";
-    let rows = [
-        (line, 1_700_000_110, 600, failure(SEVEN, 1_700_000_100, 1)),
-        (line, 1_700_000_699, 600, failure(SEVEN, 1_700_000_100, 1)),
-        (line, 1_700_000_700, 600, Finding::TooOld(1)),
-        (line, 1_700_000_090, 600, failure(SEVEN, 1_700_000_090, 1)),
-        (line, 1_700_000_100, 0, Finding::TooOld(1)),
-        (
-            line,
-            1_700_000_110,
-            u64::MAX,
-            failure(SEVEN, 1_700_000_100, 1),
-        ),
-        (early, 599, 600, failure(SEVEN, 0, 1)),
-        (early, 600, 600, Finding::TooOld(1)),
-    ];
+    ),
+    (
+        LINE,
+        1_700_000_699,
+        600,
+        Finding::Failure {
+            addr: SEVEN,
+            time: 1_700_000_100,
+            index: 1,
+        },
+    ),
+    (LINE, 1_700_000_700, 600, Finding::TooOld(1)),
+    (
+        LINE,
+        1_700_000_090,
+        600,
+        Finding::Failure {
+            addr: SEVEN,
+            time: 1_700_000_090,
+            index: 1,
+        },
+    ),
+    (LINE, 1_700_000_100, 0, Finding::TooOld(1)),
+    (
+        LINE,
+        1_700_000_110,
+        u64::MAX,
+        Finding::Failure {
+            addr: SEVEN,
+            time: 1_700_000_100,
+            index: 1,
+        },
+    ),
+    (
+        EARLY,
+        599,
+        600,
+        Finding::Failure {
+            addr: SEVEN,
+            time: 0,
+            index: 1,
+        },
+    ),
+    (EARLY, 600, 600, Finding::TooOld(1)),
+];
+
+/// Rows of a line, now, a findtime, and what a searcher finds in the line.
+fn are_found_then(
+    rt: &impl Abort,
+    searcher: &mut Searcher<'_>,
+    ignore: &IgnoreSet,
+    rows: &[(&str, u64, u64, Finding)],
+) -> Result<(), Fail> {
     for (line, now, findtime, finding) in rows {
         assert_eq!(rt;
-            searcher.found(&none, line, now, findtime)?,
-            finding,
+            searcher.found(ignore, line, *now, *findtime)?,
+            *finding,
             "{line} at {now}"
         );
     }
     Ok(())
 }
 
-#[test]
-fn ignored_addresses(rt: HostRuntime) -> Result<(), Fail> {
+/// The same, of a jail with one pattern.
+fn times_are(
+    rt: &impl Abort,
+    alloc: Global,
+    rows: &[(&str, u64, u64, Finding)],
+) -> Result<(), Fail> {
     let parts = Parts {
-        dated: Dated::NoDate,
-        fail: "from <HOST>$",
+        fail: "^ fail from <IP4>$",
         ..NONE
     };
-    let filter = filter(rt.alloc(), parts)?;
-    let ignore = ignoring(rt.alloc(), "10.0.0.0/8")?;
-    let rows = [
-        ("from 10.0.0.0", Finding::IgnoredAddr(1)),
-        ("from 10.255.255.255", Finding::IgnoredAddr(1)),
-        ("from ::ffff:10.0.0.1", Finding::IgnoredAddr(1)),
-        ("from 9.255.255.255", failure(Addr::V4(0x09FF_FFFF), NOW, 1)),
-        ("from 11.0.0.0", failure(Addr::V4(0x0B00_0000), NOW, 1)),
-        ("from host.example.org", Finding::NameOnly(1)),
-    ];
-    for (line, finding) in rows {
-        assert_eq!(rt;
-            filter.found(rt.alloc(), &ignore, line, NOW, 600)?,
-            finding,
-            "{line}"
-        );
-    }
-    let other = ignoring(rt.alloc(), "11.0.0.0/8")?;
-    let found = filter.found(rt.alloc(), &other, "from 11.0.0.0", NOW, 600)?;
-    assert_eq!(rt; found, Finding::IgnoredAddr(1));
-    let found = filter.found(rt.alloc(), &other, "from 10.0.0.0", NOW, 600)?;
-    assert_eq!(rt; found, failure(Addr::V4(0x0A00_0000), NOW, 1));
-    Ok(())
+    let filter = filter(alloc, parts)?;
+    let mut searcher = filter.searcher(alloc)?;
+    let none = ignoring(alloc, "")?;
+    are_found_then(rt, &mut searcher, &none, rows)
+}
+
+#[test]
+fn times(rt: HostRuntime) -> Result<(), Fail> {
+    times_are(&rt, rt.alloc(), &TIMES)
+}
+
+const IGNORED_ADDRESSES: [(&str, Finding); 6] = [
+    ("from 10.0.0.0", Finding::IgnoredAddr(1)),
+    ("from 10.255.255.255", Finding::IgnoredAddr(1)),
+    ("from ::ffff:10.0.0.1", Finding::IgnoredAddr(1)),
+    (
+        "from 9.255.255.255",
+        Finding::Failure {
+            addr: Addr::V4(0x09FF_FFFF),
+            time: NOW,
+            index: 1,
+        },
+    ),
+    (
+        "from 11.0.0.0",
+        Finding::Failure {
+            addr: Addr::V4(0x0B00_0000),
+            time: NOW,
+            index: 1,
+        },
+    ),
+    ("from host.example.org", Finding::NameOnly(1)),
+];
+
+const IGNORED_BY_ANOTHER_LIST: [(&str, Finding); 2] = [
+    ("from 11.0.0.0", Finding::IgnoredAddr(1)),
+    (
+        "from 10.0.0.0",
+        Finding::Failure {
+            addr: Addr::V4(0x0A00_0000),
+            time: NOW,
+            index: 1,
+        },
+    ),
+];
+
+const FROM_A_HOST: Parts<'static> = Parts {
+    dated: Dated::NoDate,
+    fail: "from <HOST>$",
+    ..NONE
+};
+
+#[test]
+fn ignored_addresses(rt: HostRuntime) -> Result<(), Fail> {
+    let alloc = rt.alloc();
+    jail_finds(&rt, alloc, FROM_A_HOST, "10.0.0.0/8", &IGNORED_ADDRESSES)?;
+    jail_finds(
+        &rt,
+        alloc,
+        FROM_A_HOST,
+        "11.0.0.0/8",
+        &IGNORED_BY_ANOTHER_LIST,
+    )
 }
 
 fn found(alloc: Global, pref: &str, line: &str) -> Result<Finding, Fail> {
@@ -158,34 +283,52 @@ fn found(alloc: Global, pref: &str, line: &str) -> Result<Finding, Fail> {
     Ok(filter.found(alloc, &none, line, NOW, 600)?)
 }
 
-#[test]
-fn prefixes(rt: HostRuntime) -> Result<(), Fail> {
-    let rows = [
-        // The content alone is looked at, whatever stands around it.
-        (
-            "a <F-CONTENT>.*</F-CONTENT> z",
-            "a from 192.0.2.7 z",
-            failure(SEVEN, NOW, 1),
-        ),
-        (
-            "a <F-CONTENT>.*</F-CONTENT> z",
-            "b from 192.0.2.7 z",
-            Finding::Missed,
-        ),
-        // A match without the group is missed.
-        (
-            "a|b<F-CONTENT>.*</F-CONTENT>",
-            "a from 192.0.2.7",
-            Finding::Missed,
-        ),
-        (
-            "a|b<F-CONTENT>.*</F-CONTENT>",
-            "bfrom 192.0.2.7",
-            failure(SEVEN, NOW, 1),
-        ),
-    ];
+const PREFIXES: [(&str, &str, Finding); 4] = [
+    // The content alone is looked at, whatever stands around it.
+    (
+        "a <F-CONTENT>.*</F-CONTENT> z",
+        "a from 192.0.2.7 z",
+        Finding::Failure {
+            addr: SEVEN,
+            time: NOW,
+            index: 1,
+        },
+    ),
+    (
+        "a <F-CONTENT>.*</F-CONTENT> z",
+        "b from 192.0.2.7 z",
+        Finding::Missed,
+    ),
+    // A match without the group is missed.
+    (
+        "a|b<F-CONTENT>.*</F-CONTENT>",
+        "a from 192.0.2.7",
+        Finding::Missed,
+    ),
+    (
+        "a|b<F-CONTENT>.*</F-CONTENT>",
+        "bfrom 192.0.2.7",
+        Finding::Failure {
+            addr: SEVEN,
+            time: NOW,
+            index: 1,
+        },
+    ),
+];
+
+/// Rows of a pattern that comes first, a line, and what is found.
+fn are_found_behind(
+    rt: &impl Abort,
+    alloc: Global,
+    rows: &[(&str, &str, Finding)],
+) -> Result<(), Fail> {
     for (pref, line, finding) in rows {
-        assert_eq!(rt; found(rt.alloc(), pref, line)?, finding, "{pref} at {line}");
+        assert_eq!(rt; found(alloc, pref, line)?, *finding, "{pref} at {line}");
     }
     Ok(())
+}
+
+#[test]
+fn prefixes(rt: HostRuntime) -> Result<(), Fail> {
+    are_found_behind(&rt, rt.alloc(), &PREFIXES)
 }

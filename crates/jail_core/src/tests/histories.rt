@@ -1,14 +1,14 @@
 //! The histories of docs/model.md.
 ghost use Rattle.std.specs.Prelude.{IfOk};
-ghost use Rattle.f2b_model.specs.Storable.{IsStorable, IsStorableWhat};
+ghost use Rattle.f2b_model.specs.Storable.{IsStorableWhat};
 
 use crate::Core;
 use crate::tests::{
-    ADD, ADDR, NEXT, banned, banning, check_failed, configuration, ended, jail_lines, jobs,
-    reading, step,
+    ADD, ADDR, Happens, Step, Who, after, configuration, jail_lines, play, reading, take,
 };
-use f2b_base::{NoMemory, Seq, What};
+use f2b_base::{NoMemory, What};
 use std::alloc::Global;
+use std::process::Abort;
 use std::test::Fail;
 
 /// The address has a failure of this time, or where there is none time passes.
@@ -23,10 +23,10 @@ fn failure_of(alloc: Global, time: Option<u32>) -> Result<What, NoMemory>
 
 /// What is told where the clock reads these moments, each with the time of a failure that is found then.
 fn told_at(alloc: Global, readings: &[(u32, Option<u32>)]) -> Result<String, NoMemory> {
-    let (mut core, _) = step(Core::empty(alloc), 1000, configuration(alloc, ADD, "", 0)?)?;
+    let (mut core, _) = take(Core::empty(alloc), 1000, configuration(alloc, ADD, "", 0)?)?;
     let mut out = String::new(alloc);
     for (secs, time) in readings {
-        let (next, told) = step(core, *secs, failure_of(alloc, *time)?)?;
+        let (next, told) = take(core, *secs, failure_of(alloc, *time)?)?;
         core = next;
         let lines = jail_lines(alloc, &told)?;
         out.push_str(lines.as_str())?;
@@ -34,137 +34,135 @@ fn told_at(alloc: Global, readings: &[(u32, Option<u32>)]) -> Result<String, NoM
     Ok(out)
 }
 
-/// The state after something happened, and its jobs.
-fn jobs_after(core: Core, alloc: Global, secs: u32, what: What) -> Result<(Core, String), NoMemory>
-    requires { IsStorableWhat what }
-    ensures { IsStorable core → IfOk result (λ r. IsStorable r.0) }
-{
-    let (core, _) = step(core, secs, what)?;
-    let jobs = jobs(alloc, &core)?;
-    Ok((core, jobs))
-}
-
-/// The address is unbanned by command.
-fn unbanning(alloc: Global) -> Result<What, NoMemory>
-    ensures { IfOk result IsStorableWhat }
-{
-    let mut addrs = Seq::new(alloc);
-    addrs.push(ADDR)?;
-    Ok(What::Unban {
-        jail: None,
-        addrs: Some(addrs),
-    })
-}
-
-#[test]
-fn three_failures_within_ten_minutes_ban(rt: HostRuntime) -> Result<(), Fail> {
-    let alloc = rt.alloc();
-    let rows: [(&[(u32, Option<u32>)], &str); 4] = [
-        (
-            &[(1100, Some(1100)), (1300, Some(1300)), (1700, Some(1700))],
-            "counts\ncounts\ncounts\n",
-        ),
-        (
-            &[(1500, Some(1500)), (1500, Some(1100)), (1500, Some(1300))],
-            "counts\ncounts\ncounts\nbegins 1500 At(2100) 0 3\n",
-        ),
-        (
-            &[
-                (1100, Some(1100)),
-                (1300, Some(1300)),
-                (1699, Some(1699)),
-                (2298, None),
-                (2200, None),
-            ],
-            "counts\ncounts\ncounts\nbegins 1699 At(2299) 0 3\n",
-        ),
-        (
-            &[
-                (1100, Some(1100)),
-                (1300, Some(1300)),
-                (1699, Some(1699)),
-                (2298, None),
-                (2299, None),
-            ],
-            "counts\ncounts\ncounts\nbegins 1699 At(2299) 0 3\nends 1699 At(2299) 0 3\n",
-        ),
-    ];
+/// Rows of readings of the clock with failures, and what is told then.
+fn are_told(
+    rt: &impl Abort,
+    alloc: Global,
+    rows: &[(&[(u32, Option<u32>)], &str)],
+) -> Result<(), Fail> {
     for (readings, want) in rows {
-        let told = told_at(alloc, readings)?;
-        assert_eq!(rt; told.as_str(), want);
+        assert_eq!(rt; told_at(alloc, readings)?.as_str(), *want);
     }
     Ok(())
 }
 
+const THREE_FAILURES: [(&[(u32, Option<u32>)], &str); 4] = [
+    (
+        &[(1100, Some(1100)), (1300, Some(1300)), (1700, Some(1700))],
+        "counts\ncounts\ncounts\n",
+    ),
+    (
+        &[(1500, Some(1500)), (1500, Some(1100)), (1500, Some(1300))],
+        "counts\ncounts\ncounts\nbegins 1500 At(2100) 0 3\n",
+    ),
+    (
+        &[
+            (1100, Some(1100)),
+            (1300, Some(1300)),
+            (1699, Some(1699)),
+            (2298, None),
+            (2200, None),
+        ],
+        "counts\ncounts\ncounts\nbegins 1699 At(2299) 0 3\n",
+    ),
+    (
+        &[
+            (1100, Some(1100)),
+            (1300, Some(1300)),
+            (1699, Some(1699)),
+            (2298, None),
+            (2299, None),
+        ],
+        "counts\ncounts\ncounts\nbegins 1699 At(2299) 0 3\nends 1699 At(2299) 0 3\n",
+    ),
+];
+
+#[test]
+fn three_failures_within_ten_minutes_ban(rt: HostRuntime) -> Result<(), Fail> {
+    are_told(&rt, rt.alloc(), &THREE_FAILURES)
+}
+
+const TAKEN_BACK: [Step; 10] = [
+    Step::At(1000, Happens::Configures(ADD, "", 0)),
+    Step::Jobs("0 Start up\n"),
+    Step::Configured(1),
+    Step::At(1000, Happens::Ends(0, 0)),
+    Step::Jobs(""),
+    Step::At(1001, Happens::Bans(Who::Seven)),
+    Step::Jobs("1 Ban add 192.0.2.7\n"),
+    Step::At(1002, Happens::Unbans),
+    Step::Jobs("1 Ban add 192.0.2.7\n2 Unban del 192.0.2.7\n"),
+    Step::Spent(false),
+];
+
 #[test]
 fn a_ban_is_taken_back_while_it_waits(rt: HostRuntime) -> Result<(), Fail> {
-    let alloc = rt.alloc();
-    let taken = configuration(alloc, ADD, "", 0)?;
-    let (core, ordered) = jobs_after(Core::empty(alloc), alloc, 1000, taken)?;
-    assert_eq!(rt; ordered.as_str(), "0 Start up\n");
-    assert_eq!(rt; core.defs()?.jails.len(), 1);
-
-    let (core, ordered) = jobs_after(core, alloc, 1000, ended(0, 0))?;
-    assert_eq!(rt; ordered.as_str(), "");
-    let (core, ordered) = jobs_after(core, alloc, 1001, banning(alloc, ADDR)?)?;
-    assert_eq!(rt; ordered.as_str(), "1 Ban add 192.0.2.7\n");
-    let (core, ordered) = jobs_after(core, alloc, 1002, unbanning(alloc)?)?;
-    assert_eq!(rt;
-        ordered.as_str(),
-        "1 Ban add 192.0.2.7\n2 Unban del 192.0.2.7\n"
-    );
-    assert!(rt; !core.spent());
-    Ok(())
+    let core = Core::empty(rt.alloc());
+    play(&rt, rt.alloc(), core, &TAKEN_BACK)
 }
+
+/// The jail has its action, without a check, the address is banned, and all jobs are done.
+const BANNED: [(u32, Happens); 4] = [
+    (1000, Happens::Configures(ADD, "", 0)),
+    (1000, Happens::Ends(0, 0)),
+    (1001, Happens::Bans(Who::Seven)),
+    (1001, Happens::Ends(1, 0)),
+];
+
+const CHANGED_ACTION: [Step; 5] = [
+    Step::At(1010, Happens::Configures("drop <ip>", "", 0)),
+    Step::Jobs("2 Unban del 192.0.2.7\n3 Stop down\n4 Start up\n5 Ban drop 192.0.2.7\n"),
+    Step::Now(1010),
+    Step::BanDue(1600, false),
+    Step::BanDue(1601, true),
+];
 
 #[test]
 fn a_changed_action_goes_down_and_comes_up(rt: HostRuntime) -> Result<(), Fail> {
-    let alloc = rt.alloc();
-    let changed = configuration(alloc, "drop <ip>", "", 0)?;
-    let (core, ordered) = jobs_after(banned(alloc, "")?, alloc, 1010, changed)?;
-    assert_eq!(rt;
-        ordered.as_str(),
-        "2 Unban del 192.0.2.7\n3 Stop down\n4 Start up\n5 Ban drop 192.0.2.7\n"
-    );
-    assert!(rt; core.now() == 1010 && !core.ban_due(1600) && core.ban_due(1601));
-    Ok(())
+    let core = after(rt.alloc(), &BANNED)?;
+    play(&rt, rt.alloc(), core, &CHANGED_ACTION)
 }
+
+/// The same as `BANNED`, with a check.
+const BANNED_WITH_A_CHECK: [(u32, Happens); 4] = [
+    (1000, Happens::Configures(ADD, "test -e /x", 0)),
+    (1000, Happens::Ends(0, 0)),
+    (1001, Happens::Bans(Who::Seven)),
+    (1001, Happens::Ends(1, 0)),
+];
+
+const LOST: [Step; 6] = [
+    Step::At(1003, Happens::Bans(Who::Eight)),
+    Step::Jobs("2 Ban add 192.0.2.8\n"),
+    Step::At(1003, Happens::CheckFails(2)),
+    Step::Jobs("3 Stop down\n4 Start up\n5 Reban add 192.0.2.7\n6 Reban add 192.0.2.8\n"),
+    Step::At(1004, Happens::Unbans),
+    Step::Jobs(
+        "3 Stop down\n4 Start up\n5 Reban add 192.0.2.7\n6 Reban add 192.0.2.8\n\
+         7 Unban del 192.0.2.7\n",
+    ),
+];
 
 #[test]
 fn a_check_that_fails_gives_the_firewall_again_what_it_lost(rt: HostRuntime) -> Result<(), Fail> {
-    let alloc = rt.alloc();
-    let core = banned(alloc, "test -e /x")?;
-    let (core, ordered) = jobs_after(core, alloc, 1003, banning(alloc, NEXT)?)?;
-    assert_eq!(rt; ordered.as_str(), "2 Ban add 192.0.2.8\n");
-    let (core, ordered) = jobs_after(core, alloc, 1003, check_failed(2))?;
-    assert_eq!(rt;
-        ordered.as_str(),
-        "3 Stop down\n4 Start up\n5 Reban add 192.0.2.7\n6 Reban add 192.0.2.8\n"
-    );
-    let (_, ordered) = jobs_after(core, alloc, 1004, unbanning(alloc)?)?;
-    assert_eq!(rt;
-        ordered.as_str(),
-        "3 Stop down\n4 Start up\n5 Reban add 192.0.2.7\n6 Reban add 192.0.2.8\n\
-         7 Unban del 192.0.2.7\n"
-    );
-    Ok(())
+    let core = after(rt.alloc(), &BANNED_WITH_A_CHECK)?;
+    play(&rt, rt.alloc(), core, &LOST)
 }
+
+const KEPT_AND_CALLED_OFF: [Step; 9] = [
+    Step::At(1010, Happens::Stops),
+    Step::Jobs("2 Unban del 192.0.2.7\n3 Stop down\n"),
+    Step::Stopping(true),
+    Step::NoneUp,
+    Step::Viewed(1),
+    Step::BanDue(1601, true),
+    Step::At(1011, Happens::Configures(ADD, "", 0)),
+    Step::Jobs("2 Unban del 192.0.2.7\n3 Stop down\n4 Start up\n5 Ban add 192.0.2.7\n"),
+    Step::Stopping(false),
+];
 
 #[test]
 fn a_stop_is_kept_and_called_off(rt: HostRuntime) -> Result<(), Fail> {
-    let alloc = rt.alloc();
-    let (core, ordered) = jobs_after(banned(alloc, "")?, alloc, 1010, What::Stop)?;
-    assert_eq!(rt; ordered.as_str(), "2 Unban del 192.0.2.7\n3 Stop down\n");
-    let view = core.view()?;
-    assert!(rt; view.stopping && view.up.is_empty() && view.jails.len() == 1);
-    assert!(rt; core.ban_due(1601));
-
-    let again = configuration(alloc, ADD, "", 0)?;
-    let (core, ordered) = jobs_after(core, alloc, 1011, again)?;
-    assert_eq!(rt;
-        ordered.as_str(),
-        "2 Unban del 192.0.2.7\n3 Stop down\n4 Start up\n5 Ban add 192.0.2.7\n"
-    );
-    assert!(rt; !core.view()?.stopping);
-    Ok(())
+    let core = after(rt.alloc(), &BANNED)?;
+    play(&rt, rt.alloc(), core, &KEPT_AND_CALLED_OFF)
 }

@@ -1,27 +1,33 @@
 //! What replies show of a jail.
-ghost use Rattle.std.specs.Prelude.{IfOk};
-ghost use Rattle.f2b_model.specs.Storable.{IsStorable};
-
 use crate::Core;
-use crate::tests::{ADD, ADDR, JAIL, NEXT, banning, configuration, reading, step};
-use f2b_base::{Addr, NoMemory};
+use crate::tests::{ADD, ADDR, Happens, JAIL, Who, after};
 use jail_moves::Totals;
-use std::alloc::Global;
+use std::process::Abort;
 use std::test::Fail;
 
 /// The address is banned by command, and the next one failed once.
-fn banned_and_failed(alloc: Global) -> Result<Core, NoMemory>
-    ensures { IfOk result IsStorable }
-{
-    let (core, _) = step(Core::empty(alloc), 1000, configuration(alloc, ADD, "", 0)?)?;
-    let (core, _) = step(core, 1001, banning(alloc, ADDR)?)?;
-    let (core, _) = step(core, 1002, reading(alloc, NEXT, 1002, "fails")?)?;
-    Ok(core)
+const BANNED_AND_FAILED: [(u32, Happens); 3] = [
+    (1000, Happens::Configures(ADD, "", 0)),
+    (1001, Happens::Bans(Who::Seven)),
+    (1002, Happens::Fails(Who::Eight, 1002, "fails")),
+];
+
+/// How many addresses failed lately, where the clock reads these moments.
+fn have_failed_lately(rt: &impl Abort, core: &Core, rows: &[(u64, u64)]) {
+    for &(now, count) in rows {
+        assert_eq!(rt;
+            core.failed_lately(JAIL, core.now().max(now)),
+            count,
+            "at {now}"
+        );
+    }
 }
+
+const FAILED_LATELY: [(u64, u64); 3] = [(1002, 1), (1601, 1), (1602, 0)];
 
 #[test]
 fn a_reply_reads_the_jail_of_a_name(rt: HostRuntime) -> Result<(), Fail> {
-    let core = banned_and_failed(rt.alloc())?;
+    let core = after(rt.alloc(), &BANNED_AND_FAILED)?;
     assert_eq!(rt; core.jail(JAIL).map(|jail| jail.findtime), Some(600));
     let totals = Totals {
         idle: false,
@@ -31,19 +37,13 @@ fn a_reply_reads_the_jail_of_a_name(rt: HostRuntime) -> Result<(), Fail> {
     assert_eq!(rt; core.totals(JAIL), Some(totals));
     assert_eq!(rt; core.ban_from(JAIL, 0).map(|ban| ban.addr), Some(ADDR));
     assert!(rt; core.ban_from(JAIL, 1).is_none());
-    for (now, count) in [(1002, 1), (1601, 1), (1602, 0)] {
-        assert_eq!(rt;
-            core.failed_lately(JAIL, core.now().max(now)),
-            count,
-            "at {now}"
-        );
-    }
+    have_failed_lately(&rt, &core, &FAILED_LATELY);
     Ok(())
 }
 
 #[test]
 fn a_reply_shows_nothing_of_a_jail_that_is_not_there(rt: HostRuntime) -> Result<(), Fail> {
-    let core = banned_and_failed(rt.alloc())?;
+    let core = after(rt.alloc(), &BANNED_AND_FAILED)?;
     let name = "postfix";
     assert!(rt; core.jail(name).is_none());
     assert!(rt; core.totals(name).is_none());
@@ -53,25 +53,27 @@ fn a_reply_shows_nothing_of_a_jail_that_is_not_there(rt: HostRuntime) -> Result<
 }
 
 /// Two addresses failed once each, and another one two `findtime` later: what is kept of the two matters no more.
-fn with_stale_failures(alloc: Global) -> Result<Core, NoMemory>
-    ensures { IfOk result IsStorable }
-{
-    let (core, _) = step(Core::empty(alloc), 1000, configuration(alloc, ADD, "", 0)?)?;
-    let (core, _) = step(core, 1001, reading(alloc, ADDR, 1001, "fails")?)?;
-    let (core, _) = step(core, 1002, reading(alloc, NEXT, 1002, "fails")?)?;
-    let (core, _) = step(core, 2202, reading(alloc, Addr::V4(1), 2202, "fails")?)?;
-    Ok(core)
+const STALE_FAILURES: [(u32, Happens); 4] = [
+    (1000, Happens::Configures(ADD, "", 0)),
+    (1001, Happens::Fails(Who::Seven, 1001, "fails")),
+    (1002, Happens::Fails(Who::Eight, 1002, "fails")),
+    (2202, Happens::Fails(Who::First, 2202, "fails")),
+];
+
+/// Sweeps of one address forget so much each, and change nothing of a view.
+fn sweep_each(rt: &impl Abort, core: &mut Core, forgotten: &[u64]) -> Result<(), Fail> {
+    let before = core.view()?;
+    for count in forgotten {
+        assert_eq!(rt; core.sweep(1), *count);
+        assert!(rt; core.view()? == before);
+    }
+    Ok(())
 }
 
 #[test]
 fn a_sweep_forgets_what_matters_no_more_and_changes_nothing_of_a_view(
     rt: HostRuntime,
 ) -> Result<(), Fail> {
-    let mut core = with_stale_failures(rt.alloc())?;
-    let before = core.view()?;
-    for forgotten in [1, 1, 0] {
-        assert_eq!(rt; core.sweep(1), forgotten);
-        assert!(rt; core.view()? == before);
-    }
-    Ok(())
+    let mut core = after(rt.alloc(), &STALE_FAILURES)?;
+    sweep_each(&rt, &mut core, &[1, 1, 0])
 }

@@ -1,0 +1,52 @@
+//! The waiting of a pause.
+
+use crate::clock::nap;
+use crate::commands::Commands;
+use crate::watched::Watched;
+use std::alloc::AllocGlobal;
+use std::process::Processes;
+use std::rt::Files;
+use std::time::Clock;
+
+/// How often logs are looked after, in microseconds.
+const STEP: u64 = 25_000;
+
+/// Waits for so many microseconds, and no longer than until a command has ended or a log has changed. Those that were ended are forgotten.
+pub(crate) fn wait<R: Files + Clock + Processes + AllocGlobal>(
+    rt: &R,
+    commands: &mut Commands<R::Started>,
+    watched: &Watched,
+    most: u64,
+) {
+    let _ = commands.reap();
+    let step = STEP.saturating_mul(watched.steps());
+    let mut slept: u64 = 0;
+    let mut looked: u64 = 0;
+    for _ in 0..most {
+        if slept >= most || commands.has_ended() {
+            return;
+        }
+        let micros = micros_behind(slept, commands.has_some()).min(most.saturating_sub(slept));
+        nap(rt, micros);
+        slept = slept.saturating_add(micros);
+        if slept.saturating_sub(looked) >= step {
+            looked = slept;
+            if watched.has_changed(rt) {
+                return;
+            }
+        }
+    }
+}
+
+// How many microseconds to sleep at a time, by those that were slept. Most commands end within a few milliseconds, and their lane waits.
+fn micros_behind(slept: u64, has_commands: bool) -> u64 {
+    if !has_commands {
+        STEP
+    } else if slept < 2_000 {
+        50
+    } else if slept < 20_000 {
+        500
+    } else {
+        5_000
+    }
+}

@@ -1,0 +1,81 @@
+//! All that is said of a test that is made.
+ghost use Rattle.std.specs.Prelude.{◌≡◌, ◌++◌, length, IfOk, OnOk};
+ghost use Rattle.regex_tool.specs.Outputs.{first_part, output, under};
+
+use crate::report::report;
+use crate::results::Results;
+use crate::section::Section;
+use crate::shows::{Form, Shows};
+use f2b_base::{Bytes, JailDef, NoMemory, Plain};
+use std::alloc::Global;
+
+/// The report, or what stands in its place.
+fn first_part(
+    alloc: Global,
+    form: Form,
+    jail: &JailDef,
+    results: &Results,
+) -> Result<Bytes, NoMemory>
+    requires fail { length results.now.counts.fail ≡ length jail.now.fail }
+    requires ignore_lines { length results.now.counts.ignore_lines ≡ length jail.now.ignore_lines }
+    ensures { IfOk result (λ text. text ≡ first_part form jail.now results.now) }
+{
+    match form {
+        Form::Report => {
+            let report = report(alloc, jail, &results.counts)?;
+            Bytes::from_slice(alloc, report.as_str().as_bytes())
+        }
+        Form::Rows | Form::Addresses => results.sections.first.text.copy(),
+    }
+}
+
+/// Lines of one kind under their heading, where they are shown.
+fn push_under(
+    text: &mut Bytes,
+    heading: &[u8],
+    holds: bool,
+    section: &Section,
+) -> Result<(), NoMemory>
+    ensures { OnOk result (text.new ≡ text.old ++ under heading.now holds section.now) }
+{
+    if !holds {
+        return Ok(());
+    }
+    text.push_slice(heading)?;
+    text.push_slice(section.text.as_slice())
+}
+
+/// What is said of a test, by what the words want to be shown.
+#[tactic(auto, unfolding(crate::specs::Outputs::output))]
+pub(crate) fn output(
+    alloc: Global,
+    shows: Shows,
+    jail: &JailDef,
+    results: &Results,
+) -> Result<Bytes, NoMemory>
+    requires fail { length results.now.counts.fail ≡ length jail.now.fail }
+    requires ignore_lines { length results.now.counts.ignore_lines ≡ length jail.now.ignore_lines }
+    ensures { IfOk result (λ text. text ≡ output shows jail.now results.now) }
+{
+    let mut text = first_part(alloc, shows.form, jail, results)?;
+    let sections = &results.sections;
+    push_under(
+        &mut text,
+        b"Matched lines:\n",
+        shows.matched,
+        &sections.matched,
+    )?;
+    push_under(
+        &mut text,
+        b"Ignored lines:\n",
+        shows.ignored,
+        &sections.ignored,
+    )?;
+    push_under(
+        &mut text,
+        b"Missed lines:\n",
+        shows.missed,
+        &sections.missed,
+    )?;
+    Ok(text)
+}

@@ -1,0 +1,73 @@
+//! All lines that are shown.
+ghost use Rattle.std.specs.Prelude.{◌≡◌, OnOk};
+ghost use Rattle.regex_tool.specs.Sections.{kind_if, kind_of, matched_kind, no_sections, sections_after};
+
+use crate::section::{Kind, Section};
+use crate::shows::{Form, Shows};
+use f2b_base::NoMemory;
+use filter_regex::Finding;
+use log_follow::Line;
+use std::alloc::Global;
+
+/// All lines that are shown, by their kinds.
+#[derive(Debug, Drop)]
+pub(crate) struct Sections {
+    /// What stands in place of the report.
+    pub first: Section,
+    pub matched: Section,
+    pub ignored: Section,
+    pub missed: Section,
+}
+
+fn kind_of(form: Form) -> Kind
+    ensures { result ≡ kind_of form }
+{
+    match form {
+        Form::Report => Kind::Nothing,
+        Form::Rows => Kind::Row,
+        Form::Addresses => Kind::Address,
+    }
+}
+
+fn kind_if(holds: bool, kind: Kind) -> Kind
+    ensures { result ≡ kind_if holds kind }
+{
+    if holds { kind } else { Kind::Nothing }
+}
+
+/// How matched lines are shown.
+fn matched_kind(detail: bool) -> Kind
+    ensures { result ≡ matched_kind detail }
+{
+    if detail { Kind::Detail } else { Kind::Matched }
+}
+
+impl Sections {
+    /// No line yet.
+    pub(crate) fn new(alloc: Global, shows: Shows) -> Sections
+        ensures { result ≡ no_sections shows }
+    {
+        Sections {
+            first: Section::new(alloc, kind_of(shows.form)),
+            matched: Section::new(alloc, kind_if(shows.matched, matched_kind(shows.detail))),
+            ignored: Section::new(alloc, kind_if(shows.ignored, Kind::Ignored)),
+            missed: Section::new(alloc, kind_if(shows.missed, Kind::Missed)),
+        }
+    }
+
+    /// Shows a line, wherever it is of the kind. After an error nothing is told of the texts.
+    #[tactic(auto, unfolding(crate::specs::Sections::sections_after))]
+    pub(crate) fn add(
+        &mut self,
+        alloc: Global,
+        line: &Line,
+        finding: Finding,
+    ) -> Result<(), NoMemory>
+        ensures { OnOk result (self.new ≡ sections_after self.old line.now finding) }
+    {
+        self.first.add(alloc, line, finding)?;
+        self.matched.add(alloc, line, finding)?;
+        self.ignored.add(alloc, line, finding)?;
+        self.missed.add(alloc, line, finding)
+    }
+}

@@ -1,0 +1,143 @@
+//! One run over a world in memory, and what it says.
+use f2b_base::{Bytes, Reading, Seq, Text, Tree, TreeAnswer, TreeFile};
+use f2b_mem::{ChildPlan, FileChange, Image, MemWorld, Script};
+use f2b_world::{Event, Said};
+use server_top::server;
+use std::alloc::Global;
+use std::test::Fail;
+
+/// A file, by its path and its content.
+pub type File<'a> = (&'a str, &'a str);
+
+/// What a run is given.
+#[derive(Drop)]
+pub struct Given<'a> {
+    /// The words, with blanks between them.
+    pub words: &'a str,
+    pub tree: TreeAnswer,
+    /// What the clock says, in seconds since 1970; the last reading stays.
+    pub readings: &'a [u64],
+    pub changes: Seq<FileChange>,
+    /// How the commands run that are started, in order; those after the last end with 0.
+    pub children: Seq<ChildPlan>,
+    /// The places of the calls that fail.
+    pub fails: &'a [u64],
+}
+
+/// How a run ended, and what it said.
+#[derive(Drop)]
+struct Played {
+    status: u8,
+    said: Bytes,
+    /// Whether its world is still told.
+    told: bool,
+}
+
+/// The configuration of these files, which stand in byte order of their paths.
+pub fn tree(alloc: Global, conf: &[File<'_>]) -> Result<TreeAnswer, Fail> {
+    let mut files = Seq::new(alloc);
+    for (path, content) in conf {
+        files.push(TreeFile {
+            path: Text::from_str(alloc, path)?,
+            content: Bytes::from_slice(alloc, content.as_bytes())?,
+        })?;
+    }
+    Ok(TreeAnswer::Tree(Tree { files }))
+}
+
+/// That a file has this content after so many pauses, or is gone.
+pub fn change(
+    alloc: Global,
+    pauses: u64,
+    path: &str,
+    content: Option<&str>,
+) -> Result<FileChange, Fail> {
+    let content = match content {
+        Some(content) => Some(Bytes::from_slice(alloc, content.as_bytes())?),
+        None => None,
+    };
+    Ok(FileChange {
+        pauses,
+        path: Text::from_str(alloc, path)?,
+        content,
+    })
+}
+
+fn readings(alloc: Global, secs: &[u64]) -> Result<Seq<Reading>, Fail> {
+    let mut readings = Seq::new(alloc);
+    for secs in secs {
+        readings.push(Reading {
+            secs: *secs,
+            word: 0,
+        })?;
+    }
+    Ok(readings)
+}
+
+fn world(
+    alloc: Global,
+    tree: TreeAnswer,
+    secs: &[u64],
+    changes: Seq<FileChange>,
+    children: Seq<ChildPlan>,
+    fails: &[u64],
+) -> Result<MemWorld, Fail> {
+    let mut trees = Seq::new(alloc);
+    trees.push(tree)?;
+    let script = Script {
+        readings: readings(alloc, secs)?,
+        trees,
+        changes,
+        children,
+        clients: Seq::new(alloc),
+        fails: Seq::from(fails.to_vec(alloc)?),
+        image: Image {
+            slot0: Bytes::new(alloc),
+            slot1: Bytes::new(alloc),
+        },
+    };
+    Ok(MemWorld::new(alloc, script)?)
+}
+
+/// What was said without a fault.
+fn said(alloc: Global, events: &[Event]) -> Result<Bytes, Fail> {
+    let mut said = Bytes::new(alloc);
+    for event in events {
+        if let Event::Say {
+            bytes,
+            answer: Said::Done,
+        } = event
+        {
+            said.push_slice(bytes.as_slice())?;
+        }
+    }
+    Ok(said)
+}
+
+fn play(alloc: Global, given: Given<'_>) -> Result<Played, Fail> {
+    let Given {
+        words: text,
+        tree,
+        readings,
+        changes,
+        children,
+        fails,
+    } = given;
+    let mut words = Vec::new(alloc);
+    for word in text.split_whitespace() {
+        words.push(String::from_str(alloc, word)?)?;
+    }
+    let mut world = world(alloc, tree, readings, changes, children, fails)?;
+    let status = server(alloc, words.as_slice(), &mut world);
+    Ok(Played {
+        status: status.number(),
+        said: said(alloc, world.events())?,
+        told: world.is_told(),
+    })
+}
+
+/// Whether a run ends with this status and says this.
+pub fn is_as_wanted(alloc: Global, given: Given<'_>, status: u8, said: &str) -> Result<bool, Fail> {
+    let played = play(alloc, given)?;
+    Ok(played.told && played.status == status && played.said.as_slice() == said.as_bytes())
+}

@@ -1,0 +1,16 @@
+use Rattle.std.proofs.lemmas.Result.{err_from_is_err_and}
+use Rattle.turn_children.proofs.PollLemmas.{poll_ended, poll_fails}
+use Rattle.turn_children.proofs.poll.poll.Goals as goal
+
+pub returns-in_err-running-in-Some-clause-err : goal.returns-in_err-running-in-Some-clause-err
+returns-in_err-running-in-Some-clause-err g c =
+    let p = err_from_is_err_and c.from_residual.result c.from_residual.ensures.1 in
+    rw (p.1, p.2) (poll_fails c.args.running c.args.place c.at-child.result c.at-child.ensures c.requires.within
+    (g.W.Outside.stands c.args.world.now) (g.W.Outside.stands c.child_poll.new.self) c.child_poll.result c.child_poll.ensures c.outcome_of.result c.outcome_of.ensures
+    (g.W.Outside.stands c.child_ended.new.world) c.in-Some.outcome c.in-Some.is c.in_err-running-in-Some.field-0.0 c.in_err-running-in-Some.ensures.err)
+
+pub returns-in_ok-running-in-Some-clause-ok : goal.returns-in_ok-running-in-Some-clause-ok
+returns-in_ok-running-in-Some-clause-ok g c =
+    poll_ended c.args.running c.args.place c.at-child.result c.at-child.ensures c.requires.within
+    (g.W.Outside.stands c.args.world.now) (g.W.Outside.stands c.child_poll.new.self) c.child_poll.result c.child_poll.ensures c.outcome_of.result c.outcome_of.ensures
+    (g.W.Outside.stands c.child_ended.new.world) c.in-Some.outcome c.in-Some.is c.in_ok-running-in-Some.running c.in_ok-running-in-Some.ensures.ok

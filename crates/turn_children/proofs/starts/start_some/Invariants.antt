@@ -1,0 +1,17 @@
+use Rattle.std.proofs.Common.{◌≡◌, ◌≤◌}
+use Rattle.run_law.specs.Stages.{IsSteady, Moves}
+use Rattle.run_law.specs.Turn.{to_starts}
+use Rattle.run_steps.specs.Keeping.{KeepsRunning}
+use Rattle.turn_children.specs.Starting.{checks_then, steps_left}
+use Rattle.turn_children.proofs.starts.start_some.Given as goal
+
+abbrev pub invariant-starts : goal.invariant-starts
+invariant-starts g l = record {
+  moves : Moves KeepsRunning (g.W.Outside.stands l.initial.world) (g.W.Outside.stands l.world) to_starts to_starts l.initial.running l.running;
+  steady : IsSteady (g.W.Outside.stands l.initial.world) (g.W.Outside.stands l.world);
+  checks : checks_then l.running ≤ checks_then l.initial.running;
+  left : l.running.left ≡ l.initial.running.left;
+}
+
+abbrev pub decreases-starts : goal.decreases-starts
+decreases-starts g l = steps_left l.running

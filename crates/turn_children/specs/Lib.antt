@@ -1,0 +1,3 @@
+pub mod Polling
+pub mod Launches
+pub mod Starting

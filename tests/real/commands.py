@@ -1,0 +1,334 @@
+"""Actions whose commands are run: bans and their ends, tries, time-outs, checks, and what a command may do to the server."""
+
+import os
+import resource
+import signal
+import subprocess
+import time
+
+from room import as_nobody, failures, same, wait_for, want, write
+
+ADDRESS = "192.0.2.7"
+
+# A command that never ends, and notes the number of the process that its shell waits for.
+ENDLESS = "sleep 1000 & echo $! > {pid}; wait"
+
+
+def act(room, bantime=60, **items):
+    """Gives the jail an action with these items. `{done}` and `{pid}` in them are files of the room."""
+    os.makedirs(room.path("conf/action.d"), exist_ok=True)
+    paths = {name: room.path(name) for name in ["done", "pid", "flag"]}
+    lines = "".join(f"{name} = {text.format(**paths)}\n" for name, text in items.items())
+    write(room.path("conf/action.d/note.conf"), "[Definition]\n" + lines)
+    room.configure(bantime=bantime, more="action = note\n")
+
+
+def content(room, name):
+    try:
+        with open(room.path(name), encoding="utf-8") as file:
+            return file.read()
+    except FileNotFoundError:
+        return ""
+
+
+def wait_done(room, lines):
+    """Waits until commands have written these lines."""
+    text = "".join(f"{line}\n" for line in lines)
+    wait_for(lambda: len(content(room, "done")) >= len(text), f"{lines}", lambda: content(room, "done"))
+    same(content(room, "done"), text, "done")
+
+
+def ban(room, address=ADDRESS):
+    write(room.log, failures(*[address] * 3), "a")
+
+
+def lives(number):
+    """Whether a process runs, and is not merely waited for."""
+    try:
+        with open(f"/proc/{number}/stat", encoding="utf-8") as file:
+            return file.read().rsplit(")", 1)[1].split()[0] not in "ZX"
+    except (FileNotFoundError, ProcessLookupError):
+        return False
+
+
+def noted_process(room):
+    """The number of the process that a command noted."""
+    wait_for(lambda: content(room, "pid").endswith("\n"), "the number of a process")
+    return int(content(room, "pid"))
+
+
+def children(server):
+    with open(f"/proc/{server.pid}/task/{server.pid}/children", encoding="utf-8") as file:
+        return file.read().split()
+
+
+def act_often(room, jails, actions, command):
+    """Gives the room so many jails with so many actions each, which run a command as they start."""
+    os.mkdir(room.path("conf/action.d"))
+    write(room.path("conf/action.d/note.conf"), "[Definition]\nactionstart = " + command.format(done=room.path("done")) + "\n")
+    action = "action = " + "\n    ".join(f"note[actname=note{number}]" for number in range(actions))
+    with open(room.path("conf/jail.conf"), encoding="utf-8") as file:
+        web, probe = file.read().split("\n[probe]")
+    sections = [web.replace("[web]", f"[web{number}]") + f"\n{action}\n" for number in range(jails)]
+    write(room.path("conf/jail.conf"), "".join(sections) + f"\n[probe]{probe}")
+
+
+def a_ban_is_made_and_taken_back(room):
+    """a ban runs the commands of its action in order, and the end of the ban takes it back"""
+    act(room, bantime=3, actionstart="echo start >> {done}", actionban="echo ban <ip> >> {done}", actionunban="echo unban <ip> >> {done}")
+    with room.server() as server:
+        wait_done(room, ["start"])
+        ban(room)
+        wait_done(room, ["start", f"ban {ADDRESS}"])
+        server.wait_said(f"NOTICE [web] Unban {ADDRESS}")
+        wait_done(room, ["start", f"ban {ADDRESS}", f"unban {ADDRESS}"])
+        wait_for(lambda: not children(server), "the end of all commands")
+
+
+def a_command_that_fails_is_tried_three_times(room):
+    """a command that fails is tried three times, two and four seconds later, and then given up, and its lane goes on"""
+    act(room, actionban="echo <ip> $(date +%%s) >> {done}; test <ip> != " + ADDRESS)
+    failed = "ERROR [web/note] ban failed: status 1"
+    with room.server() as server:
+        ban(room)
+        server.wait_said("ERROR [web/note] ban given up")
+        same([line for line in server.said() if "note" in line], [failed] * 3 + ["ERROR [web/note] ban given up"], "said")
+        moments = [int(line.split()[1]) for line in content(room, "done").splitlines()]
+        same(len(moments), 3, "tries")
+        want(moments[1] - moments[0] >= 2 and moments[2] - moments[1] >= 4, f"tried at {moments}")
+        ban(room, "192.0.2.8")
+        wait_for(lambda: "192.0.2.8" in content(room, "done"), "the next command of the lane")
+        server.turn()
+        same(server.count("ERROR [web/note] ban given up"), 1, "commands that were given up")
+
+
+def a_command_that_is_not_there_fails(room):
+    """a command that is not there has status 127, and one that a signal ends 128 and the signal's number"""
+    act(room, actionstart="no-such-command 2>/dev/null", actionban="kill -9 $$")
+    with room.server() as server:
+        server.wait_said("ERROR [web/note] start failed: status 127")
+        server.wait_said("ERROR [web/note] start given up")
+        ban(room)
+        server.wait_said("ERROR [web/note] ban failed: status 137")
+
+
+def a_command_is_timed_out(room):
+    """a command that takes too long is ended with the processes of its shell, and the server goes on meanwhile"""
+    act(room, actionban=ENDLESS, timeout="2")
+    with room.server() as server:
+        ban(room)
+        process = noted_process(room)
+        want(lives(process), "the command has ended already")
+        server.turn()
+        server.wait_said("ERROR [web/note] ban failed: timed out")
+        took = server.moment("ERROR [web/note] ban failed: timed out") - server.moment(f"NOTICE [web] Ban {ADDRESS}")
+        want(took >= 2, f"ended after {took} s")
+        wait_for(lambda: not lives(process), "the end of the process")
+
+
+def a_check_fails(room):
+    """where the check before a ban fails the action starts anew, with all bans that stand"""
+    act(
+        room,
+        actionstart="touch {flag}; echo start >> {done}",
+        actionstop="echo stop >> {done}",
+        actioncheck="test -e {flag}",
+        actionban="echo ban <ip> >> {done}",
+    )
+    with room.server() as server:
+        ban(room)
+        wait_done(room, ["start", f"ban {ADDRESS}"])
+        os.remove(room.path("flag"))
+        ban(room, "192.0.2.8")
+        server.wait_said("INFO [web/note] restart")
+        said = [line for line in server.said() if "note" in line]
+        same(said, ["WARNING [web/note] check failed: status 1", "INFO [web/note] restart"], "said")
+        wait_done(room, ["start", f"ban {ADDRESS}", "stop", "start", f"ban {ADDRESS}", "ban 192.0.2.8"])
+
+
+def a_command_goes_away(room):
+    """what a command leaves behind it goes on, and its lane does not wait for it"""
+    act(room, actionban="sleep 1000 & echo $! > {pid}", actionunban="echo unban >> {done}", bantime=2)
+    with room.server() as server:
+        ban(room)
+        process = noted_process(room)
+        try:
+            wait_done(room, ["unban"])
+            want(lives(process), "what it left has ended")
+            wait_for(lambda: not children(server), "the end of all commands")
+        finally:
+            os.kill(process, signal.SIGKILL)
+
+
+def a_command_knows_little(room):
+    """a command has PATH and LANG of the environment, reads nothing, and has no other file of the server"""
+    act(room, actionstart="env > {done}; readlink /proc/$$/fd/0 >> {done}; cat >> {done}", actionban="exec ls /proc/self/fd > {pid}")
+    environment = {"PATH": "/usr/bin:/bin", "LANG": "C.UTF-8", "SECRET": "yes", "HOME": "/root"}
+    with room.server(env=environment):
+        ban(room)
+        wait_for(lambda: content(room, "pid").endswith("3\n"), "the files of a command", lambda: content(room, "pid"))
+        # The last one is the directory that is listed.
+        same(content(room, "pid").split(), ["0", "1", "2", "3"], "files")
+    *lines, reads = content(room, "done").splitlines()
+    variables = dict(line.split("=", 1) for line in lines)
+    for of_the_shell in ["PWD", "OLDPWD", "SHLVL", "_"]:
+        variables.pop(of_the_shell, None)
+    same((variables, reads), ({"PATH": "/usr/bin:/bin", "LANG": "C.UTF-8"}, "/dev/null"), "environment, and input")
+
+
+def a_command_writes(room):
+    """what a command writes comes to the server's standard error"""
+    act(room, actionstart="echo out; echo err >&2")
+    status, said, errors = room.run("--conf", room.conf, "--turns", "40")
+    same((status, errors), (0, "out\nerr\n"), f"status and errors, behind {said!r}")
+
+
+def a_command_fills_its_output(room):
+    """a command that fills a pipe which nobody reads waits, is timed out, and does not keep the server"""
+    act(room, actionban="echo $$ > {pid}; yes", timeout="2")
+    reader, writer = os.pipe()
+    try:
+        with room.server(stderr=writer) as server:
+            ban(room)
+            noted_process(room)
+            server.turn()
+            server.wait_said("ERROR [web/note] ban failed: timed out")
+    finally:
+        os.close(reader)
+        os.close(writer)
+
+
+def a_server_without_errors(room):
+    """where standard error is closed, what commands write is lost, and they run as ever"""
+    act(room, actionban="echo out && echo err >&2 && echo <ip> >> {done}")
+    with room.server(stderr=None, preexec_fn=lambda: os.close(2)) as server:
+        ban(room)
+        wait_done(room, [ADDRESS])
+        server.turn()
+        same([line for line in server.said() if "ERROR" in line], [], "said")
+    same(content(room, "web.log").count("\n"), 3, "lines of the log")
+
+
+def commands_end_with_the_server(room):
+    """a server that made its turns ends the commands that still run, with the processes of their shells"""
+    act(room, actionstart=ENDLESS)
+    status, _said, errors = room.run("--conf", room.conf, "--turns", "8")
+    same((status, errors), (0, ""), "end")
+    process = noted_process(room)
+    wait_for(lambda: not lives(process), "the end of the process")
+
+
+def commands_end_with_a_fault(room):
+    """a server that cannot say its lines any more ends the commands that still run"""
+    act(room, actionstart=ENDLESS)
+    server = subprocess.Popen(room.words(), stdin=subprocess.DEVNULL, stdout=subprocess.PIPE)
+    try:
+        want(server.stdout.readline().endswith(b" INFO Server ready\n"), "no first line")
+        process = noted_process(room)
+        server.stdout.close()
+        write(room.log, failures(ADDRESS), "a")
+        wait_for(lambda: server.poll() is not None, "the end")
+        same(server.returncode, 9, "status")
+        wait_for(lambda: not lives(process), "the end of the process")
+    finally:
+        server.kill()
+        server.wait()
+
+
+def sixteen_commands_run(room):
+    """of twenty commands that may run at once sixteen do, and the others follow"""
+    # Each waits until sixteen have begun.
+    act_often(room, 2, 10, "echo + >> {done}; while [ $(grep -c + {done}) -lt 16 ]; do sleep 0.2; done; echo - >> {done}")
+    with room.server() as server:
+        wait_for(lambda: content(room, "done").count("-") == 20, "the end of all", lambda: content(room, "done"))
+        running = most = 0
+        for mark in content(room, "done").split():
+            running += 1 if mark == "+" else -1
+            most = max(most, running)
+        same(most, 16, "commands at once")
+        wait_for(lambda: not children(server), "the end of all commands")
+
+
+def many_lanes_start(room):
+    """256 actions at once are started, each once"""
+    act_often(room, 16, 16, "echo <name> <actname> >> {done}")
+    with room.server() as server:
+        wait_for(lambda: content(room, "done").count("\n") >= 256, "256 lines", lambda: content(room, "done"))
+        server.turn()
+        same(len(set(content(room, "done").splitlines())), 256, "actions")
+        same(content(room, "done").count("\n"), 256, "commands")
+
+
+def no_process_is_to_be_had(room):
+    """where no process is to be had a command is not started, and is tried again"""
+    act(room, actionban="true")
+    os.chmod(room.place, 0o777)
+
+    def limit():
+        resource.setrlimit(resource.RLIMIT_NPROC, (0, 0))
+
+    with room.server(preexec_fn=limit, **as_nobody()) as server:
+        ban(room)
+        server.wait_said("ERROR [web/note] ban failed: not started", 3)
+        server.wait_said("ERROR [web/note] ban given up")
+
+
+def a_command_is_too_long(room):
+    """a command of 64 KiB is run, and one that is longer than the system takes is not started"""
+    act(room, actionstart="echo " + "a" * 65_536 + " >> {done}", actionban="echo " + "a" * 140_000 + " >> {done}")
+    with room.server() as server:
+        wait_done(room, ["a" * 65_536])
+        ban(room)
+        server.wait_said("ERROR [web/note] ban failed: not started")
+
+
+def a_lane_does_not_wait(room):
+    """a hundred bans of one jail are made well before a hundred pauses are over, one behind the other"""
+    act(room, actionban="echo <ip> >> {done}")
+    addresses = [f"198.51.100.{number}" for number in range(100)]
+    with room.server() as server:
+        server.turn()
+        begin = time.monotonic()
+        write(room.log, "".join(failures(*[address] * 3) for address in addresses), "a")
+        wait_done(room, addresses)
+        took = time.monotonic() - begin
+        want(took < 15, f"took {took:.1f} s")
+        server.turn()
+
+
+def a_log_is_watched(room):
+    """a failure that is written while the server pauses is found before the pause is over"""
+    took = []
+    with room.server() as server:
+        server.turn()
+        for number in range(20):
+            time.sleep(0.05)
+            begin = time.monotonic()
+            write(room.log, failures(f"192.0.2.{number}"), "a")
+            while not server.count(f"INFO [web] Found 192.0.2.{number}"):
+                want(time.monotonic() < begin + 60, "not found")
+                time.sleep(0.001)
+            took.append(time.monotonic() - begin)
+    want(sorted(took)[10] < 0.1, f"took {sorted(took)}")
+
+
+CHECKS = [
+    a_ban_is_made_and_taken_back,
+    a_command_that_fails_is_tried_three_times,
+    a_command_that_is_not_there_fails,
+    a_command_is_timed_out,
+    a_check_fails,
+    a_command_goes_away,
+    a_command_knows_little,
+    a_command_writes,
+    a_command_fills_its_output,
+    a_server_without_errors,
+    commands_end_with_the_server,
+    commands_end_with_a_fault,
+    sixteen_commands_run,
+    many_lanes_start,
+    no_process_is_to_be_had,
+    a_command_is_too_long,
+    a_lane_does_not_wait,
+    a_log_is_watched,
+]
