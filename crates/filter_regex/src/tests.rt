@@ -11,7 +11,7 @@ mod lines;
 
 use super::*;
 use date_detect::is_date_pattern;
-use f2b_base::{Addr, BanRule, Cidr, DateSpec, JailDef, NoMemory, Seq, Text};
+use f2b_base::{Addr, BanRule, Cidr, DateSpec, JailDef, LAST_MOMENT, NoMemory, Seq, Text};
 use f2b_world::{Made, Outside, Patterns, build_pattern};
 use ignore_set::IgnoreSet;
 use std::alloc::Global;

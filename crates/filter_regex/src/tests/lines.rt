@@ -185,6 +185,7 @@ fn are_found_then(
     rows: &[(&str, u64, u64, Finding)],
 ) -> Result<(), Fail> {
     for (line, now, findtime, finding) in rows {
+        assert!(rt; *now <= LAST_MOMENT);
         assert_eq!(rt;
             searcher.found(ignore, line, *now, *findtime)?,
             *finding,
