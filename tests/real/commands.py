@@ -147,6 +147,28 @@ def a_check_fails(room):
         wait_done(room, ["start", f"ban {ADDRESS}", "stop", "start", f"ban {ADDRESS}", "ban 192.0.2.8"])
 
 
+def check_ends_so(room, check, cause):
+    """Wants a check that ends so to void its job, and the action to start anew."""
+    act(room, actionstart="echo start >> {done}", actioncheck=check, actionban="echo ban <ip> >> {done}", timeout="2")
+    with room.server() as server:
+        ban(room)
+        wait_done(room, ["start", "start", f"ban {ADDRESS}"])
+        server.turn()
+        said = [line for line in server.said() if "note" in line]
+        same(said, [f"WARNING [web/note] check failed: {cause}", "INFO [web/note] restart"], "said")
+        wait_for(lambda: not children(server), "the end of all commands")
+
+
+def a_check_is_timed_out(room):
+    """a check that takes too long has failed, and no try is counted"""
+    check_ends_so(room, ENDLESS, "timed out")
+
+
+def a_check_is_too_long(room):
+    """a check that cannot be started has failed, and no try is counted"""
+    check_ends_so(room, "true " + "a" * 140_000, "not started")
+
+
 def a_command_goes_away(room):
     """what a command leaves behind it goes on, and its lane does not wait for it"""
     act(room, actionban="sleep 1000 & echo $! > {pid}", actionunban="echo unban >> {done}", bantime=2)
@@ -375,6 +397,8 @@ CHECKS = [
     a_command_that_is_not_there_fails,
     a_command_is_timed_out,
     a_check_fails,
+    a_check_is_timed_out,
+    a_check_is_too_long,
     a_command_goes_away,
     a_command_knows_little,
     a_command_writes,
