@@ -115,14 +115,14 @@ class Room:
     def words(self, *more):
         return [*self.starter, self.program, "--conf", self.conf, *more]
 
-    def run(self, *words, program=None, **how):
+    def run(self, *words, program=None, patience=PATIENCE, **how):
         """Runs the server, or another program, with these words to its end, and gives its status, what it said and its errors."""
         with tempfile.TemporaryFile() as errors:
             how = {"stdin": subprocess.DEVNULL, "stdout": subprocess.PIPE, "stderr": errors, **how}
             try:
-                ended = subprocess.run([program or self.program, *words], timeout=PATIENCE, check=False, **how)
+                ended = subprocess.run([program or self.program, *words], timeout=patience, check=False, **how)
             except subprocess.TimeoutExpired as late:
-                raise Failed(f"did not end within {PATIENCE} s") from late
+                raise Failed(f"did not end within {patience} s") from late
             errors.seek(0)
             said = (ended.stdout or b"").decode()
             return ended.returncode, said, errors.read().decode()
