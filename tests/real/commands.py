@@ -1,5 +1,6 @@
 """Actions whose commands are run: bans and their ends, tries, time-outs, checks, and what a command may do to the server."""
 
+import contextlib
 import os
 import resource
 import signal
@@ -128,6 +129,23 @@ def a_command_is_timed_out(room):
         want(took >= 2, f"ended after {took} s")
         wait_for(lambda: not lives(process), "the end of the process")
         wait_for(lambda: not children(server), "the end of the shell")
+
+
+def a_command_starts_more(room):
+    """a command that starts another process as soon as one has ended leaves none behind when it is ended"""
+    act(room, actionban="while :; do sleep 1000 & echo $! >> {pid}; wait $!; done", timeout="2")
+    with room.server() as server:
+        ban(room)
+        try:
+            server.wait_said("ERROR [web/note] ban given up")
+            processes = content(room, "pid").split()
+            want(len(processes) >= 3, f"started {processes}")
+            wait_for(lambda: not any(map(lives, processes)), "the end of all processes")
+        finally:
+            # What is left where the check fails.
+            for process in filter(lives, content(room, "pid").split()):
+                with contextlib.suppress(ProcessLookupError):
+                    os.kill(int(process), signal.SIGKILL)
 
 
 def a_check_fails(room):
@@ -421,6 +439,7 @@ CHECKS = [
     a_command_that_fails_is_tried_three_times,
     a_command_that_is_not_there_fails,
     a_command_is_timed_out,
+    a_command_starts_more,
     a_check_fails,
     a_check_is_timed_out,
     a_check_is_too_long,
