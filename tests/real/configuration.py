@@ -2,7 +2,7 @@
 
 import os
 
-from room import JAIL, PATIENCE, as_nobody, failures, same, write
+from room import JAIL, as_nobody, failures, same, write
 
 READY = ["INFO Server ready"]
 TOO_LARGE = ["ERROR Configuration too large"]
@@ -106,8 +106,7 @@ def most_jails(room):
     """256 jails are run, each with what is found in a log of all of them, and 257 are refused"""
     room.configure(more=more_jails(room, 254))
     write(room.log, failures("192.0.2.7"))
-    # The program with checks takes some seconds of processor time to build all patterns.
-    status, said, errors = room.run("--conf", room.conf, "--turns", "1", patience=5 * PATIENCE)
+    status, said, errors = room.run("--conf", room.conf, "--turns", "1")
     same((status, errors), (0, ""), "end")
     wanted = ["INFO Server ready", "INFO [web] Found 192.0.2.7", *[f"INFO [web{number}] Found 192.0.2.7" for number in range(254)]]
     same([line.split(" ", 1)[1] for line in said.splitlines()], wanted, "said")
