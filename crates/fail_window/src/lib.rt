@@ -7,6 +7,7 @@
 //! one where it came in order. A window never knows the clock, a jail or a ban: the caller says what time it is.
 #![tactic(auto)]
 
+mod kept;
 mod runs;
 #[cfg(test)]
 mod tests;
