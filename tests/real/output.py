@@ -94,6 +94,25 @@ def output_would_block(room):
     slow(room, blocking=False)
 
 
+def nobody_takes_the_output(room):
+    """where standard output would block for a minute the server ends with status 9, and not before"""
+    write(room.log, failures(*[f"198.51.100.{number}" for number in range(200)]))
+    read_end, write_end = os.pipe()
+    os.set_blocking(write_end, False)
+    fcntl.fcntl(write_end, getattr(fcntl, "F_SETPIPE_SZ", 1031), PAGE)
+    begin = time.monotonic()
+    process = subprocess.Popen(room.words(), stdin=subprocess.DEVNULL, stdout=write_end)
+    try:
+        wait_for(lambda: process.poll() is not None, "the end")
+        same(process.returncode, 9, "status")
+        want(time.monotonic() - begin >= 60, "a minute is not over")
+    finally:
+        process.kill()
+        process.wait()
+        os.close(write_end)
+        os.close(read_end)
+
+
 def input_is_closed(room):
     """a server whose standard input and errors are closed runs as any other"""
     def close():
@@ -109,4 +128,13 @@ def input_is_closed(room):
     same(lines, ["INFO Server ready", "INFO [web] Found 192.0.2.7"], "said")
 
 
-CHECKS = [output_is_full, output_becomes_full, output_is_closed, reader_has_gone, reader_is_slow, output_would_block, input_is_closed]
+CHECKS = [
+    output_is_full,
+    output_becomes_full,
+    output_is_closed,
+    reader_has_gone,
+    reader_is_slow,
+    output_would_block,
+    nobody_takes_the_output,
+    input_is_closed,
+]

@@ -71,9 +71,9 @@ def write(path, content, mode="w"):
         file.write(data)
 
 
-def failures(*addresses):
-    """A line for each address, dated now."""
-    now = int(time.time())
+def failures(*addresses, ahead=0):
+    """A line for each address, dated now, or so many seconds ahead of it."""
+    now = int(time.time()) + ahead
     return "".join(f"{now} fail from {address}\n" for address in addresses)
 
 
@@ -98,6 +98,8 @@ class Room:
         self.place = place
         self.conf = os.path.join(place, "conf")
         self.log = os.path.join(place, "web.log")
+        # The words in front of the server's, of what starts it.
+        self.starter = []
         os.mkdir(self.conf)
         os.chmod(place, 0o755)
         self.configure()
@@ -111,7 +113,7 @@ class Room:
         return os.path.join(self.place, name)
 
     def words(self, *more):
-        return [self.program, "--conf", self.conf, *more]
+        return [*self.starter, self.program, "--conf", self.conf, *more]
 
     def run(self, *words, program=None, **how):
         """Runs the server, or another program, with these words to its end, and gives its status, what it said and its errors."""
