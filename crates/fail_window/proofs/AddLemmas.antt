@@ -1,6 +1,6 @@
 -- A window after one more failure.
-use Rattle.std.proofs.Common.{◌≡◌, ℕ, ◌+◌, ◌*◌, ◌<◌, ◌≤◌, ◌↔◌, Bool, true, false, List, [], ◌∷◌, ◌++◌, length, refl, sym, ◌∙◌, ap, subst, arith}
-use Rattle.std.specs.List.{filter, insert}
+use Rattle.std.proofs.Common.{◌≡◌, ℕ, ◌+◌, ◌*◌, ◌<◌, ◌≤◌, ◌↔◌, Bool, true, false, nat_eq, List, [], ◌∷◌, ◌++◌, length, refl, sym, ◌∙◌, ap, subst, arith}
+use Rattle.std.specs.List.{filter, insert, list_any}
 use Rattle.std.proofs.lemmas.Bool.Decides.{nat_tests}
 use Rattle.f2b_base.specs.declared.addr.Addr.{Addr}
 use Rattle.f2b_base.specs.declared.addr.Addr.TheVariants.{V4, V6}
@@ -16,6 +16,7 @@ use Rattle.f2b_model.proofs.MarkLemmas.{failures_order}
 use Rattle.f2b_model.proofs.OrderlyLemmas.{all_of-filter}
 use Rattle.f2b_model.proofs.SoundLemmas.{same_addr_true}
 use Rattle.f2b_model.proofs.StandLemmas.{stands_added, stands_full}
+use Rattle.fail_window.specs.Added.{IsAdded}
 use Rattle.fail_window.specs.Opened.{IsRecent, IsTidy}
 use Rattle.fail_window.specs.Times.{by_time, IsRunAt}
 use Rattle.fail_window.proofs.PlaceLemmas.{time_order}
@@ -51,13 +52,6 @@ all_recent now findtime (f ∷ fs) a =
 
 pub recent_order : (now findtime : ℕ) (fs xs : List Failure) → IsInOrder by_time fs → xs ≡ filter (is_recent now findtime) fs → IsInOrder by_time xs
 recent_order now findtime fs xs o left = rw left (filter_in_order by_time time_order (is_recent now findtime) fs o)
-
--- one more failure went in, and the answer is right
-pub record IsAdded (findtime maxretry now : ℕ) (fs ys : List Failure) (f : Failure) (full : Bool) : Type 0 where
-  pub tidy : IsTidy findtime maxretry ys
-  pub stands : (last : ℕ) (whole : List Failure) → StandsFor last findtime fs whole → last ≤ now → StandsFor now findtime ys (whole ++ f ∷ [])
-  pub tells : (last : ℕ) (whole : List Failure) → StandsFor last findtime fs whole → last ≤ now → (IsFull findtime maxretry f.addr whole → ⊥)
-      → (full ≡ true) ↔ IsFull findtime maxretry f.addr (whole ++ f ∷ [])
 
 -- `fs` are the failures before, `xs` those of them that are still recent, and `ys` the failures after
 module _ (findtime maxretry now p : ℕ) (fs xs ys : List Failure) (f : Failure) (tidy : IsTidy findtime maxretry fs)
@@ -131,6 +125,25 @@ module _ (findtime maxretry now p : ℕ) (fs xs ys : List Failure) (f : Failure)
       → (full ≡ true → (k : ℕ) × IsRunAt findtime maxretry ys k)
       → ((k : ℕ) → k ≤ p → p < k + maxretry → IsRunAt findtime maxretry ys k → full ≡ true) → IsAdded findtime maxretry now fs ys f full
   added full forward within found none = record { tidy = after_tidy forward; stands = after_stands; tells = after_tells full within found none }
+
+none_passes : (p : Failure → Bool) (fs : List Failure) → list_any p fs ≡ false → [] ≡ filter p fs
+none_passes p [] none = refl
+none_passes p (f ∷ fs) none =
+    by_test (p f) _ (λ e. absurd (let clash : true ≡ false = rw e at none in cc)) (λ e. let rest : list_any p fs ≡ false = rw e at none in rw e (none_passes p fs rest))
+
+only_one : (maxretry k : ℕ) → 1 ≤ maxretry → k + maxretry ≤ 1 → nat_eq maxretry 1 ≡ true
+only_one maxretry k one le = let e : maxretry ≡ 1 = omega arith in rw e refl
+
+alone_run : (findtime maxretry : ℕ) (f : Failure) → 1 ≤ findtime → nat_eq maxretry 1 ≡ true → IsRunAt findtime maxretry (f ∷ []) 0
+alone_run findtime maxretry f one t = let e : maxretry ≡ 1 = grind (arith, nat_tests) in rw e (omega arith, omega arith)
+
+-- where no failure is recent the new one stands alone
+pub added_alone : (findtime maxretry now : ℕ) (fs : List Failure) (f : Failure) → IsTidy findtime maxretry fs → AllOf (λ (g : Failure). is_of f.addr g ≡ true) fs → f.time ≤ now
+    → now < f.time + findtime → AllOf (λ (g : Failure). g.time ≤ now) fs → list_any (is_recent now findtime) fs ≡ false
+    → IsAdded findtime maxretry now fs (f ∷ []) f (nat_eq maxretry 1)
+added_alone findtime maxretry now fs f tidy own not_later recent forward none =
+    added findtime maxretry now 0 fs [] (f ∷ []) f tidy own not_later recent (none_passes (is_recent now findtime) fs none) refl refl (nat_eq maxretry 1) forward (omega arith)
+    (λ t. (0, alone_run findtime maxretry f (omega arith) t)) (λ k front behind run. only_one maxretry k tidy.positive run.0)
 
 -- a window with no failures
 pub none_tidy : (findtime maxretry : ℕ) → 1 ≤ maxretry → IsTidy findtime maxretry []

@@ -1,2 +1,4 @@
 pub mod Times
 pub mod Opened
+pub mod Added
+pub mod Kept

@@ -2,11 +2,13 @@
 //!
 //! A window is made when an address fails for the first time, is given each further failure, and tells at which of them the address
 //! is full: `maxretry` failures of which the latest is less than `findtime` seconds after the earliest, in whatever order they came.
-//! It answers for the whole list of failures since it began, and keeps the last two `findtime` of them, in order of time. A failure
-//! costs a search by halves, the room that it takes, and what is too old and goes: at most `maxretry` looks where it came late, and
-//! one where it came in order. A window never knows the clock, a jail or a ban: the caller says what time it is.
+//! It answers for the whole list of failures since it began, and keeps the last two `findtime` of them, in order of time: one that
+//! stands alone in itself, since most addresses fail once, and several in a block. A failure costs a search by halves, the room that
+//! it takes, and what is too old and goes: at most `maxretry` looks where it came late, and one where it came in order. A window never
+//! knows the clock, a jail or a ban: the caller says what time it is.
 #![tactic(auto)]
 
+mod kept;
 mod runs;
 #[cfg(test)]
 mod tests;

@@ -1,29 +1,18 @@
 //! Failures of one address in order of time: where one goes in, which are too old, and which stand close together.
-ghost use Rattle.std.specs.Prelude.{◌≡◌, ◌+◌, ◌≤◌, ◌<◌, ◌↔◌, ℕ, true, nat_lt, filter, insert, OnOk};
+ghost use Rattle.std.specs.Prelude.{◌≡◌, ◌+◌, ◌≤◌, ◌<◌, ◌↔◌, ℕ, true, nat_lt, filter, insert, IfOk, OnErr};
 ghost use Rattle.std.specs.VecDeque.{deque_len, deque_capacity};
-ghost use Rattle.f2b_model.specs.Full.{is_recent};
-ghost use Rattle.f2b_model.specs.Lists.{placed, IsInOrder};
+ghost use Rattle.f2b_base.specs.declared.ban.Failure.{Failure};
+ghost use Rattle.f2b_model.specs.Full.{is_of, is_recent};
+ghost use Rattle.f2b_model.specs.Lists.{placed, AllOf, IsInOrder};
+ghost use Rattle.fail_window.specs.Added.{IsAdded};
+ghost use Rattle.fail_window.specs.Opened.{IsTidy};
 ghost use Rattle.fail_window.specs.Times.{by_time, IsRunAt};
 
 use f2b_base::{Failure, NoMemory};
 use std::collections::VecDeque;
 
-/// Makes room for one more failure. Most addresses fail once, so the first takes room for itself alone.
-pub fn make_room(kept: &mut VecDeque<Failure>) -> Result<(), NoMemory>
-    ensures items { kept.new.items ≡ kept.old.items }
-    ensures len { deque_len kept.new ≡ deque_len kept.old }
-    ensures room { OnOk result (deque_len kept.new + 1 ≤ deque_capacity kept.new) }
-{
-    if kept.is_empty() {
-        kept.reserve_exact(1)?;
-    } else {
-        kept.reserve(1)?;
-    }
-    Ok(())
-}
-
 /// The place behind all failures that are not later than this one.
-pub fn place_of(kept: &VecDeque<Failure>, failure: &Failure) -> usize
+fn place_of(kept: &VecDeque<Failure>, failure: &Failure) -> usize
     requires { IsInOrder by_time kept.now.items }
     ensures within { result ≤ deque_len kept.now }
     ensures place { placed by_time failure.now kept.now.items ≡ insert kept.now.items result failure.now }
@@ -32,7 +21,7 @@ pub fn place_of(kept: &VecDeque<Failure>, failure: &Failure) -> usize
 }
 
 /// Whether a failure is later than two `findtime` before a moment.
-fn is_recent(at: u64, findtime: u64, failure: &Failure) -> bool
+pub fn is_recent(at: u64, findtime: u64, failure: &Failure) -> bool
     ensures { result ≡ is_recent at findtime failure.now }
 {
     let time = failure.time;
@@ -40,7 +29,7 @@ fn is_recent(at: u64, findtime: u64, failure: &Failure) -> bool
 }
 
 /// Drops the failures that are not recent at a moment, which stand in front.
-pub fn drop_old(kept: &mut VecDeque<Failure>, at: u64, findtime: u64)
+fn drop_old(kept: &mut VecDeque<Failure>, at: u64, findtime: u64)
     requires { IsInOrder by_time kept.old.items }
     ensures kept { kept.new.items ≡ filter (is_recent at findtime) kept.old.items }
     ensures fewer { deque_len kept.new ≤ deque_len kept.old }
@@ -71,7 +60,7 @@ fn is_run(kept: &VecDeque<Failure>, index: usize, findtime: u64, maxretry: usize
 }
 
 /// Whether some `maxretry` neighbours, of which one stands at a place, are so close.
-pub fn has_run_with(kept: &VecDeque<Failure>, place: usize, findtime: u64, maxretry: usize) -> bool
+fn has_run_with(kept: &VecDeque<Failure>, place: usize, findtime: u64, maxretry: usize) -> bool
     requires place { place < deque_len kept.now }
     requires maxretry { 1 ≤ maxretry }
     ensures found { result ≡ true → (k : ℕ) × IsRunAt findtime maxretry kept.now.items k }
@@ -88,4 +77,27 @@ pub fn has_run_with(kept: &VecDeque<Failure>, place: usize, findtime: u64, maxre
         }
     }
     false
+}
+
+/// Adds one more failure of the address at a moment, without those that are not recent then, and tells whether it fills a window.
+pub fn add_to(
+    kept: &mut VecDeque<Failure>,
+    failure: Failure,
+    now: u64,
+    findtime: u64,
+    maxretry: u32,
+) -> Result<bool, NoMemory>
+    requires tidy { IsTidy findtime maxretry kept.old.items }
+    requires not_later { failure.time ≤ now }
+    requires recent { now < failure.time + findtime }
+    requires forward { AllOf (λ (f : Failure). f.time ≤ now) kept.old.items }
+    requires own { AllOf (λ (f : Failure). is_of failure.addr f ≡ true) kept.old.items }
+    ensures ok { IfOk result (IsAdded findtime maxretry now kept.old.items kept.new.items failure) }
+    ensures err { OnErr result (kept.new.items ≡ kept.old.items) }
+{
+    kept.reserve(1)?;
+    drop_old(kept, now, findtime);
+    let place = place_of(kept, &failure);
+    kept.insert(place, failure)?;
+    Ok(has_run_with(kept, place, findtime, maxretry as usize))
 }

@@ -145,7 +145,7 @@ fn equal_times_stand_in_order_of_arrival(rt: HostRuntime) -> Result<(), Fail> {
     let (window, _) = fed(rt.alloc(), 600, 9, &EQUAL_TIMES)?;
     assert_eq!(rt; window.len(), 5);
     let copies = window.failures()?;
-    let failures = window.into_failures();
+    let failures = window.into_failures()?;
     assert!(rt; copies == failures);
     let lines = lines(rt.alloc(), failures.as_slice())?;
     assert_eq!(rt; lines.as_str(), "bdace");

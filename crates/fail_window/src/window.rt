@@ -7,10 +7,9 @@ ghost use Rattle.f2b_model.specs.Lists.{AllOf};
 ghost use Rattle.fail_window.specs.Opened.{GoesOn, IsOpen, KeepsLimits, TellsFull};
 ghost use Rattle.fail_window.specs.Times.{is_within_findtime};
 
-use crate::runs::{drop_old, has_run_with, is_close, make_room, place_of};
+use crate::kept::Kept;
 use f2b_base::{Failure, NoMemory, Plain, Seq};
 use std::alloc::Global;
-use std::collections::VecDeque;
 use std::marker::Model;
 
 /// The failures of one address that can still fill it, with the limits of its jail.
@@ -18,18 +17,19 @@ use std::marker::Model;
 pub struct Window {
     findtime: u64,
     maxretry: u32,
-    /// In order of time, then of arrival.
-    kept: VecDeque<Failure>,
+    kept: Kept,
+    alloc: Global,
 }
 
 impl Model for Window {
+    ghost use Rattle.fail_window.specs.Kept.{failures_of};
     ghost use Rattle.fail_window.specs.Opened.{IsTidy, Opened};
 
     ghost Value = { Opened };
 
-    ghost view = { λ w. record { findtime = w.findtime; maxretry = w.maxretry; failures = w.kept.items } };
+    ghost view = { λ w. record { findtime = w.findtime; maxretry = w.maxretry; failures = failures_of w.kept } };
 
-    ghost invariant = { λ w. IsTidy w.findtime w.maxretry w.kept.items };
+    ghost invariant = { λ w. IsTidy w.findtime w.maxretry (failures_of w.kept) };
 }
 
 impl Window {
@@ -42,7 +42,8 @@ impl Window {
         Window {
             findtime,
             maxretry,
-            kept: VecDeque::new(alloc),
+            kept: Kept::new(alloc),
+            alloc,
         }
     }
 
@@ -59,11 +60,8 @@ impl Window {
         ensures full { IfOk result (TellsFull now self.old failure) }
         ensures err { OnErr result (self.new ≡ self.old) }
     {
-        make_room(&mut self.kept)?;
-        drop_old(&mut self.kept, now, self.findtime);
-        let place = place_of(&self.kept, &failure);
-        self.kept.insert(place, failure)?;
-        Ok(has_run_with(&self.kept, place, self.findtime, self.maxretry as usize))
+        self.kept
+            .add(self.alloc, failure, now, self.findtime, self.maxretry)
     }
 
     /// How many failures are kept.
@@ -79,27 +77,21 @@ impl Window {
     pub fn failed_lately(&self, now: u64) -> bool
         ensures { result ≡ list_any (is_within_findtime now self.now.findtime) self.now.failures }
     {
-        match self.kept.back() {
-            Some(last) => is_close(last.time, now, self.findtime),
-            None => false,
-        }
+        self.kept.failed_lately(now, self.findtime)
     }
 
-    /// The failures, in order of time, then of arrival. Takes no memory.
-    pub fn into_failures(self) -> Seq<Failure>
-        ensures { result ≡ self.failures }
+    /// The failures, in order of time, then of arrival. Takes memory for one that stands alone, and for no others.
+    pub fn into_failures(self) -> Result<Seq<Failure>, NoMemory>
+        ensures ok { IfOk result (λ failures. failures ≡ self.failures) }
+        ensures err { OnErr result (length self.failures ≡ 1) }
     {
-        Seq::from(self.kept.into_vec())
+        Ok(Seq::from(self.kept.into_vec(self.alloc)?))
     }
 
     /// A copy of the failures, in order of time, then of arrival.
     pub fn failures(&self) -> Result<Seq<Failure>, NoMemory>
         ensures { IfOk result (λ failures. failures ≡ self.now.failures) }
     {
-        let mut failures = Seq::new(*self.kept.allocator());
-        for failure in self.kept.iter() {
-            failures.push(failure.copy()?)?;
-        }
-        Ok(failures)
+        Ok(Seq::from(self.kept.to_vec(self.alloc)?))
     }
 }

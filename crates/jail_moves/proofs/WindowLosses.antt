@@ -12,7 +12,7 @@ use Rattle.f2b_base.specs.Addresses.{same_addr}
 use Rattle.f2b_model.specs.Full.{is_of, in_span, how_many, IsFull, is_full, is_recent}
 use Rattle.f2b_model.specs.Lists.{AllOf}
 use Rattle.f2b_model.specs.Moves.{is_near, is_near_to}
-use Rattle.f2b_model.proofs.FullLemmas.{full_of_part, full_of_test, not_true_both, same_test, test_of_full}
+use Rattle.f2b_model.proofs.FullLemmas.{filter_le, full_of_part, full_of_test, not_true_both, same_test, test_of_full}
 use Rattle.f2b_model.proofs.ListLemmas.{by_test, filter-append}
 use Rattle.f2b_model.proofs.OrderlyLemmas.{all_of-filter}
 use Rattle.f2b_model.proofs.SoundLemmas.{same_addr_true}
@@ -41,6 +41,17 @@ pub near_lost : (findtime maxretry time : ℕ) (addr : Addr) (es : List Entry) (
     → filter (is_near_to addr time findtime) (failures_of w) ≡ filter (is_near_to addr time findtime) (own_in addr es)
 near_lost findtime maxretry time addr es w windows is =
     ap (λ gs. filter (is_near_to addr time findtime) gs) (ap failures_of is ∙ sym (own_of findtime maxretry addr es windows))
+
+-- an address of which one failure is kept is not full by it, where several fill it
+pub not_full_alone : (findtime maxretry : ℕ) (addr : Addr) (es : List Entry) (w : AddrWindow) → AreWindows findtime maxretry es → Some w ≡ window_at (key_of addr) es
+    → length w.window.failures ≡ 1 → 2 ≤ maxretry → IsFull findtime maxretry addr (failures_in es) → ⊥
+not_full_alone findtime maxretry addr es w windows is alone several full =
+    let kept : own_in addr es ≡ w.window.failures = own_of findtime maxretry addr es windows ∙ ap failures_of (sym is) in
+    let own : IsFull findtime maxretry addr w.window.failures =
+    subst (λ (gs : List Failure). IsFull findtime maxretry addr gs) kept (full_to_own findtime maxretry addr (failures_in es) full) in
+    let many = own.many in
+    let most = filter_le (in_span addr own.start findtime) w.window.failures in
+    absurd (omega arith)
 
 -- ---- one more failure is counted
 

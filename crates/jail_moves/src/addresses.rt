@@ -1,7 +1,7 @@
 //! The windows of a jail by address: what goes in, what comes out, and what is too old.
 ghost use Rattle.std.specs.Prelude.{◌≡◌, ℕ, ◌+◌, ◌*◌, ◌<◌, ◌≤◌, [], ◌∷◌, ◌++◌, None, true, nat_lt, filter, OnOk, OnErr, IfOk};
 ghost use Rattle.f2b_base.specs.declared.ban.Failure.{Failure};
-ghost use Rattle.f2b_model.specs.Full.{is_recent, is_of};
+ghost use Rattle.f2b_model.specs.Full.{IsFull, is_recent, is_of};
 ghost use Rattle.f2b_model.specs.Lists.{AllOf};
 ghost use Rattle.f2b_model.specs.Moves.{is_near_to};
 ghost use Rattle.f2b_model.specs.StorableViews.{can_matter};
@@ -155,26 +155,28 @@ pub fn remove_each(windows: &mut ByAddr, addrs: &[Addr])
     }
 }
 
-/// Takes an address's window out, and gives those of its failures that are near a time. Takes no memory.
+/// Takes an address's window out, and gives those of its failures that are near a time. Takes memory for a failure that stands alone,
+/// and for no others: an address that several failures fill has several.
 fn take_out(
     windows: &mut ByAddr,
     alloc: Global,
     addr: Addr,
     time: u64,
     findtime: u64,
-) -> Seq<Failure>
+) -> Result<Seq<Failure>, NoMemory>
     ensures near { (maxretry : ℕ) → AreWindows findtime maxretry windows.old.entries
-        → result ≡ filter (is_near_to addr time findtime) (filter (is_of addr) (failures_in windows.old.entries)) }
+        → IfOk result (λ near. near ≡ filter (is_near_to addr time findtime) (filter (is_of addr) (failures_in windows.old.entries))) }
+    ensures full { OnErr result ((maxretry : ℕ) → 2 ≤ maxretry → AreWindows findtime maxretry windows.old.entries → IsFull findtime maxretry addr (failures_in windows.old.entries) → ⊥) }
     ensures loses { (maxretry : ℕ) → AreWindows findtime maxretry windows.old.entries → Loses findtime maxretry addr windows.old.entries windows.new.entries }
     ensures latest { (time : ℕ) → AreNotBefore time windows.old.entries → AreNotBefore time windows.new.entries }
 {
     match remove(windows, addr) {
         Some(gone) => {
-            let mut failures = gone.window.into_failures();
+            let mut failures = gone.window.into_failures()?;
             keep_near(&mut failures, addr, time, findtime);
-            failures
+            Ok(failures)
         }
-        None => Seq::new(alloc),
+        None => Ok(Seq::new(alloc)),
     }
 }
 
@@ -213,7 +215,8 @@ pub fn count(
     let time = failure.time;
     let full = enter(windows, alloc, findtime, maxretry, failure, now)?;
     if full {
-        return Ok(Some(take_out(windows, alloc, addr, time, findtime)));
+        let near = take_out(windows, alloc, addr, time, findtime)?;
+        return Ok(Some(near));
     }
     Ok(None)
 }

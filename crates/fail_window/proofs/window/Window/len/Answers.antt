@@ -1,4 +1,5 @@
 use Rattle.std.proofs.Common.{arith}
+use Rattle.fail_window.specs.Kept.{failures_of}
 use Rattle.fail_window.proofs.RunLemmas.{few}
 use Rattle.fail_window.proofs.window.Window.len.Goals as goal
 
@@ -7,5 +8,5 @@ returns-clause-short c =
     let w = c.self.inside in
     let tidy = c.self.invariant in
     rw (← c.self.view_is) (λ unfilled. (
-    let bound = few w.findtime w.maxretry tidy.recent.0 tidy.of_one.0 w.kept.items tidy.positive tidy.of_one.1 tidy.recent.1 (unfilled tidy.of_one.0) in
+    let bound = few w.findtime w.maxretry tidy.recent.0 tidy.of_one.0 (failures_of w.kept) tidy.positive tidy.of_one.1 tidy.recent.1 (unfilled tidy.of_one.0) in
     omega arith))
