@@ -1,5 +1,5 @@
 -- What holds of each configuration that is accepted.
-use Rattle.std.proofs.Common.{◌≡◌, ◌∙◌, ℕ, ◌+◌, ◌<◌, ◌≤◌, Bool, true, false, ◌&&◌, not, nat_lt, List, [], ◌∷◌, ◌++◌, map, filter, length, Option, None, Some, Result, Ok, Err, codes, pos, refl, sym, ap, subst, append_assoc, arith}
+use Rattle.std.proofs.Common.{◌≡◌, ◌∙◌, ℕ, ◌+◌, ◌<◌, ◌≤◌, Bool, true, false, ◌&&◌, not, nat_lt, List, [], ◌∷◌, ◌++◌, map, filter, length, Option, None, Some, Ok, codes, pos, refl, sym, ap, subst, append_assoc, arith}
 use Rattle.std.specs.Prelude.{sum_by}
 use Rattle.std.specs.List.{IsDistinct}
 use Rattle.std.specs.Map.{keys_of}
@@ -15,11 +15,8 @@ use Rattle.f2b_base.specs.declared.outside.Tree.{Tree}
 use Rattle.f2b_model.specs.Lists.{AllOf, AreDistinct}
 use Rattle.f2b_model.specs.Sound.{same_kind, AreFitDefs}
 use Rattle.f2b_model.specs.Storable.{longest_span, IsJailName, IsStorableRule, IsWithin, IsZone}
-use Rattle.ini_interp.specs.declared.merge_error.MergeError.{MergeError}
-use Rattle.ini_interp.specs.AreSections.{AreSections}
-use Rattle.ini_interp.specs.Merges.{Files, files_of, merged_in}
+use Rattle.ini_interp.specs.Merges.{files_of}
 use Rattle.ini_interp.specs.Sections.{Sections}
-use Rattle.ini_interp.proofs.JoinedLemmas.{merged_are}
 use Rattle.jail_conf.specs.declared.conf_error.ConfError.{ConfError}
 use Rattle.jail_conf.specs.declared.conf_error.ConfKind.TheVariants.{BadName, TooMany}
 use Rattle.jail_conf.specs.declared.settings.Settings.{Settings}
@@ -29,11 +26,12 @@ use Rattle.jail_conf.specs.Conf.{jail_names, most_jails, is_enabled, if_enabled,
 use Rattle.jail_conf.specs.Dates.{date as conf_date}
 use Rattle.jail_conf.specs.Jails.{is_jail_name, filter_of, lines_of, ignored_of, counts_of, rule_of, unsupported_in, jail_with, jail_of}
 use Rattle.jail_conf.specs.Laws.{AreWithinLimits}
-use Rattle.jail_conf.specs.Sources.{Bases, bases_of, section_names, sections_of, or_merge_refusal, of_server, of_jail, with_known, own, own_or, told}
+use Rattle.jail_conf.specs.Sources.{Bases, bases_of, section_names, sections_of, of_server, of_jail, with_known, own, own_or, told}
 use Rattle.jail_conf.specs.Table as table
 use Rattle.jail_conf.specs.Then.{◌>>◌, refuse_if}
 use Rattle.jail_conf.specs.Times.{seconds_from}
 use Rattle.jail_conf.specs.Zones.{zone as conf_zone}
+use Rattle.jail_conf.proofs.BaseLemmas.{sections_are}
 use Rattle.jail_conf.proofs.AddressLemmas.{ignored_are}
 use Rattle.jail_conf.proofs.BoundLemmas.{seconds_are, zone_is}
 use Rattle.jail_conf.proofs.DistinctLemmas.{all_weaker, all_append, distinct_without, distinct_filter, distinct_from}
@@ -198,14 +196,6 @@ all_accepted bases sections before (name ∷ names) jails are is =
 
 -- ---- a configuration
 
-merged_from : (merged : Result Sections MergeError) (sections : Sections) → or_merge_refusal merged ≡ Ok sections → merged ≡ Ok sections
-merged_from (Ok found) sections is = let same : found ≡ sections = cc in ap Ok same
-merged_from (Err fault) sections is = absurd (cc)
-
--- the sections of a base are those of files
-pub sections_are : (files : Files) (sections : Sections) → sections_of (bases_of files) (codes "jail") ≡ Ok sections → AreSections sections
-sections_are files sections is = merged_are files (codes "jail") sections (merged_from (merged_in files (codes "jail")) sections is)
-
 sections_apart : (sections : Sections) → IsDistinct bytes_eq (keys_of sections) → AreDistinct bytes_eq (jail_names sections)
 sections_apart sections apart =
     distinct_filter bytes_eq (λ name. not (bytes_eq name (codes "DEFAULT"))) (section_names sections) (distinct_from bytes_eq (section_names sections) apart)
@@ -218,7 +208,7 @@ settings_are tree settings is =
     let purge = bind_ok (own (of_server server.0) table.dbpurgeage) _ settings socket.2 in
     let sections = bind_ok (sections_of (bases_of (files_of tree)) (codes "jail")) _ settings purge.2 in
     let jails = bind_ok (jails_behind (bases_of (files_of tree)) sections.0 [] (jail_names sections.0)) _ settings sections.2 in
-    let names : AreDistinct bytes_eq (jail_names sections.0) = sections_apart sections.0 (sections_are (files_of tree) sections.0 sections.1).apart in
+    let names : AreDistinct bytes_eq (jail_names sections.0) = sections_apart sections.0 (sections_are (files_of tree) (codes "jail") sections.0 sections.1).apart in
     subst (OfOk (λ (settings : Settings). AreAccepted [] settings.defs.jails)) jails.2
     (all_accepted (bases_of (files_of tree)) sections.0 [] (jail_names sections.0) jails.0 (none_yet (jail_names sections.0) names) jails.1)
   where

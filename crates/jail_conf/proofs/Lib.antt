@@ -1,6 +1,7 @@
 pub mod AcceptedLemmas
 pub mod ActionLemmas
 mod AddressLemmas
+pub mod BaseLemmas
 mod BoundLemmas
 pub mod DatedLemmas
 pub mod DistinctLemmas
@@ -12,6 +13,7 @@ pub mod FilterLemmas
 pub mod GoodLemmas
 mod ItemLemmas
 mod ItemRows
+mod KeptLemmas
 pub mod LaneLemmas
 pub mod ListedLemmas
 pub mod NextLemmas

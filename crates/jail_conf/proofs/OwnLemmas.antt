@@ -1,14 +1,19 @@
 -- What a jail puts into the sections of its base: once that is taken out, they are as they were.
-use Rattle.std.proofs.Common.{◌≡◌, ◌∙◌, ℕ, not, Bool, true, false, cond, List, [], ◌∷◌, Option, None, Some, Result, Ok, Err, OnOk, codes, refl, sym, ap}
+use Rattle.std.proofs.Common.{◌≡◌, ◌∙◌, ◌++◌, ℕ, not, Bool, true, false, cond, List, [], ◌∷◌, None, Some, Ok, codes, refl, sym, ap}
 use Rattle.std.proofs.lemmas.Bool.{true≢false}
+use Rattle.std.proofs.lemmas.List.{append_cancel_right}
 use Rattle.std.proofs.lemmas.List.Elements.{All-head, All-tail}
 use Rattle.std.proofs.lemmas.Slice.Eq.{bytes_eq-Decides}
 use Rattle.std.specs.List.{All}
 use Rattle.std.specs.Str.{bytes_eq}
 use Rattle.ini_interp.specs.AreSections.{has_bracket, AreSections}
+use Rattle.ini_interp.specs.Merges.{Files, merged_in}
 use Rattle.ini_interp.specs.Sections.{Items, Sections, value_of, with_value, with_raw, without}
 use Rattle.ini_interp.proofs.Named.{own_name, without-none}
-use Rattle.jail_conf.specs.Sources.{with_items}
+use Rattle.jail_conf.specs.declared.source.Source.{Source}
+use Rattle.jail_conf.specs.MergedBases.{given_back, IsOfBase}
+use Rattle.jail_conf.specs.Sources.{bases_of, sections_of, names_for, with_items, with_options, percents_doubled, of_definition, for_inet6}
+use Rattle.jail_conf.proofs.BaseLemmas.{merged_from, sections_are}
 
 module _ {V : Type 0} where
   -- a value that is set is taken out with the name
@@ -59,17 +64,44 @@ not_there name (section ∷ sections) bracket none =
         absurd (true≢false (sym bracket ∙ clash))
     by false is rest = rest
 
--- the sections are as they were before a jail's names and what it knows of its filter were put in
-pub as_before : (merged old new : Sections) (names : Items) → AreSections merged → old ≡ with_items (codes "]name") names merged →
-    without (codes "]known") new ≡ without (codes "]known") old → without (codes "]name") (without (codes "]known") new) ≡ merged
-as_before merged old new names are made kept =
-    ap (without (codes "]name")) (kept ∙ ap (without (codes "]known")) made)
-    ∙ (without-without (codes "]name") (codes "]known") (with_items (codes "]name") names merged)
-    ∙ (ap (without (codes "]known")) (without-with_items (codes "]name") names merged)
-    ∙ (ap (without (codes "]known")) (without-none (codes "]name") merged (not_there (codes "]name") merged refl are.no_bracket))
-    ∙ without-none (codes "]known") merged (not_there (codes "]known") merged refl are.no_bracket))))
+-- options are taken out with their section
+without-with_options : (options : Items) (sections : Sections) → without (codes "]options") (with_options options sections) ≡ without (codes "]options") sections
+without-with_options [] sections = refl
+without-with_options (option ∷ options) sections =
+    without-with_options options (with_raw sections (codes "]options") option.0 (percents_doubled option.1))
+    ∙ without-with_raw sections (codes "]options") option.0 (percents_doubled option.1)
 
--- what holds anyway holds where there is a value
-pub always_ok : {X E : Type 0} (result : Result X E) (P : Type 0) → P → OnOk result P
-always_ok (Ok x) P holds = holds
-always_ok (Err e) P holds = tt
+-- the sections are as they were before a jail's names and a section of its own were put in
+pub as_before : (own : List ℕ) (merged old new : Sections) (names : Items) → has_bracket own ≡ true → AreSections merged → old ≡ with_items (codes "]name") names merged →
+    without own new ≡ without own old → without (codes "]name") (without own new) ≡ merged
+as_before own merged old new names bracket are made kept =
+    ap (without (codes "]name")) (kept ∙ ap (without own) made)
+    ∙ (without-without (codes "]name") own (with_items (codes "]name") names merged)
+    ∙ (ap (without own) (without-with_items (codes "]name") names merged)
+    ∙ (ap (without own) (without-none (codes "]name") merged (not_there (codes "]name") merged refl are.no_bracket))
+    ∙ without-none own merged (not_there own merged bracket are.no_bracket))))
+
+-- what a filter or an action gives back is what its files come to
+definition_as_before : (merged : Sections) (file jail : List ℕ) (options : Items) → AreSections merged → given_back (of_definition file jail options merged) ≡ merged
+definition_as_before merged file jail options are =
+    let named : Sections = with_items (codes "]name") (names_for jail) merged in
+    as_before (codes "]options") merged named (with_options options named) (names_for jail) refl are refl (without-with_options options named)
+
+pub definition_of_base : (files : Files) (base file jail : List ℕ) (options : Items) (merged : Sections) → file ≡ base ++ codes ".conf" → sections_of (bases_of files) base ≡ Ok merged →
+    IsOfBase files file (given_back (of_definition file jail options merged))
+definition_of_base files base file jail options merged first is other named =
+    let same : other ≡ base = append_cancel_right other base (codes ".conf") (sym named ∙ first) in
+    ap (merged_in files) same
+    ∙ (merged_from (merged_in files base) merged is ∙ ap Ok (sym (definition_as_before merged file jail options (sections_are files base merged is))))
+
+-- no path is the first file of a base where it is empty
+nowhere : (base : List ℕ) → [] ≡ base ++ codes ".conf" → ⊥
+nowhere [] named = cc
+nowhere (x ∷ base) named = cc
+
+pub no_base : (files : Files) (sections : Sections) → IsOfBase files [] sections
+no_base files sections base named = absurd (nowhere base named)
+
+-- what has a section for IPv6 in its scope has but another scope
+pub scope_alone : (old new : Source) → new ≡ for_inet6 old → new ≡ record old { scope = new.scope }
+scope_alone old new is = is ∙ ap (λ scope. record old { scope = scope }) (sym (ap (λ (source : Source). source.scope) is))

@@ -9,6 +9,7 @@ pub mod Items
 pub mod Jails
 pub mod Laws
 pub mod Logs
+pub mod MergedBases
 pub mod Numbers
 pub mod Options
 pub mod Patterns

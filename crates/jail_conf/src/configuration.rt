@@ -14,6 +14,8 @@ ghost use Rattle.jail_conf.specs.Then.{Gives};
 use crate::choices::Boolean;
 use crate::conf_error::{ConfFail, ConfKind};
 use crate::jails::jail_of;
+use crate::limits::MOST_JAILS;
+use crate::merged_bases::MergedBases;
 use crate::reading::AsWritten;
 use crate::seconds::Seconds;
 use crate::sections::{section_names, sections_of};
@@ -67,9 +69,6 @@ fn jail_names(alloc: Global, sections: &Sections) -> Result<Seq<Text>, NoMemory>
     but_default(alloc, all.as_slice())
 }
 
-/// At most so many jails are enabled.
-const MOST_JAILS: usize = 256;
-
 /// Whether a jail is enabled, where so many are before it.
 fn is_enabled(alloc: Global, jail: &Source, before: usize) -> Result<bool, ConfFail>
     ensures { Gives (is_enabled jail.now before) result }
@@ -88,20 +87,21 @@ fn is_enabled(alloc: Global, jail: &Source, before: usize) -> Result<bool, ConfF
 /// then.
 fn next_jail(
     alloc: Global,
-    files: &FileTable<'_>,
+    bases: &mut MergedBases<'_, '_>,
     jail: &mut Source,
     before: &[JailDef],
     patterns: u64,
 ) -> Result<Option<JailDef>, ConfFail>
     requires counted { sum_by patterns_in before.now ≡ patterns }
     requires few { patterns ≤ 512 }
-    ensures defined { Gives (next_jail (bases_of files.now) jail.old before.now) result }
+    ensures defined { Gives (next_jail (bases_of bases.old) jail.old before.now) result }
+    ensures files { bases.new ≡ bases.old }
     ensures known { OnOk result (without (codes "]known") jail.new.sections ≡ without (codes "]known") jail.old.sections) }
 {
     if !is_enabled(alloc, jail, before.len())? {
         return Ok(None);
     }
-    let definition = jail_of(alloc, files, jail, patterns)?;
+    let definition = jail_of(alloc, bases, jail, patterns)?;
     Ok(Some(definition))
 }
 
@@ -138,7 +138,8 @@ fn given_back(jail: Source) -> Sections
     sections
 }
 
-/// The definitions of the jails of these names that are enabled. The base is merged once: each jail gives its sections back.
+/// The definitions of the jails of these names that are enabled. Their base is merged already, and each jail gives its sections back.
+/// Those of filters and actions are merged once, for all jails that name them.
 fn jails_in(
     alloc: Global,
     files: &FileTable<'_>,
@@ -151,9 +152,10 @@ fn jails_in(
     let mut jails = Seq::new(alloc);
     let mut patterns: u64 = 0;
     let mut sections = merged;
+    let mut bases = MergedBases::new(alloc, files);
     for name in names {
         let mut jail = of_jail(alloc, sections, name.as_str())?;
-        let next = next_jail(alloc, files, &mut jail, jails.as_slice(), patterns)?;
+        let next = next_jail(alloc, &mut bases, &mut jail, jails.as_slice(), patterns)?;
         patterns = push_next(&mut jails, patterns, next)?;
         sections = given_back(jail);
     }

@@ -4,13 +4,11 @@ ghost use Rattle.jail_conf.specs.Then.{Gives};
 
 use crate::conf_error::ConfKind;
 use crate::fail::Fail;
+use crate::limits::MOST_BYTES;
 use crate::reading::ReadsItem;
 use date_words::is_date_pattern;
 use f2b_base::{DateSpec, Text};
 use std::alloc::Global;
-
-/// A pattern has at most so many bytes.
-const MOST_BYTES: usize = 8_192;
 
 /// That the text is a date pattern.
 fn refuse_unless_pattern(pattern: &str) -> Result<(), Fail<ConfKind>>

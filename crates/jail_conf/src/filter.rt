@@ -1,17 +1,18 @@
 //! The filter of a jail.
 ghost use Rattle.std.specs.Prelude.{◌≡◌, IfOk};
 ghost use Rattle.jail_conf.specs.Jails.{base_of, file_of, no_filter, known_of, named_filter, filter_of};
+ghost use Rattle.jail_conf.specs.MergedBases.{given_back, IsOfBase};
 ghost use Rattle.jail_conf.specs.Sources.{bases_of};
 ghost use Rattle.jail_conf.specs.Then.{Gives};
 
 use crate::conf_error::{ConfFail, ConfKind};
+use crate::merged_bases::MergedBases;
 use crate::options::read_named;
-use crate::sections::sections_of;
 use crate::source::Source;
 use crate::sources::of_definition;
 use crate::words::trim;
 use f2b_base::{NoMemory, Seq, Text};
-use ini_interp::{FileTable, Sections};
+use ini_interp::Sections;
 use std::alloc::Global;
 
 /// What a jail takes from its filter.
@@ -75,21 +76,23 @@ fn known_of(alloc: Global, sections: &Sections) -> Result<Seq<(Text, Text)>, NoM
 /// The filter that a text names, with options.
 fn named_filter(
     alloc: Global,
-    files: &FileTable<'_>,
+    bases: &mut MergedBases<'_, '_>,
     jail: &Source,
     text: &str,
 ) -> Result<Filter, ConfFail>
-    ensures { Gives (named_filter (bases_of files.now) jail.now text.now) result }
+    ensures defined { Gives (named_filter (bases_of bases.old) jail.now text.now) result }
+    ensures files { bases.new ≡ bases.old }
+    ensures of_base { IfOk result (λ filter. IsOfBase bases.old filter.source.file (given_back filter.source)) }
 {
     let Some(given) = read_named(alloc, text)? else {
         return Err(jail.refused(alloc, "filter", ConfKind::BadOptions));
     };
     let file = file_of(alloc, given.name.as_str())?;
-    if !files.has(file.as_str()) {
+    if !bases.has(file.as_str()) {
         return Err(jail.missing_file(alloc, "filter", file));
     }
     let base = base_of(alloc, given.name.as_str())?;
-    let sections = sections_of(alloc, files, base.as_str())?;
+    let sections = bases.take(alloc, base.as_str(), file.as_str())?;
     let known = known_of(alloc, &sections)?;
     let source = of_definition(
         alloc,
@@ -104,15 +107,19 @@ fn named_filter(
 /// What a jail takes from its filter.
 pub(crate) fn filter_of(
     alloc: Global,
-    files: &FileTable<'_>,
+    bases: &mut MergedBases<'_, '_>,
     jail: &Source,
 ) -> Result<Filter, ConfFail>
-    ensures { Gives (filter_of (bases_of files.now) jail.now) result }
+    ensures defined { Gives (filter_of (bases_of bases.old) jail.now) result }
+    ensures files { bases.new ≡ bases.old }
+
+    // So it may be given back. A jail without a filter has none that anything could be kept under.
+    ensures of_base { IfOk result (λ filter. IsOfBase bases.old filter.source.file (given_back filter.source)) }
 {
     let text = jail.written(alloc, "filter")?;
     if trim(text.as_str()).is_empty() {
         let filter = no_filter(alloc, jail.section.as_str())?;
         return Ok(filter);
     }
-    named_filter(alloc, files, jail, text.as_str())
+    named_filter(alloc, bases, jail, text.as_str())
 }

@@ -21,8 +21,10 @@ mod jails;
 mod laws;
 #[cfg(test)]
 mod limit_tests;
+mod limits;
 mod lines;
 mod logs;
+mod merged_bases;
 mod numbers;
 mod options;
 #[cfg(test)]

@@ -7,6 +7,7 @@ ghost use Rattle.jail_conf.specs.Words.{last_word, before_last_word};
 use crate::conf_error::ConfKind;
 use crate::each::each;
 use crate::fail::Fail;
+use crate::limits::MOST_WATCHES;
 use crate::reading::ReadsItem;
 use crate::words::{full_lines, is_blank, trim};
 use f2b_base::{NoMemory, Plain, Seq, Text, WatchDef};
@@ -113,9 +114,6 @@ fn distinct(alloc: Global, watches: &[WatchDef]) -> Result<Seq<WatchDef>, NoMemo
     }
     Ok(kept)
 }
-
-/// A jail follows at most so many logs.
-const MOST_WATCHES: usize = 64;
 
 /// The logs of a jail.
 #[derive(Drop)]

@@ -6,6 +6,7 @@ ghost use Rattle.jail_conf.specs.Words.{number, if_between};
 use crate::conf_error::ConfKind;
 use crate::each::each;
 use crate::fail::Fail;
+use crate::limits::MOST_MULTIPLIERS;
 use crate::reading::ReadsItem;
 use crate::words::{number, trim, words};
 use f2b_base::Seq;
@@ -100,9 +101,6 @@ impl ReadsItem<u64> for Factor {
         }
     }
 }
-
-/// How bans grow may be said by at most so many numbers.
-const MOST_MULTIPLIERS: usize = 64;
 
 /// Numbers of 1 to a million, divided by blanks and lines.
 #[derive(Drop)]

@@ -8,6 +8,7 @@ ghost use Rattle.jail_conf.specs.Then.{Gives};
 
 use crate::conf_error::ConfKind;
 use crate::fail::Fail;
+use crate::limits::{MOST_BYTES, MOST_PATTERNS};
 use crate::reading::ReadsItem;
 use crate::words::{cut, full_lines};
 use f2b_base::{NoMemory, Seq, Text};
@@ -162,12 +163,6 @@ fn has_bad_prefix_tag(alloc: Global, pattern: &str) -> Result<bool, NoMemory>
     let one = has_one_content(alloc, names.as_slice())?;
     Ok(hosts(pattern) > 0 || has_refused(names.as_slice()) || !one)
 }
-
-/// All jails have at most so many patterns.
-const MOST_PATTERNS: u64 = 512;
-
-/// A pattern has at most so many bytes.
-const MOST_BYTES: usize = 8_192;
 
 /// The pattern of a line, where so many stand before it.
 fn pattern(alloc: Global, needs_host: bool, before: u64, text: &str) -> Result<Text, Fail<ConfKind>>

@@ -4,13 +4,11 @@ ghost use Rattle.jail_conf.specs.Times.{magnitude, negated, signed, time_word, c
 
 use crate::conf_error::ConfKind;
 use crate::fail::Fail;
+use crate::limits::MOST_SECONDS;
 use crate::reading::ReadsItem;
 use crate::terms::sum;
 use crate::words::trim;
 use std::alloc::Global;
-
-/// A hundred years of 365 days.
-const MOST_SECONDS: u64 = 3_153_600_000;
 
 /// The seconds of a time word without its sign.
 fn magnitude(text: &[u8]) -> Option<u32>

@@ -133,19 +133,14 @@ pub(crate) fn of_definition(
     })
 }
 
-/// The source with the section that IPv6 alone reads.
-pub(crate) fn for_inet6(alloc: Global, source: Source) -> Result<Source, NoMemory>
-    ensures { IfOk result (λ inet6. inet6 ≡ for_inet6 source) }
+/// Adds the section that IPv6 alone reads.
+pub(crate) fn for_inet6(alloc: Global, source: &mut Source) -> Result<(), NoMemory>
+    ensures { OnOk result (source.new ≡ for_inet6 source.old) }
 {
     let mut scope = Seq::new(alloc);
     push_name(alloc, &mut scope, "]options")?;
     push_name(alloc, &mut scope, "Init?family=inet6")?;
     push_definition(alloc, &mut scope)?;
-    Ok(Source {
-        file: source.file,
-        section: source.section,
-        sections: source.sections,
-        scope,
-        tags: source.tags,
-    })
+    source.scope = scope;
+    Ok(())
 }

@@ -10,4 +10,5 @@ invariant-loop-name l = record {
   counted : sum_by patterns_in l.jails ≡ l.patterns;
   few : l.patterns ≤ 512;
   sections : l.sections ≡ l.fn.merged;
+  files : l.bases ≡ l.files;
 }
