@@ -6,7 +6,7 @@ import shutil
 import subprocess
 import time
 
-from room import PATIENCE, Skipped, failures, same, want, write
+from room import LONG_PATIENCE, Skipped, failures, same, want, write
 
 
 def moment_is_that_of_the_machine(room):
@@ -79,7 +79,7 @@ def traced(room, *more, turns):
     trace = room.path("trace")
     words = ["strace", "-f", "-o", trace, *more, *room.words("--turns", str(turns))]
     with open(room.path("said"), "wb") as said:
-        ended = subprocess.run(words, stdin=subprocess.DEVNULL, stdout=said, timeout=PATIENCE, check=False)
+        ended = subprocess.run(words, stdin=subprocess.DEVNULL, stdout=said, timeout=LONG_PATIENCE, check=False)
     same(ended.returncode, 0, "status")
     with open(trace, encoding="utf-8", errors="replace") as lines:
         return [line.split(None, 1)[1] for line in lines]

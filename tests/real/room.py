@@ -9,6 +9,9 @@ import time
 # How many seconds a check waits for what has to come while nothing else comes, on a machine that is busy with other work.
 PATIENCE = 180
 
+# How many seconds a program may take that is run to its end, which tells nothing meanwhile.
+LONG_PATIENCE = 5 * PATIENCE
+
 # A user that may read only what all may.
 NOBODY = 65534
 
@@ -120,9 +123,9 @@ class Room:
         with tempfile.TemporaryFile() as errors:
             how = {"stdin": subprocess.DEVNULL, "stdout": subprocess.PIPE, "stderr": errors, **how}
             try:
-                ended = subprocess.run([program or self.program, *words], timeout=PATIENCE, check=False, **how)
+                ended = subprocess.run([program or self.program, *words], timeout=LONG_PATIENCE, check=False, **how)
             except subprocess.TimeoutExpired as late:
-                raise Failed(f"did not end within {PATIENCE} s") from late
+                raise Failed(f"did not end within {LONG_PATIENCE} s") from late
             errors.seek(0)
             said = (ended.stdout or b"").decode()
             return ended.returncode, said, errors.read().decode()
