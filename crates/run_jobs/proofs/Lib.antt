@@ -1,0 +1,7 @@
+mod OnceLemmas
+mod OneLaneLemmas
+mod LedgerLemmas
+mod StepLemmas
+mod Rows
+mod ServerLemmas
+mod RunLemmas
