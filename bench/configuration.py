@@ -76,6 +76,12 @@ def shared(size):
     return tree
 
 
+def masks(count):
+    """A jail that never bans so many addresses."""
+    listed = "".join(f" 10.{number >> 16}.{number >> 8 & 255}.{number & 255}/32\n" for number in range(count))
+    return {"jail.conf": "[j]\nenabled = true\nignoreip =\n" + listed}
+
+
 def of_directory(top, enabled):
     """The files of a directory that are a configuration's, with each jail enabled, or with those that its files enable."""
     tree = {}
@@ -108,6 +114,8 @@ def main(program, directory=None):
         measure(program, f"4,096 files of jails, {jails} of them enabled", in_jails(jails))
     measure(program, "4,096 files of filters, one with 14 includes for each jail", in_filters())
     measure(program, "a filter of 60 KiB that all jails name", shared(61440))
+    measure(program, "a filter of 1 MiB that all jails name", shared(1048576))
+    measure(program, "a jail with 100,000 masks in ignoreip", masks(100000))
     if directory:
         measure(program, "the directory", of_directory(directory, False))
         measure(program, "the directory, all jails enabled", of_directory(directory, True))

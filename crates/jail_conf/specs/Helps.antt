@@ -1,15 +1,9 @@
--- What is allowed where a configuration was refused: a sentence for each kind. Limits stand in it as they are looked at.
-use Rattle.std.specs.Prelude.{◌++◌, ℕ, List, codes}
-use Rattle.std.specs.Fmt.{decimal}
+-- What is allowed where a configuration was refused: a sentence for each kind.
+use Rattle.std.specs.Prelude.{ℕ, List, codes}
 use Rattle.ini_interp.specs.declared.error.IniError.{IniError}
 use Rattle.ini_interp.specs.declared.error.IniError.TheVariants as ini
 use Rattle.jail_conf.specs.declared.conf_error.ConfKind.{ConfKind}
 use Rattle.jail_conf.specs.declared.conf_error.ConfKind.TheVariants.{Ini, MissingInclude, IncludeLoop, Missing, TooDeep, BadPercent, BadName, BadBool, BadOptions, MissingFile, BadGlob, BadZone, BadDate, BadTag, NoHost, TwoHosts, BadAddress, BadTime, BadNumber, Unsupported, DoubleAction, TooMany}
-use Rattle.jail_conf.specs.Actions.{most_actions}
-use Rattle.jail_conf.specs.Conf.{most_jails}
-use Rattle.jail_conf.specs.Logs.{most_watches}
-use Rattle.jail_conf.specs.Patterns.{most_bytes, most_patterns}
-use Rattle.jail_conf.specs.Times.{most_seconds}
 
 abbrev pub ini_help : IniError → List ℕ
 ini_help (ini.NoSection line) = codes "an item stands below the header of its section, as [DEFAULT]"
@@ -36,10 +30,8 @@ help_of BadTag = codes "write <HOST>, <ADDR>, <IP4> or <IP6> in place of <F-ID>,
 help_of NoHost = codes "each line of failregex has one of <HOST>, <ADDR>, <IP4>, <IP6> and <DNS>, and not right behind (? or (?P"
 help_of TwoHosts = codes "a pattern has at most one of <HOST>, <ADDR>, <IP4>, <IP6> and <DNS>: write a line for each"
 help_of BadAddress = codes "addresses and masks, as 192.0.2.1 and 2001:db8::/32, divided by blanks, lines or commas; no names of hosts"
-help_of BadTime = codes "seconds, or terms as 1d 12h 30m, of at most " ++ decimal most_seconds ++ codes " seconds and within the bounds of the item"
+help_of BadTime = codes "seconds, or terms as 1d 12h 30m, of at most 3153600000 seconds and within the bounds of the item"
 help_of BadNumber = codes "decimal digits, within the bounds of the item"
 help_of Unsupported = codes "the value asks for what is not offered: leave the item out, or give it its default"
 help_of DoubleAction = codes "the actions of a jail have different names: give one of them the option actname"
-help_of TooMany =
-    codes "at most " ++ decimal most_jails ++ codes " jails, " ++ decimal most_watches ++ codes " logs and " ++ decimal most_actions ++ codes " actions of a jail, "
-    ++ decimal most_patterns ++ codes " patterns in all, and " ++ decimal most_bytes ++ codes " bytes of a pattern"
+help_of TooMany = codes "at most 256 jails, 64 logs and 16 actions of a jail, 512 patterns in all, and 8192 bytes of a pattern"

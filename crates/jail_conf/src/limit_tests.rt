@@ -163,26 +163,6 @@ fn takes_16_actions(rt: HostRuntime) -> Result<(), Fail> {
     is_told_of_actions(&rt, rt.alloc(), 17, "jail.conf|j|action|TooMany")
 }
 
-/// A jail that never bans so many addresses.
-fn jail_of_masks(alloc: Global, count: u32) -> Result<String, Fail> {
-    let mut jail = String::from_str(alloc, "[j]\nenabled = on\nignoreip =\n")?;
-    for number in 0..count {
-        let high = number / 65_536;
-        let middle = number / 256 % 256;
-        let low = number % 256;
-        let mask = format!(in alloc; " 10.{high}.{middle}.{low}/32\n")?;
-        jail.push_str(mask.as_str())?;
-    }
-    Ok(jail)
-}
-
-#[test]
-fn takes_100_000_masks(rt: HostRuntime) -> Result<(), Fail> {
-    let jail = jail_of_masks(rt.alloc(), 100_000)?;
-    assert_eq!(rt; told_of(rt.alloc(), jail.as_str())?.as_str(), "read");
-    Ok(())
-}
-
 /// A tree with one file of these bytes.
 fn tree_of_bytes(alloc: Global, path: &str, bytes: &[u8]) -> Result<Tree, NoMemory> {
     let mut files = Seq::new(alloc);
