@@ -18,8 +18,6 @@ mod outside;
 mod plain;
 mod seq;
 mod spans;
-#[cfg(test)]
-mod tests;
 mod text;
 mod view;
 
