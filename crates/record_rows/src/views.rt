@@ -96,7 +96,7 @@ fn spliced(alloc: Global, bytes: &[u8], at: usize, gone: usize, new: &[u8]) -> R
 }
 
 // What is broken, as the place and the number of the bytes that go, those that come, and the place that is bad then.
-const BROKEN: [(&str, usize, usize, &[u8], u64); 26] = [
+const BROKEN: [(&str, usize, usize, &[u8], u64); 35] = [
     ("a number that is too long", 0, 2, &[0xe8, 0x87, 0], 0),
     (
         "a moment past the last",
@@ -112,6 +112,15 @@ const BROKEN: [(&str, usize, usize, &[u8], u64); 26] = [
         &[0x80, 0x80, 0x80, 0x80, 0x80, 0x80, 0x80, 0x80, 0x10],
         5,
     ),
+    (
+        "a jail twice",
+        5,
+        1,
+        &[
+            2, 4, b's', b's', b'h', b'd', 0, 0, 0, 0, 0, 0, 0, 1, 1, 0, 2, 0, 1, 0, 1, 0, 0,
+        ],
+        28,
+    ),
     ("a name that is no name", 7, 1, b"/", 6),
     (
         "2^60 logs",
@@ -120,8 +129,17 @@ const BROKEN: [(&str, usize, usize, &[u8], u64); 26] = [
         &[0x80, 0x80, 0x80, 0x80, 0x80, 0x80, 0x80, 0x80, 0x10],
         11,
     ),
+    ("a log twice", 11, 1, &[2, 2, b'/', b'a', 1], 16),
+    (
+        "a text of 2^60 bytes",
+        12,
+        1,
+        &[0x80, 0x80, 0x80, 0x80, 0x80, 0x80, 0x80, 0x80, 0x10],
+        12,
+    ),
     ("a zone of seconds", 16, 2, &[0x9d, 0x38], 16),
     ("no form of dates", 18, 1, &[7], 18),
+    ("513 patterns", 26, 1, &[0x81, 4], 26),
     (
         "2^60 masks",
         39,
@@ -132,6 +150,22 @@ const BROKEN: [(&str, usize, usize, &[u8], u64); 26] = [
     ("a mask with bits after it", 45, 1, &[7], 45),
     ("no findtime", 46, 2, &[0], 46),
     ("a span of 0", 50, 1, &[0], 50),
+    (
+        "an action twice",
+        65,
+        1,
+        &[2, 3, b'n', b'f', b't', 4, 0, 0, 0, 0, 0, 1],
+        77,
+    ),
+    (
+        "a lane that is up twice",
+        98,
+        1,
+        &[
+            2, 4, b's', b's', b'h', b'd', 3, b'n', b'f', b't', 4, 0, 0, 0, 0, 0, 1,
+        ],
+        115,
+    ),
     ("fewer jails than definitions", 135, 1, &[0], 135),
     ("the name of another jail", 137, 1, b"t", 136),
     ("no flag", 141, 1, &[2], 141),
@@ -141,6 +175,13 @@ const BROKEN: [(&str, usize, usize, &[u8], u64); 26] = [
         1,
         &[0x80, 0x80, 0x80, 0x80, 0x80, 0x80, 0x80, 0x80, 0x10],
         196,
+    ),
+    (
+        "failures out of order",
+        156,
+        1,
+        &[3, 4, 192, 0, 2, 8, 0, 0],
+        164,
     ),
     (
         "a mapped address",
@@ -167,10 +208,24 @@ const BROKEN: [(&str, usize, usize, &[u8], u64); 26] = [
         235,
     ),
     ("a head that is too short", 248, 3, &[1, 0x61], 248),
+    (
+        "a job twice",
+        251,
+        1,
+        &[2, 4, 4, b's', b's', b'h', b'd', 0, 0, 0, 0, 0, 1, 0, 0],
+        266,
+    ),
     ("no kind of job", 263, 1, &[5], 263),
     ("a third failed try", 285, 1, &[3], 285),
     ("a job to come that is there", 288, 1, &[4], 288),
     ("a ban to come that is there", 289, 1, &[3], 289),
+    (
+        "a next serial past the last",
+        289,
+        1,
+        &[0x81, 0x80, 0x80, 0x80, 0x80, 0x80, 0x80, 0x80, 0x80, 1],
+        289,
+    ),
 ];
 
 fn are_broken(
