@@ -17,17 +17,11 @@ mod known;
 mod laws;
 mod line;
 mod merge_error;
-#[cfg(test)]
-mod merge_tests;
 mod merges;
 mod names;
 mod parts;
 mod sections;
-#[cfg(test)]
-mod tests;
 mod value_error;
-#[cfg(test)]
-mod value_tests;
 mod values;
 
 pub use error::IniError;
