@@ -8,8 +8,6 @@ mod actions;
 mod addresses;
 mod choices;
 mod conf_error;
-#[cfg(test)]
-mod conf_tests;
 mod configuration;
 mod counts;
 mod dates;
@@ -19,20 +17,14 @@ mod filter;
 mod ignored;
 mod jails;
 mod laws;
-#[cfg(test)]
-mod limit_tests;
 mod limits;
 mod lines;
 mod logs;
 mod merged_bases;
 mod numbers;
 mod options;
-#[cfg(test)]
-mod options_tests;
 mod patterns;
 mod printed;
-#[cfg(test)]
-mod printed_tests;
 mod reading;
 mod rule;
 mod seconds;
@@ -41,8 +33,6 @@ mod settings;
 mod source;
 mod sources;
 mod terms;
-#[cfg(test)]
-mod tests;
 mod texts;
 mod times;
 mod unsupported;
