@@ -11,8 +11,6 @@
 mod after;
 mod again;
 mod state;
-#[cfg(test)]
-mod tests;
 
 pub use again::view_after;
 pub use state::Core;
