@@ -2,6 +2,14 @@
 //!
 //! A caller hands in a tree of files and gets what it comes to, or the refusal that is told first, as `specs/` defines them: there the
 //! order of lines is the order of refusals. Nothing here reads a file, or builds a pattern.
+//!
+//! ```text
+//! match conf(alloc, &tree) {
+//!     Ok(settings) => ..,                                // settings.defs.jails are those that are enabled
+//!     Err(Fail::Refused(error)) => error.text(alloc)?,   // Configuration refused: jail.conf [sshd] bantime: BadTime
+//!     Err(Fail::NoMemory) => ..,
+//! }
+//! ```
 #![tactic(auto)]
 
 mod actions;
