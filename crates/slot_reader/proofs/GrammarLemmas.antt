@@ -1,15 +1,19 @@
 -- What a window over a slot tells of the whole slot.
-use Rattle.std.proofs.Common.{ℕ, ◌≡◌, ◌+◌, ◌-◌, ◌<◌, ◌≤◌, min, List, [], ◌∷◌, ◌++◌, length, take, drop, Result, Ok, Err, length-append, refl, sym, ap, ap₂, ◌∙◌, append_assoc, append-nil, subst, arith}
-use Rattle.std.proofs.lemmas.List.{length-take, drop_all}
+use Rattle.std.proofs.Common.{ℕ, ◌≡◌, ◌+◌, ◌-◌, ◌<◌, ◌≤◌, ◌==◌, ◌||◌, nat_lt, false, min, List, [], ◌∷◌, ◌++◌, length, take, drop, Result, Ok, Err, length-append, refl, sym, ap, ap₂, ◌∙◌, append_assoc, append-nil, subst, arith}
+use Rattle.std.proofs.lemmas.Bool.{le-ltb, cond-false}
+use Rattle.std.proofs.lemmas.List.{length-take, length-drop, drop_all, take-append-drop}
 use Rattle.std.proofs.Math.Seq.{take-append_seam}
 use Rattle.f2b_base.specs.declared.input.Input.{Input}
 use Rattle.journal_slots.specs.declared.head.Head.TheVariants.{Short, Shut}
 use Rattle.journal_slots.specs.Fronts.{IsFront}
-use Rattle.journal_slots.specs.Grammar.{Empty, Open, Bad, number_of, parse_slot}
+use Rattle.journal_slots.specs.Grammar.{Opened, Empty, Open, Bad, inputs_at, opened_at, number_of, parsed_of, parse_slot}
 use Rattle.journal_slots.specs.Starts.{Start, start, generation, IsHead}
+use Rattle.journal_slots.proofs.RunLemmas.{not_closed}
+use Rattle.journal_slots.proofs.StartLemmas.{start_codec}
 use Rattle.journal_slots.proofs.SlotLemmas.{front_parses, front_ends, front_bad, start_bad, front_more, fresh_front, closed_empty, short_empty}
 use Rattle.record_codec.specs.Inputs.{input}
 use Rattle.record_fields.specs.Codec.{IsHeld}
+use Rattle.record_fields.proofs.CodecLemmas.{bind_ok, ok_is}
 use Rattle.slot_reader.specs.Readings.{EndsAt}
 use Rattle.slot_reader.specs.Windows.{Window, IsWithin, IsWhole, IsOver}
 use Rattle.slot_reader.proofs.LeftRecords.{input_leaves}
@@ -23,7 +27,7 @@ module _ (w : Window) (now : List ℕ) (over : IsOver w now) (within : IsWithin 
 
   -- where all that is left is shown nothing is behind
   pub none_behind : IsWhole w → behind w now ≡ []
-  none_behind whole = drop_all (length w.bytes) (drop w.place now) (omega (arith, whole, over.long, ap length (parts w now over), length-append (take w.place now) (w.bytes ++ behind w now), length-append w.bytes (behind w now), front_long))
+  none_behind whole = drop_all (length w.bytes) (drop w.place now) (omega (arith, whole, over.long, length-drop w.place now))
 
   all_shown : IsWhole w → now ≡ take w.place now ++ w.bytes
   all_shown whole = parts w now over ∙ ap (λ (r : List ℕ). take w.place now ++ r) (ap (λ (r : List ℕ). w.bytes ++ r) (none_behind whole) ∙ append-nil w.bytes)
@@ -100,3 +104,34 @@ module _ (w : Window) (now : List ℕ) (over : IsOver w now) (within : IsWithin 
 
 pub short_head : (now : List ℕ) → length now ≤ 16 → IsHead Short now
 short_head now short = short
+
+-- ---- the start
+
+opened_start : (first : Start) (more bytes : List ℕ) (o : Opened) → start.read bytes ≡ Ok (first, more) → opened_at bytes ≡ Ok o → o.start ≡ first
+unfolding opened_at
+opened_start first more bytes o is e =
+    let a = bind_ok (start.read bytes) _ o e in
+    let same : a.0 ≡ (first, more) = ok_is a.0 (first, more) (sym a.1 ∙ is) in
+    let b = bind_ok (inputs_at a.0.0.version (length a.0.1 + 1) a.0.1) _ o a.2 in
+    sym (ap (λ (p : Opened). p.start) (ok_is _ o b.2)) ∙ ap (λ (s : Start × List ℕ). s.0) same
+
+parsed_ok : (number long : ℕ) (r : Result Opened ℕ) (o : Opened) → parsed_of number long r ≡ Open o → r ≡ Ok o
+parsed_ok number long (Ok p) o e = (let same : p ≡ o = cc in ap (λ (q : Opened). Ok q) same)
+parsed_ok number long (Err left) o e = absurd (cc)
+
+opened_is : (gate : ℕ) (bytes : List ℕ) (o : Opened) → 0 < gate → 16 ≤ length bytes → parse_slot (gate ∷ bytes) ≡ Open o → opened_at bytes ≡ Ok o
+unfolding parse_slot
+opened_is gate bytes o is_on long e =
+    let test : (gate == 0 || nat_lt (length bytes) 16) ≡ false = rw (not_closed gate is_on) (le-ltb (length bytes) 16 long) in
+    let r = parsed_of (number_of (generation.read bytes)) (length bytes + 1) (opened_at bytes) in
+    parsed_ok (number_of (generation.read bytes)) (length bytes + 1) (opened_at bytes) o (sym (cond-false _ Empty r test) ∙ e)
+
+-- A slot that is open begins with the start that its front spells.
+pub start_same : (first : Start) (inputs : List Input) (place : ℕ) (now : List ℕ) (o : Opened) → IsHeld now → 16 < length now → IsFront first inputs (take place now) → parse_slot now ≡ Open o → o.start ≡ first
+start_same first inputs place now o held big is parsed =
+    let more = is.run ++ drop place now in
+    let bytes = start.spell first ++ more in
+    let text : now ≡ is.gate ∷ bytes =
+    sym (take-append-drop place now) ∙ ap (λ (r : List ℕ). r ++ drop place now) is.holds ∙ ap (λ (r : List ℕ). is.gate ∷ r) (append_assoc (start.spell first) is.run (drop place now)) in
+    let bytes_held : IsHeld bytes = omega (arith, held, ap length text) in
+    opened_start first more bytes o (start_codec.again first more is.fits bytes_held) (opened_is is.gate bytes o is.is_open (omega (arith, big, ap length text)) (ap parse_slot (sym text) ∙ parsed))

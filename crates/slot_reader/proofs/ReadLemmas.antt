@@ -109,6 +109,9 @@ reads_on (DiskLen slot answer ∷ es) fs p q = reads_on es fs p q
 reads_on (DiskRead slot at len answer ∷ es) fs p q = reads_on es fs p q
 reads_on (_ ∷ es) fs p q = absurd p
 
+pub reads_same : (a : Standing) → OnlyReads a a
+reads_same a = reads_none a a refl
+
 pub reads_then : (a b c : Standing) → OnlyReads a b → OnlyReads b c → OnlyReads a c
 reads_then a b c p q = record {
   events = adds_then (λ g es. AreReads es) (λ g es. AreReads es) (λ g es. AreReads es) a.told b.told c.told p.events q.events (λ g h xs ys x y. reads_on xs ys x y);

@@ -11,15 +11,15 @@ use Rattle.journal_slots.specs.Starts.{Start, start}
 use Rattle.journal_slots.proofs.SlotLemmas.{short_empty}
 use Rattle.record_codec.specs.Inputs.{input}
 use Rattle.record_fields.specs.Codec.{IsHeld}
-use Rattle.slot_reader.specs.declared.check.Checked.{Checked}
-use Rattle.slot_reader.specs.declared.check.Checked.TheVariants.{Empty as EmptyChecked, Open as OpenChecked, Bad as BadChecked}
+use Rattle.slot_reader.specs.declared.checked.Checked.{Checked}
+use Rattle.slot_reader.specs.declared.checked.Checked.TheVariants.{Empty as EmptyChecked, Open as OpenChecked, Bad as BadChecked}
 use Rattle.slot_reader.specs.declared.fault.Fault.{Fault}
 use Rattle.slot_reader.specs.declared.item.Item.{Item}
 use Rattle.slot_reader.specs.declared.item.Item.TheVariants.{Closed, Taken, Bad as BadItem}
 use Rattle.slot_reader.specs.declared.lead.Begun.{Begun}
 use Rattle.slot_reader.specs.declared.lead.Lead.TheVariants.{Shut as ShutLead, Opens, Bad as BadLead}
-use Rattle.slot_reader.specs.declared.open.Opening.{Opening}
-use Rattle.slot_reader.specs.declared.open.Opening.TheVariants.{Empty as EmptyOpening, Open as OpenOpening, Bad as BadOpening}
+use Rattle.slot_reader.specs.declared.opening.Opening.{Opening}
+use Rattle.slot_reader.specs.declared.opening.Opening.TheVariants.{Empty as EmptyOpening, Open as OpenOpening, Bad as BadOpening}
 use Rattle.slot_reader.specs.declared.reader.Next.TheVariants.{Input as NextInput, Closed as NextClosed, Bad as BadNext}
 use Rattle.slot_reader.specs.declared.reader.SlotReader.{SlotReader}
 use Rattle.slot_reader.specs.declared.version.Version.{Version}
@@ -29,7 +29,7 @@ use Rattle.slot_reader.specs.Readings.{start_of, HasRead, EndsAt, IsNext, Reads,
 use Rattle.slot_reader.specs.Versions.{spelling}
 use Rattle.slot_reader.specs.Windows.{Window, IsWithin, IsWhole, IsOver, Shows, IsAtPlaceOf}
 use Rattle.slot_reader.proofs.GrammarLemmas.{input_more, input_closed, input_missing, input_bad, start_shut, shut_head, start_opens, start_is_bad}
-use Rattle.slot_reader.proofs.ReadLemmas.{told_before}
+use Rattle.slot_reader.proofs.ReadLemmas.{told_before, reads_same, reads_then, tells_then}
 use Rattle.slot_reader.proofs.WindowLemmas.{over_moved}
 
 -- ---- how long an item is
@@ -172,3 +172,19 @@ checked_bad r s v inputs at told same bad h is =
 -- what was opened and is not read on was checked
 pub checked_opening : (slot : ℕ) (told : Option History) (opening : Opening) (checked : Checked) → ((now : List ℕ) → IsOpened now opening → IsChecked now checked) → IsTold (λ now. IsOpened now opening) slot told → IsTold (λ now. IsChecked now checked) slot told
 checked_opening slot told opening checked same is h told_is = let t = is h told_is in (t.0, same (content h slot) t.1)
+
+-- ---- for the functions
+
+pub same_slot_none : (r : SlotReader) → IsSameSlot r r
+same_slot_none r = record { slot = refl; long = refl; generation = refl; version = refl }
+
+pub same_slot_then : (r s t : SlotReader) → IsSameSlot r s → IsSameSlot s t → IsSameSlot r t
+same_slot_then r s t p q = record { slot = q.slot ∙ p.slot; long = q.long ∙ p.long; generation = q.generation ∙ p.generation; version = q.version ∙ p.version }
+
+pub ruleset inputs_checked = (reads_same, reads_then, tells_then, same_slot_none, same_slot_then)
+
+pub ruleset nexts = (taken_within, bad_within, reads_then, tells_then)
+
+pub ruleset openings = (opens_within, reads_then, tells_then)
+
+pub ruleset checks = (reads_then, tells_then)

@@ -1,12 +1,12 @@
 -- A window that is moved on, and grows.
-use Rattle.std.proofs.Common.{ℕ, ◌≡◌, ◌+◌, ◌-◌, ◌≤◌, ◌<◌, min, max, Option, Some, List, [], ◌++◌, length, take, drop, refl, sym, ap, ap₂, subst, ◌∙◌, length-append, arith}
+use Rattle.std.proofs.Common.{ℕ, ◌≡◌, ◌+◌, ◌-◌, ◌≤◌, ◌<◌, ◌^◌, min, max, Option, Some, List, [], ◌++◌, length, take, drop, refl, sym, ap, ap₂, subst, ◌∙◌, length-append, arith}
 use Rattle.std.proofs.lemmas.List.{take-append-drop, length-take, length-drop, drop-drop, drop-take}
 use Rattle.std.proofs.Math.Seq.{take-add}
 use Rattle.f2b_world.specs.Slots.{Slot}
 use Rattle.f2b_world.specs.Told.{History, HasLength, Standing}
 use Rattle.slot_reader.specs.Reads.{content, AreReads, OnlyReads, IsAllOf, IsPieceAt}
 use Rattle.slot_reader.specs.Windows.{Window, IsWithin, IsWhole, IsOver, Shows, IsAtPlaceOf}
-use Rattle.slot_reader.proofs.ReadLemmas.{told_before}
+use Rattle.slot_reader.proofs.ReadLemmas.{told_before, reads_same, reads_then, tells_then}
 
 -- what of the slot is behind the window
 abbrev pub behind : Window → List ℕ → List ℕ
@@ -62,6 +62,31 @@ shows_grown w v a b piece at len p shows is_piece at_is len_is slot_is long_is p
 pub shows_long : (w : Window) (told : Option History) (n : ℕ) → Shows w told → n ≤ w.long → HasLength told w.slot n
 shows_long w told n shows le h is = let over = shows h is in omega (arith, over.long, le)
 
+pub at_place_same : (w : Window) → IsAtPlaceOf w w
+at_place_same w = record { slot = refl; long = refl; place = refl }
+
+pub at_place_then : (u v w : Window) → IsAtPlaceOf u v → IsAtPlaceOf v w → IsAtPlaceOf u w
+at_place_then u v w p q = record { slot = q.slot ∙ p.slot; long = q.long ∙ p.long; place = q.place ∙ p.place }
+
+pub ruleset windows = (reads_same, reads_then, tells_then, at_place_same, at_place_then)
+
+pub ruleset grows = (shows_still, shows_grown, shows_long)
+
 -- nothing is shown of a slot that is so long
 pub shows_none : (slot long : ℕ) (told : Option History) → IsAllOf slot long told → Shows (record { slot = slot; long = long; place = 0; bytes = [] }) told
 shows_none slot long told all h is = record { long = all h is; bytes = refl }
+
+-- ---- the bytes that a window moved on over
+
+-- what is left of bytes that stand from a place on
+abbrev pub window_of : ℕ → ℕ → ℕ → ℕ → List ℕ → Window
+window_of slot long base from bytes = record { slot = slot; long = long; place = base + from; bytes = drop from bytes }
+
+pub within_of : (slot long base from : ℕ) (bytes : List ℕ) → from ≤ length bytes → base + length bytes ≤ long → long < 2 ^ 64 → IsWithin (window_of slot long base from bytes)
+within_of slot long base from bytes few ends small = record { ends = omega (arith, few, ends, length-drop from bytes); small = small }
+
+pub whole_of : (slot long base from : ℕ) (bytes : List ℕ) → from ≤ length bytes → base + length bytes ≡ long → IsWhole (window_of slot long base from bytes)
+whole_of slot long base from bytes few all = omega (arith, few, all, length-drop from bytes)
+
+pub part_of : (slot long base from : ℕ) (bytes : List ℕ) → from ≤ length bytes → base + length bytes < long → (window_of slot long base from bytes).place + length (window_of slot long base from bytes).bytes < long
+part_of slot long base from bytes few less = omega (arith, few, less, length-drop from bytes)

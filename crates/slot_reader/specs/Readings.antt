@@ -8,11 +8,11 @@ use Rattle.journal_slots.specs.Fronts.{IsFront}
 use Rattle.journal_slots.specs.Grammar.{Empty, Open, Bad, parse_slot}
 use Rattle.journal_slots.specs.Starts.{Start, IsHead, short_bytes}
 use Rattle.record_fields.specs.Codec.{IsHeld}
-use Rattle.slot_reader.specs.declared.check.Checked.{Checked}
-use Rattle.slot_reader.specs.declared.check.Checked.TheVariants.{Empty as EmptyChecked, Open as OpenChecked, Bad as BadChecked}
+use Rattle.slot_reader.specs.declared.checked.Checked.{Checked}
+use Rattle.slot_reader.specs.declared.checked.Checked.TheVariants.{Empty as EmptyChecked, Open as OpenChecked, Bad as BadChecked}
 use Rattle.slot_reader.specs.declared.fault.Fault.{Fault}
-use Rattle.slot_reader.specs.declared.open.Opening.{Opening}
-use Rattle.slot_reader.specs.declared.open.Opening.TheVariants.{Empty as EmptyOpening, Open as OpenOpening, Bad as BadOpening}
+use Rattle.slot_reader.specs.declared.opening.Opening.{Opening}
+use Rattle.slot_reader.specs.declared.opening.Opening.TheVariants.{Empty as EmptyOpening, Open as OpenOpening, Bad as BadOpening}
 use Rattle.slot_reader.specs.declared.reader.Next.{Next}
 use Rattle.slot_reader.specs.declared.reader.Next.TheVariants.{Input as NextInput, Closed, Bad as BadNext}
 use Rattle.slot_reader.specs.declared.reader.SlotReader.{SlotReader}

@@ -14,18 +14,18 @@
 //! ```
 #![tactic(auto)]
 
-mod check;
+mod checked;
 mod fault;
 mod item;
 mod lead;
-mod open;
+mod opening;
 mod reader;
 mod reads;
 mod shown;
 mod version;
 
-pub use check::{Checked, OpenSlot, check};
+pub use checked::{Checked, OpenSlot, check};
 pub use fault::Fault;
-pub use open::{Opening, open};
+pub use opening::{Opening, open};
 pub use reader::{Next, SlotReader};
 pub use version::Version;

@@ -1,5 +1,5 @@
 //! `SlotReader`, which gives the inputs of an open slot.
-ghost use Rattle.std.specs.Prelude.{◌≡◌, ◌≤◌, ◌⊎◌, List, IfOk, IfErr};
+ghost use Rattle.std.specs.Prelude.{◌≡◌, false, List, IfOk, IfErr};
 ghost use Rattle.f2b_base.specs.declared.input.Input.{Input as AnInput};
 ghost use Rattle.f2b_base.specs.declared.view.View.{View as AView};
 ghost use Rattle.slot_reader.specs.Fronts.{IsItem, is_clear_item};
@@ -35,6 +35,7 @@ pub struct SlotReader {
 }
 
 /// What the window begins with, from a gate behind a record on: more of the slot is shown until that is clear.
+#[tactic(auto, using(crate::proofs::WindowLemmas::windows))]
 fn item_of<D: Disk>(
     alloc: Global,
     disk: &mut D,
@@ -50,7 +51,7 @@ fn item_of<D: Disk>(
     ensures reads { OnlyReads (D.stands disk.old) (D.stands disk.new) }
     ensures err { IfErr result (λ fault. Tells fault (D.stands disk.old) (D.stands disk.new)) }
 {
-    loop {
+    'pieces: loop {
         let item = item_in(version, alloc, shown.bytes())?;
         if item.is_clear() || shown.is_whole() {
             return Ok(item);
@@ -60,6 +61,13 @@ fn item_of<D: Disk>(
 }
 
 impl SlotReader {
+    /// Which slot it is.
+    pub fn slot(&self) -> u8
+        ensures { result ≡ self.now.shown.slot }
+    {
+        self.shown.slot()
+    }
+
     /// The generation of the slot.
     pub fn generation(&self) -> u64
         ensures { result ≡ self.now.generation }

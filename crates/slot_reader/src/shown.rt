@@ -60,6 +60,13 @@ impl Shown {
         &self.bytes.as_slice()[self.from..]
     }
 
+    /// Which slot it is.
+    pub(crate) fn slot(&self) -> u8
+        ensures { result ≡ self.now.slot }
+    {
+        self.slot
+    }
+
     /// Where in the slot the window begins.
     pub(crate) fn place(&self) -> u64
         ensures { result ≡ self.now.place }
@@ -88,6 +95,7 @@ impl Shown {
     }
 
     /// Shows more of the slot: a piece, or as much as is shown where that is more, or all that is left. An error changes nothing.
+    #[tactic(auto, using(crate::proofs::WindowLemmas::grows))]
     pub(crate) fn grow<D: Disk>(&mut self, alloc: Global, disk: &mut D) -> Result<(), Fault>
         requires shows { Shows self.old (D.stands disk.old).told }
         requires part { self.old.place + length self.old.bytes < self.old.long }

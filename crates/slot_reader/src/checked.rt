@@ -6,7 +6,7 @@ ghost use Rattle.slot_reader.specs.Readings.{IsChecked, IsTold, Reads};
 ghost use Rattle.slot_reader.specs.Windows.{IsWithin, Shows};
 
 use crate::fault::Fault;
-use crate::open::{Opening, open};
+use crate::opening::{Opening, open};
 use crate::reader::{Next, SlotReader};
 use crate::version::Version;
 use f2b_world::Disk;
@@ -37,6 +37,7 @@ pub enum Checked {
 }
 
 /// Reads the inputs that are left, one by one, and keeps none.
+#[tactic(auto, using(crate::proofs::ReadingLemmas::inputs_checked))]
 fn check_inputs<D: Disk>(
     alloc: Global,
     disk: &mut D,
@@ -51,7 +52,7 @@ fn check_inputs<D: Disk>(
     let generation = reader.generation();
     let version = reader.version();
     let mut reader = reader;
-    loop {
+    'inputs: loop {
         match reader.next(alloc, disk)? {
             Next::Input(_) => (),
             Next::Closed => {

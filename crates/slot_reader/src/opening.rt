@@ -1,5 +1,5 @@
 //! A slot that is opened.
-ghost use Rattle.std.specs.Prelude.{◌≡◌, ◌<◌, IfOk, IfErr, []};
+ghost use Rattle.std.specs.Prelude.{◌≡◌, ◌<◌, false, IfOk, IfErr};
 ghost use Rattle.slot_reader.specs.Fronts.{IsLead, is_clear_lead};
 ghost use Rattle.slot_reader.specs.Reads.{OnlyReads, Tells};
 ghost use Rattle.slot_reader.specs.Readings.{IsOpened, IsTold, Stands};
@@ -34,6 +34,7 @@ pub enum Opening {
 }
 
 /// What a slot begins with: more of it is shown until that is clear.
+#[tactic(auto, using(crate::proofs::WindowLemmas::windows))]
 fn lead_of<D: Disk>(alloc: Global, disk: &mut D, shown: &mut Shown) -> Result<Lead, Fault>
     requires { Shows shown.old (D.stands disk.old).told }
     ensures lead { IfOk result (IsLead shown.new.bytes) }
@@ -44,7 +45,7 @@ fn lead_of<D: Disk>(alloc: Global, disk: &mut D, shown: &mut Shown) -> Result<Le
     ensures reads { OnlyReads (D.stands disk.old) (D.stands disk.new) }
     ensures err { IfErr result (λ fault. Tells fault (D.stands disk.old) (D.stands disk.new)) }
 {
-    loop {
+    'pieces: loop {
         let lead = lead_in(alloc, shown.bytes())?;
         if lead.is_clear() || shown.is_whole() {
             return Ok(lead);
