@@ -1,5 +1,5 @@
 -- What stands at the front of a window.
-use Rattle.std.proofs.Common.{ℕ, ◌≡◌, ◌+◌, ◌-◌, ◌<◌, ◌≤◌, inl, inr, List, [], ◌∷◌, ◌++◌, length, Result, Ok, Err, length-append, refl, sym, ap, ◌∙◌, arith}
+use Rattle.std.proofs.Common.{ℕ, ◌≡◌, ◌+◌, ◌-◌, ◌<◌, ◌≤◌, inl, inr, List, [], ◌∷◌, ◌++◌, length, drop, slice_index, Result, Ok, Err, length-append, refl, sym, ap, ◌∙◌, arith}
 use Rattle.f2b_base.specs.declared.input.Input.{Input}
 use Rattle.journal_slots.specs.Grammar.{number_of}
 use Rattle.journal_slots.specs.Starts.{Start, start, generation}
@@ -8,6 +8,7 @@ use Rattle.record_codec.specs.declared.version.Version.{Version as Spelling}
 use Rattle.record_codec.specs.Inputs.{input}
 use Rattle.record_codec.proofs.InputLemmas.{input_codec}
 use Rattle.record_fields.specs.Codec.{IsBytes}
+use Rattle.record_fields.proofs.CodecLemmas.{IsBytes-tail}
 use Rattle.slot_reader.specs.declared.item.Item.TheVariants.{Closed, Taken, Bad as BadItem}
 use Rattle.slot_reader.specs.declared.lead.Begun.{Begun}
 use Rattle.slot_reader.specs.declared.lead.Lead.TheVariants.{Shut, Opens, Bad as BadLead}
@@ -49,3 +50,14 @@ pub item_bad : (version : Spelling) (gate at left : ℕ) (behind : List ℕ) →
 item_bad version gate at left behind on is at_is = inr (gate, behind, left, omega (arith, on), refl, is, at_is)
 
 pub ruleset items = (item_closed, item_none, item_taken, item_bad)
+
+-- ---- at the front of bytes of which the first is read
+
+pub lead_found : (bytes : List ℕ) (len : ℕ) (b : Begun) (rest : List ℕ) → IsBytes bytes → 1 ≤ length bytes → ¬ (slice_index bytes 0 ≡ 0) → start.read (drop 1 bytes) ≡ Ok (start_in b, rest) → len ≡ length bytes - length rest → IsLead bytes (Opens b len)
+lead_found [] len b rest ok long on is len_is = absurd (omega (arith, long))
+lead_found (gate ∷ behind) len b rest ok long on is len_is = lead_opens gate len b behind rest on (IsBytes-tail gate behind ok) is len_is
+
+pub item_found : (version : Spelling) (bytes : List ℕ) (len : ℕ) (i : Input) (rest : List ℕ) → IsBytes bytes → 1 ≤ length bytes → ¬ (slice_index bytes 0 ≡ 0) → (input version).read (drop 1 bytes) ≡ Ok (i, rest) → len ≡ length bytes - length rest
+    → IsItem version bytes (Taken i len)
+item_found version [] len i rest ok long on is len_is = absurd (omega (arith, long))
+item_found version (gate ∷ behind) len i rest ok long on is len_is = item_taken version gate len i behind rest on (IsBytes-tail gate behind ok) is len_is

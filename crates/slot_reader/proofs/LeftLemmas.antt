@@ -36,8 +36,8 @@ leaves_then most (Ok x) f first next = next x first
 leaves_then most (Err left) f first next = first
 
 leaves_if : {A : Type 0} (most : ℕ) (t : Bool) (r s : Result (A × List ℕ) ℕ) → LeavesUpTo most r → LeavesUpTo most s → LeavesUpTo most (cond t r s)
-leaves_if most true r s yes no = yes
-leaves_if most false r s yes no = no
+leaves_if most true r s h k = h
+leaves_if most false r s h k = k
 
 -- a reader that goes on behind what was left
 go_on : {A : Type 0} (read : Reads A) → StaysWithin read → (most : ℕ) (rest : List ℕ) → length rest ≤ most → LeavesUpTo most (read rest)
@@ -86,8 +86,8 @@ coded_leaves code decode Fits = record { within = coded_within code decode Fits 
 abbrev pub CasesLeave : {A : Type 0} → Cases A → Type 0
 CasesLeave cases = (b left : ℕ) (bytes : List ℕ) → length bytes ≤ left → LeavesUpTo left (cases b left bytes)
 
-pub none_leave : {A : Type 0} → CasesLeave (no_case {A = A})
-none_leave b left bytes le = omega arith
+pub none_leave : (A : Type 0) → CasesLeave (no_case {A = A})
+none_leave A b left bytes le = omega arith
 
 pub case_leaves : {A : Type 0} (k : ℕ) (read : Reads A) (others : Cases A) → StaysWithin read → CasesLeave others → CasesLeave (case k read others)
 case_leaves k read others p q b left bytes le = leaves_if left (b == k) (read bytes) (others b left bytes) (go_on read p left bytes le) (q b left bytes le)
@@ -100,7 +100,7 @@ field_leaves cases p [] = omega arith
 field_leaves cases p (b ∷ bytes) = leaves_more (length bytes + 1) (suc (length bytes)) (cases b (length bytes + 1) bytes) (omega arith) (p b (length bytes + 1) bytes (omega arith))
 
 pub option_leaves : {A : Type 0} (c : Codec A) → LeavesNoMore c → LeavesNoMore (option_of c)
-option_leaves c p = record { within = field_leaves _ (case_leaves 0 _ _ (alone_leaves None) (case_leaves 1 _ no_case (as_made_leaves (λ x. Some x) c p) none_leave)) }
+option_leaves {A} c p = record { within = field_leaves _ (case_leaves 0 _ _ (alone_leaves {A = Option A} None) (case_leaves 1 _ no_case (as_made_leaves (λ (x : A). Some x) c p) (none_leave (Option A)))) }
 
 -- ---- numbers
 
@@ -109,8 +109,8 @@ KeepsUpTo most (Some x) = length x.1 ≤ most
 KeepsUpTo most None = Unit {0}
 
 keeps_if : (most : ℕ) (t : Bool) (o p : Option (ℕ × List ℕ)) → KeepsUpTo most o → KeepsUpTo most p → KeepsUpTo most (cond t o p)
-keeps_if most true o p yes no = yes
-keeps_if most false o p yes no = no
+keeps_if most true o p h k = h
+keeps_if most false o p h k = k
 
 keeps_then : (few most : ℕ) (o : Option (ℕ × List ℕ)) (f : ℕ × List ℕ → Option (ℕ × List ℕ)) → few ≤ most → KeepsUpTo few o → ((x : ℕ × List ℕ) → length x.1 ≤ most → KeepsUpTo most (f x)) → KeepsUpTo most (option_and_then f o)
 keeps_then few most None f le h next = tt

@@ -1,5 +1,10 @@
 -- No reader of a view or an input leaves more bytes than there were.
 use Rattle.std.proofs.Common.{ℕ, List, Option, Some, None}
+use Rattle.f2b_base.specs.declared.ban.Until.{Until}
+use Rattle.f2b_base.specs.declared.input.What.{What}
+use Rattle.f2b_base.specs.declared.jail.DateSpec.{DateSpec}
+use Rattle.f2b_base.specs.declared.jail.Place.{Place}
+use Rattle.f2b_base.specs.declared.job.Outcome.{Outcome}
 use Rattle.f2b_base.specs.declared.input.What.TheVariants.{Tick, Stop}
 use Rattle.f2b_base.specs.declared.jail.DateSpec.TheVariants.{Default, Anchored, NoDate, Epoch, Iso}
 use Rattle.f2b_base.specs.declared.jail.JailDef.{JailDef}
@@ -36,7 +41,7 @@ unfolding place
 place_leaves = record {
   within = field_leaves _
       (case_leaves 0 _ _ (alone_leaves Tail)
-      (case_leaves 1 _ no_case (as_made_leaves _ _ (then_leaves number head_at number_leaves (λ n. fit_leaves _ _ (checked_leaves _ _ string_leaves)))) none_leave));
+      (case_leaves 1 _ no_case (as_made_leaves _ _ (then_leaves number head_at number_leaves (λ n. fit_leaves _ _ (checked_leaves _ _ string_leaves)))) (none_leave Place)));
 }
 
 pattern_leaves : LeavesNoMore pattern
@@ -52,7 +57,7 @@ date_leaves = record {
       (case_leaves 3 _ _ (alone_leaves Epoch)
       (case_leaves 4 _ _ (alone_leaves Iso)
       (case_leaves 5 _ _ (as_made_leaves _ _ pattern_leaves)
-      (case_leaves 6 _ no_case (as_made_leaves _ _ pattern_leaves) none_leave)))))));
+      (case_leaves 6 _ no_case (as_made_leaves _ _ pattern_leaves) (none_leave DateSpec))))))));
 }
 
 base_leaves : LeavesNoMore base
@@ -130,14 +135,14 @@ outcome_leaves = record {
   within = field_leaves _
       (case_leaves 0 _ _ (as_made_leaves _ _ signed_leaves)
       (case_leaves 1 _ _ (alone_leaves NotStarted)
-      (case_leaves 2 _ no_case (alone_leaves TimedOut) none_leave)));
+      (case_leaves 2 _ no_case (alone_leaves TimedOut) (none_leave Outcome))));
 }
 
 -- ---- views
 
 until_leaves : LeavesNoMore until
 unfolding until
-until_leaves = record { within = field_leaves _ (case_leaves 0 _ _ (alone_leaves Never) (case_leaves 1 _ no_case (as_made_leaves _ _ moment_leaves) none_leave)) }
+until_leaves = record { within = field_leaves _ (case_leaves 0 _ _ (alone_leaves Never) (case_leaves 1 _ no_case (as_made_leaves _ _ moment_leaves) (none_leave Until))) }
 
 count_leaves : LeavesNoMore count
 count_leaves = at_most_leaves _
@@ -248,7 +253,7 @@ what_leaves version = record {
       (case_leaves 10 _ _ bantime_within
       (case_leaves 11 _ _ maxretry_within
       (case_leaves 12 _ _ idle_within
-      (case_leaves 13 _ no_case check_failed_within none_leave))))))))))))));
+      (case_leaves 13 _ no_case check_failed_within (none_leave What)))))))))))))));
 }
 
 pub input_leaves : (version : Version) → LeavesNoMore (input version)

@@ -1,5 +1,6 @@
 -- What a reader of a slot gives, and what is known of the slot then.
-use Rattle.std.proofs.Common.{ℕ, ◌≡◌, ◌+◌, ◌-◌, ◌<◌, ◌≤◌, ◌^◌, inl, inr, ◌⊎◌, true, false, Option, Some, List, [], ◌∷◌, ◌++◌, length, take, drop, Result, Ok, Err, IfOk, length-append, refl, sym, ap, ap₂, ◌∙◌, subst, arith}
+use Rattle.std.proofs.Common.{ℕ, ◌≡◌, ◌+◌, ◌-◌, ◌<◌, ◌≤◌, ◌^◌, inl, inr, ◌⊎◌, true, false, Option, Some, None, List, [], ◌∷◌, ◌++◌, length, take, drop, Result, Ok, Err, IfOk, length-append, refl, sym, ap, ap₂, ◌∙◌, subst, arith}
+use Rattle.std.proofs.lemmas.Option.{none-some, same_Some}
 use Rattle.f2b_base.specs.declared.input.Input.{Input}
 use Rattle.f2b_base.specs.declared.view.View.{View}
 use Rattle.f2b_world.specs.Slots.{Slot}
@@ -20,12 +21,14 @@ use Rattle.slot_reader.specs.declared.lead.Begun.{Begun}
 use Rattle.slot_reader.specs.declared.lead.Lead.TheVariants.{Shut as ShutLead, Opens, Bad as BadLead}
 use Rattle.slot_reader.specs.declared.opening.Opening.{Opening}
 use Rattle.slot_reader.specs.declared.opening.Opening.TheVariants.{Empty as EmptyOpening, Open as OpenOpening, Bad as BadOpening}
+use Rattle.slot_reader.specs.declared.checked.OpenSlot.{OpenSlot}
+use Rattle.slot_reader.specs.declared.reader.Next.{Next}
 use Rattle.slot_reader.specs.declared.reader.Next.TheVariants.{Input as NextInput, Closed as NextClosed, Bad as BadNext}
 use Rattle.slot_reader.specs.declared.reader.SlotReader.{SlotReader}
 use Rattle.slot_reader.specs.declared.version.Version.{Version}
 use Rattle.slot_reader.specs.Fronts.{start_in, IsLead, IsItem}
 use Rattle.slot_reader.specs.Reads.{content, OnlyReads, IsAllOf}
-use Rattle.slot_reader.specs.Readings.{start_of, HasRead, EndsAt, IsNext, Reads, TellsNext, IsSameSlot, Stands, IsOpened, IsChecked, IsTold}
+use Rattle.slot_reader.specs.Readings.{start_of, HasRead, EndsAt, IsNext, Reads, TellsNext, GoesOn, IsSameSlot, Stands, IsOpened, IsChecked, IsTold, ended_by}
 use Rattle.slot_reader.specs.Versions.{spelling}
 use Rattle.slot_reader.specs.Windows.{Window, IsWithin, IsWhole, IsOver, Shows, IsAtPlaceOf}
 use Rattle.slot_reader.proofs.GrammarLemmas.{input_more, input_closed, input_missing, input_bad, start_shut, shut_head, start_opens, start_is_bad}
@@ -143,31 +146,53 @@ module _ (slot : ℕ) (w : Window) (told : Option History) (shows : Shows w told
         let now = content h slot in
         let over = over_slot h is in
         let front = start_opens w now over within at_front lead.0 len (start_in b) lead.1 lead.2 lead.3 lead.4 lead.5 in
-        let P : ℕ → Type 0 = λ p. IsFront (start_in b) [] (take p now) in
-        (is_held h is, record {
-          over = over_moved w u now len over (opens_within w.bytes b len lead) long_is place_is bytes_is;
-          held = is_held h is;
-          big = is_big h is;
-          spelt = subst P (sym place_is) front;
-        })
+        let P : ℕ → Type 0 = λ p. IsFront (start_in b) [] (take p now) in (
+          is_held h is,
+          record {
+            over = over_moved w u now len over (opens_within w.bytes b len lead) long_is place_is bytes_is;
+            held = is_held h is;
+            big = is_big h is;
+            spelt = subst P (sym place_is) front;
+          },
+        )
 
 -- ---- a slot that is read to its end
 
-pub checked_open : (r s : SlotReader) (v : View) (inputs : List Input) (told : Option History) → IsSameSlot r s → TellsNext s v inputs told (Ok NextClosed)
-    → IsTold (λ now. IsChecked now (OpenChecked (record { generation = r.generation; version = r.version; gate = s.shown.place }))) r.shown.slot told
-checked_open r s v inputs told same ends h is =
-    let e = ends h is in
+abbrev CheckedOf : SlotReader → ℕ → Option History → Checked → Type 0
+CheckedOf r slot told checked = IsTold (λ now. IsChecked now checked) slot told
+
+pub checked_ended : (r s : SlotReader) (v : View) (inputs : List Input) (told : Option History) (next : Next) (checked : Checked) → IsSameSlot r s → TellsNext s v inputs told (Ok next) → ended_by s next ≡ Some checked
+    → IsTold (λ now. IsChecked now checked) r.shown.slot told
+checked_ended r s v inputs told (NextInput i) checked same tells is = absurd (none-some checked is)
+checked_ended r s v inputs told NextClosed checked same tells is =
+    let o : OpenSlot = record { generation = s.generation; version = s.version; gate = s.shown.place } in
+    let all : CheckedOf s r.shown.slot told (OpenChecked o) = λ h told_is.
+    (let e = tells h told_is in
     let P : ℕ → Type 0 = λ k. IsHeld (content h k) × EndsAt s.shown.place (start_of s v) inputs (content h k) in
     let both : P r.shown.slot = subst P same.slot (e.0.held, e.1) in
-    (both.0, (start_of s v, inputs, same.generation, ap spelling same.version, both.1))
-
-pub checked_bad : (r s : SlotReader) (v : View) (inputs : List Input) (at : ℕ) (told : Option History) → IsSameSlot r s → TellsNext s v inputs told (Ok (BadNext at))
-    → IsTold (λ now. IsChecked now (BadChecked r.generation at)) r.shown.slot told
-checked_bad r s v inputs at told same bad h is =
-    let e = bad h is in
+    (both.0, (start_of s v, inputs, refl, refl, both.1))) in
+    subst (CheckedOf s r.shown.slot told) (same_Some (OpenChecked o) checked is) all
+checked_ended r s v inputs told (BadNext at) checked same tells is =
+    let all : CheckedOf s r.shown.slot told (BadChecked s.generation at) = λ h told_is.
+    (let e = tells h told_is in
     let P : ℕ → Type 0 = λ k. IsHeld (content h k) × (parse_slot (content h k) ≡ Bad s.generation at) in
     let both : P r.shown.slot = subst P same.slot (e.0.held, e.1) in
-    (both.0, both.1 ∙ ap (λ (n : ℕ). Bad n at) same.generation)
+    (both.0, both.1)) in
+    subst (CheckedOf s r.shown.slot told) (same_Some (BadChecked s.generation at) checked is) all
+
+pub so_far_more : (s : SlotReader) (v : View) (inputs : List Input) (told : Option History) (next : Next) → TellsNext s v inputs told (Ok next) → ended_by s next ≡ None → (more : List Input) × Reads s v more told
+so_far_more s v inputs told (NextInput i) tells is = (inputs ++ i ∷ [], tells)
+so_far_more s v inputs told NextClosed tells is = absurd (none-some _ (sym is))
+so_far_more s v inputs told (BadNext at) tells is = absurd (none-some _ (sym is))
+
+pub further_on : (r s : SlotReader) (next : Next) → GoesOn r s next → ended_by s next ≡ None → r.shown.place < s.shown.place
+further_on r s (NextInput i) on is = on
+further_on r s NextClosed on is = absurd (none-some _ (sym is))
+further_on r s (BadNext at) on is = absurd (none-some _ (sym is))
+
+-- a slot that was opened is read from its start on
+pub opened_reads : (slot : ℕ) (r : SlotReader) (v : View) (told : Option History) → r.shown.slot ≡ slot → IsTold (λ now. IsOpened now (OpenOpening r v)) slot told → Reads r v [] told
+opened_reads slot r v told slot_is opened h is = subst (λ (k : ℕ). HasRead r v [] (content h k)) (sym slot_is) ((opened h is).1)
 
 -- what was opened and is not read on was checked
 pub checked_opening : (slot : ℕ) (told : Option History) (opening : Opening) (checked : Checked) → ((now : List ℕ) → IsOpened now opening → IsChecked now checked) → IsTold (λ now. IsOpened now opening) slot told → IsTold (λ now. IsChecked now checked) slot told
@@ -181,7 +206,7 @@ same_slot_none r = record { slot = refl; long = refl; generation = refl; version
 pub same_slot_then : (r s t : SlotReader) → IsSameSlot r s → IsSameSlot s t → IsSameSlot r t
 same_slot_then r s t p q = record { slot = q.slot ∙ p.slot; long = q.long ∙ p.long; generation = q.generation ∙ p.generation; version = q.version ∙ p.version }
 
-pub ruleset inputs_checked = (reads_same, reads_then, tells_then, same_slot_none, same_slot_then)
+pub ruleset inputs_checked = (reads_same, reads_then, tells_then, same_slot_none, same_slot_then, further_on)
 
 pub ruleset nexts = (taken_within, bad_within, reads_then, tells_then)
 

@@ -42,11 +42,11 @@ front_read c is_c bytes x len rest held fits is rest_is =
 
 -- ---- inputs
 
-input_two : (bytes : List ℕ) (r : Result (Input × ℕ) ReadError) → IfOk r (λ x. IsStorableInput x.0 × IsAtFront (input Two).spell bytes x) → IfOk r (λ x. (input Two).Fits x.0 × IsAtFront (input Two).spell bytes x)
+pub input_two : (bytes : List ℕ) (r : Result (Input × ℕ) ReadError) → IfOk r (λ x. IsStorableInput x.0 × IsAtFront (input Two).spell bytes x) → IfOk r (λ x. (input Two).Fits x.0 × IsAtFront (input Two).spell bytes x)
 input_two bytes (Ok x) is = ((input_word Two).fit x.0 (is.0, what_whole x.0.what), is.1)
 input_two bytes (Err e) is = tt
 
-input_one : (bytes : List ℕ) (r : Result (Input × ℕ) ReadError) → IfOk r (λ x. IsStorableInput x.0 × AreWholeIn One x.0.what × IsAtFront (input One).spell bytes x) → IfOk r (λ x. (input One).Fits x.0 × IsAtFront (input One).spell bytes x)
+pub input_one : (bytes : List ℕ) (r : Result (Input × ℕ) ReadError) → IfOk r (λ x. IsStorableInput x.0 × AreWholeIn One x.0.what × IsAtFront (input One).spell bytes x) → IfOk r (λ x. (input One).Fits x.0 × IsAtFront (input One).spell bytes x)
 input_one bytes (Ok x) is = ((input_word One).fit x.0 (is.0, is.1), is.2)
 input_one bytes (Err e) is = tt
 
@@ -66,11 +66,11 @@ pub ruleset inputs_taken = (input_read, input_left, input_within)
 
 -- ---- views
 
-view_two : (bytes : List ℕ) (r : Result (View × ℕ) ReadError) → IfOk r (λ x. IsRecordedView x.0 × IsAtFront (view Two).spell bytes x) → IfOk r (λ x. (view Two).Fits x.0 × IsAtFront (view Two).spell bytes x)
+pub view_two : (bytes : List ℕ) (r : Result (View × ℕ) ReadError) → IfOk r (λ x. IsRecordedView x.0 × IsAtFront (view Two).spell bytes x) → IfOk r (λ x. (view Two).Fits x.0 × IsAtFront (view Two).spell bytes x)
 view_two bytes (Ok x) is = ((view_word Two).fit x.0 (is.0, view_whole x.0), is.1)
 view_two bytes (Err e) is = tt
 
-view_one : (bytes : List ℕ) (r : Result (View × ℕ) ReadError) → IfOk r (λ x. IsRecordedView x.0 × IsViewWholeIn One x.0 × IsAtFront (view One).spell bytes x) → IfOk r (λ x. (view One).Fits x.0 × IsAtFront (view One).spell bytes x)
+pub view_one : (bytes : List ℕ) (r : Result (View × ℕ) ReadError) → IfOk r (λ x. IsRecordedView x.0 × IsViewWholeIn One x.0 × IsAtFront (view One).spell bytes x) → IfOk r (λ x. (view One).Fits x.0 × IsAtFront (view One).spell bytes x)
 view_one bytes (Ok x) is = ((view_word One).fit x.0 (is.0, is.1), is.2)
 view_one bytes (Err e) is = tt
 

@@ -1,5 +1,5 @@
 -- What is known of a slot that is read from its front.
-use Rattle.std.specs.Prelude.{ℕ, ◌≡◌, ◌+◌, ◌<◌, ◌≤◌, Option, Some, List, [], ◌∷◌, ◌++◌, length, take, Result, Ok, Err}
+use Rattle.std.specs.Prelude.{ℕ, ◌≡◌, ◌+◌, ◌<◌, ◌≤◌, Option, Some, None, List, [], ◌∷◌, ◌++◌, length, take, Result, Ok, Err}
 use Rattle.f2b_base.specs.declared.input.Input.{Input}
 use Rattle.f2b_base.specs.declared.view.View.{View}
 use Rattle.f2b_world.specs.Told.{History}
@@ -87,3 +87,9 @@ IsChecked now (BadChecked number at) = parse_slot now ≡ Bad number at
 -- where the history is told, P holds of what the slot holds, which is no longer than a machine can hold
 abbrev pub IsTold : (List ℕ → Type 0) → ℕ → Option History → Type 0
 IsTold P slot told = (g : History) → told ≡ Some g → IsHeld (content g slot) × P (content g slot)
+
+-- what the slot is to its end, where the reader is there
+abbrev pub ended_by : SlotReader → Next → Option Checked
+ended_by r (NextInput i) = None
+ended_by r Closed = Some (OpenChecked (record { generation = r.generation; version = r.version; gate = r.shown.place }))
+ended_by r (BadNext at) = Some (BadChecked r.generation at)

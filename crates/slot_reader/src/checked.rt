@@ -2,7 +2,7 @@
 ghost use Rattle.std.specs.Prelude.{◌≡◌, ◌<◌, [], IfOk, IfErr};
 ghost use Rattle.f2b_base.specs.declared.view.View.{View as AView};
 ghost use Rattle.slot_reader.specs.Reads.{OnlyReads, Tells};
-ghost use Rattle.slot_reader.specs.Readings.{IsChecked, IsTold, Reads};
+ghost use Rattle.slot_reader.specs.Readings.{IsChecked, IsTold, Reads, ended_by};
 ghost use Rattle.slot_reader.specs.Windows.{IsWithin, Shows};
 
 use crate::fault::Fault;
@@ -36,34 +36,39 @@ pub enum Checked {
     },
 }
 
+/// What the slot is to its end, if the reader is there.
+fn ended(reader: &SlotReader, next: Next) -> Option<Checked>
+    ensures { result ≡ ended_by reader.now next }
+{
+    match next {
+        Next::Input(_) => None,
+        Next::Closed => Some(Checked::Open(OpenSlot {
+            generation: reader.generation,
+            version: reader.version,
+            gate: reader.place(),
+        })),
+        Next::Bad(at) => Some(Checked::Bad {
+            generation: reader.generation,
+            at,
+        }),
+    }
+}
+
 /// Reads the inputs that are left, one by one, and keeps none.
 #[tactic(auto, using(crate::proofs::ReadingLemmas::inputs_checked))]
-fn check_inputs<D: Disk>(
-    alloc: Global,
-    disk: &mut D,
-    reader: SlotReader,
-) -> Result<Checked, Fault>
+fn check_inputs<D: Disk>(alloc: Global, disk: &mut D, reader: SlotReader) -> Result<Checked, Fault>
     requires shows { Shows reader.shown (D.stands disk.old).told }
     requires within { IsWithin reader.shown }
     ensures checked { (v : AView) → Reads reader v [] (D.stands disk.old).told → IfOk result (λ checked. IsTold (λ now. IsChecked now checked) reader.shown.slot (D.stands disk.new).told) }
     ensures reads { OnlyReads (D.stands disk.old) (D.stands disk.new) }
     ensures err { IfErr result (λ fault. Tells fault (D.stands disk.old) (D.stands disk.new)) }
 {
-    let generation = reader.generation();
-    let version = reader.version();
     let mut reader = reader;
     'inputs: loop {
-        match reader.next(alloc, disk)? {
-            Next::Input(_) => (),
-            Next::Closed => {
-                let gate = reader.place();
-                return Ok(Checked::Open(OpenSlot {
-                    generation,
-                    version,
-                    gate,
-                }));
-            }
-            Next::Bad(at) => return Ok(Checked::Bad { generation, at }),
+        let next = reader.next(alloc, disk)?;
+        match ended(&reader, next) {
+            Some(checked) => return Ok(checked),
+            None => (),
         }
     }
 }
@@ -78,7 +83,7 @@ pub fn check<D: Disk>(alloc: Global, disk: &mut D, slot: u8) -> Result<Checked, 
 {
     match open(alloc, disk, slot)? {
         Opening::Empty(head) => Ok(Checked::Empty(head)),
-        Opening::Open(reader, _) => check_inputs(alloc, disk, reader),
+        Opening::Open(reader, _view) => check_inputs(alloc, disk, reader),
         Opening::Bad { generation, at } => Ok(Checked::Bad { generation, at }),
     }
 }

@@ -1,0 +1,9 @@
+use Rattle.std.proofs.Common.{◌≡◌, ◌≤◌, length, slice_index, rules, arith}
+use Rattle.slot_reader.specs.Versions.{spelling}
+use Rattle.slot_reader.proofs.FrontLemmas.{item_found}
+use Rattle.slot_reader.proofs.item.item_in.Goals as goal
+
+pub returns-in-Ok : goal.returns-in-Ok
+returns-in-Ok c =
+    item_found (spelling c.args.version) c.args.bytes.now c.saturating_sub.result c.in-Ok.input c.in-Ok.rest.now (λ i. omega (arith, c.type_inv.bytes i)) (first_of (c.in-len1-up.len_at_least, omega arith)) (first_of (c.if-gate-eq0.false, search rules, grind arith))
+    (first_of (c.in-Ok.ensures, search rules)) (first_of (c.saturating_sub.ensures, search rules))
