@@ -11,8 +11,8 @@ returns-in-Some-clause-checked g c = λ v given.
     let tells = subst (TellsNext c.next.new.self v x.0 told) c.in_ok-next.was (c.next.ensures.next v x.0 x.1) in
     checked_ended c.args.reader c.next.new.self v x.0 told c.in_ok-next.next c.in-Some.checked (same_slot_then c.args.reader c.inputs.reader c.next.new.self c.inputs.invariant.same c.next.ensures.same) tells (sym c.ended.ensures ∙ c.in-Some.is))
 
-pub inputs-preserved-in-None : goal.inputs-preserved-in-None
-inputs-preserved-in-None g c =
+pub inputs-preserved : goal.inputs-preserved
+inputs-preserved g c =
     let none = sym c.ended.ensures ∙ c.in-None.is in
     record {
       same = same_slot_then c.args.reader c.inputs.reader c.next.new.self c.inputs.invariant.same c.next.ensures.same;
