@@ -1,8 +1,8 @@
 -- What stands at the front of a window.
-use Rattle.std.proofs.Common.{ℕ, ◌≡◌, ◌+◌, ◌-◌, ◌<◌, ◌≤◌, inl, inr, List, [], ◌∷◌, ◌++◌, length, drop, slice_index, Result, Ok, Err, length-append, refl, sym, ap, ◌∙◌, arith}
+use Rattle.std.proofs.Common.{ℕ, ◌≡◌, ◌-◌, ◌≤◌, inl, inr, List, [], ◌∷◌, length, drop, slice_index, Ok, Err, length-append, refl, sym, ap, ◌∙◌, arith}
 use Rattle.f2b_base.specs.declared.input.Input.{Input}
 use Rattle.journal_slots.specs.Grammar.{number_of}
-use Rattle.journal_slots.specs.Starts.{Start, start, generation}
+use Rattle.journal_slots.specs.Starts.{start, generation}
 use Rattle.journal_slots.proofs.StartLemmas.{start_codec}
 use Rattle.record_codec.specs.declared.version.Version.{Version as Spelling}
 use Rattle.record_codec.specs.Inputs.{input}

@@ -1,5 +1,5 @@
 -- No reader of a view or an input leaves more bytes than there were.
-use Rattle.std.proofs.Common.{ℕ, List, Option, Some, None}
+use Rattle.std.proofs.Common.{ℕ, List}
 use Rattle.f2b_base.specs.declared.ban.Until.{Until}
 use Rattle.f2b_base.specs.declared.input.What.{What}
 use Rattle.f2b_base.specs.declared.jail.DateSpec.{DateSpec}

@@ -1,4 +1,4 @@
-use Rattle.std.proofs.Common.{◌≡◌, ℕ, IfOk, subst}
+use Rattle.std.proofs.Common.{ℕ, IfOk, subst}
 use Rattle.slot_reader.specs.declared.opening.Opening.{Opening}
 use Rattle.slot_reader.specs.Readings.{IsChecked, IsOpened, IsTold, Stands}
 use Rattle.slot_reader.proofs.ReadingLemmas.{opened_reads}

@@ -1,7 +1,7 @@
-use Rattle.std.proofs.Common.{◌≡◌, ◌∙◌, Ok, Some, None, ap, sym, subst, rules, arith}
+use Rattle.std.proofs.Common.{◌∙◌, sym, subst}
 use Rattle.slot_reader.specs.Readings.{TellsNext}
 use Rattle.slot_reader.proofs.ReadLemmas.{reads_then}
-use Rattle.slot_reader.proofs.ReadingLemmas.{checked_ended, so_far_more, further_on, same_slot_then}
+use Rattle.slot_reader.proofs.ReadingLemmas.{checked_ended, so_far_more, same_slot_then}
 use Rattle.slot_reader.proofs.checked.check_inputs.Goals as goal
 
 pub returns-in-Some-clause-checked : goal.returns-in-Some-clause-checked
