@@ -114,10 +114,20 @@ def most_jails(room):
     room.ends(4, ["ERROR Configuration refused: jail.conf [probe] enabled: TooMany"], "--conf", room.conf)
 
 
+def many_masks(room):
+    """a jail has 100,000 masks that it never bans, and an address of none of them is found"""
+    masks = [f" 10.{number // 65_536}.{number // 256 % 256}.{number % 256}/32\n" for number in range(100_000)]
+    os.mkdir(room.path("conf/jail.d"))
+    write(room.path("conf/jail.d/masks.conf"), "[web]\nignoreip =\n" + "".join(masks))
+    write(room.log, failures("10.1.134.159", "192.0.2.7", "10.0.0.0"))
+    room.ends(0, [*READY, "INFO [web] Found 192.0.2.7"], "--conf", room.conf, "--turns", "1")
+
+
 CHECKS = [
     most_files,
     most_bytes,
     most_jails,
+    many_masks,
     files_of_other_kinds,
     later_file_counts,
     place_is_written_otherwise,

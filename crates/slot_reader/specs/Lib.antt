@@ -1,0 +1,5 @@
+pub mod Reads
+pub mod Windows
+pub mod Versions
+pub mod Fronts
+pub mod Readings
