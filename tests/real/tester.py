@@ -23,6 +23,35 @@ Ignoreregex: 1 total
 Lines: 6 lines, 1 ignored, 3 matched, 2 missed
 """
 
+LOG = """\
+1700000000 fail from 192.0.2.7
+1700000001 fail from mx.example.org
+1700000002 test from 192.0.2.8
+no date
+"""
+
+FILTER = """\
+[Definition]
+datepattern = Epoch
+failregex = ^ <word> from <HOST>$
+ignoreregex = test
+"""
+
+SHOWN = """\
+Failregex: 2 total
+   1) [2] ^ fail from <HOST>$
+Ignoreregex: 1 total
+   1) [1] test
+Lines: 4 lines, 1 ignored, 2 matched, 1 missed
+Matched lines:
+   1) 192.0.2.7 1700000000 1700000000 fail from 192.0.2.7
+   1) - - 1700000001 fail from mx.example.org
+Ignored lines:
+   1700000002 test from 192.0.2.8
+Missed lines:
+   no date
+"""
+
 
 def ends(room, status, said, *words, **how):
     """Runs the tester to its end, and wants this status and this text, and no errors."""
@@ -60,6 +89,26 @@ def log_cannot_be_read(room):
     ends(room, 3, said, LINE, room.path("missing/filter.d/x.conf"))
 
 
+def options_are_taken(room):
+    """the tester shows lines and failures, and takes zones and filters by their names, as its options ask"""
+    write(room.log, LOG)
+    os.mkdir(room.path("conf/filter.d"))
+    write(room.path("conf/filter.d/fail.conf"), FILTER)
+    named = ("-c", room.conf, room.log, "fail[word=fail]")
+    others = ("--print-all-ignored", "--print-all-missed")
+    ends(room, 0, SHOWN, "-v", *others, *named)
+    bare = SHOWN.replace("1) 192.0.2.7 1700000000 ", "").replace("1) - - ", "")
+    ends(room, 0, bare, "--print-all-matched", *others, *named)
+    ends(room, 0, "192.0.2.7\n", "-o", "ip", *named)
+    ends(room, 0, "192.0.2.7\t1700000000\t1700000000 fail from 192.0.2.7\n", "-o", "row", *named)
+    line = "2024-03-01 10:00:00 fail from 192.0.2.7"
+    ends(room, 0, f"192.0.2.7\t1709278200\t{line}\n", "-o", "row", "--timezone", "UTC+0230", line, PATTERN)
+    ends(room, 2, "ERROR usage\n", "--timezone", "CET", line, PATTERN)
+    ends(room, 2, "ERROR usage\n", "-o", "host", line, PATTERN)
+    ends(room, 4, "ERROR Configuration refused: filter.d/none.conf [none] filter: MissingFile\n", "-c", room.conf, line, "none")
+    ends(room, 3, "ERROR configuration not read\n", "-c", room.path("missing"), line, "fail")
+
+
 def test_is_refused(room):
     """the tester refuses words, a filter, a pattern and a directory that is too large with their statuses"""
     ends(room, 2, "ERROR usage\n")
@@ -82,4 +131,11 @@ def report_is_not_written(room):
     ends(room, 9, None, "-d", "Epoch", LINE, PATTERN, stdout=None, preexec_fn=lambda: os.close(1))
 
 
-CHECKS = [example_is_found, log_is_a_line_or_a_file, log_cannot_be_read, test_is_refused, report_is_not_written]
+CHECKS = [
+    example_is_found,
+    log_is_a_line_or_a_file,
+    log_cannot_be_read,
+    options_are_taken,
+    test_is_refused,
+    report_is_not_written,
+]
