@@ -17,6 +17,7 @@ import clock
 import commands
 import configuration
 import ends
+import jumps
 import logs
 import output
 import tester
@@ -32,6 +33,7 @@ CHECKS = [
     *logs.CHECKS,
     *output.CHECKS,
     *commands.CHECKS,
+    *jumps.CHECKS,
     *tester.CHECKS,
 ]
 

@@ -6,7 +6,7 @@ import shutil
 import subprocess
 import time
 
-from room import PATIENCE, Skipped, failures, same, want, write
+from room import LONG_PATIENCE, Skipped, failures, same, want, write
 
 
 def moment_is_that_of_the_machine(room):
@@ -79,7 +79,7 @@ def traced(room, *more, turns):
     trace = room.path("trace")
     words = ["strace", "-f", "-o", trace, *more, *room.words("--turns", str(turns))]
     with open(room.path("said"), "wb") as said:
-        ended = subprocess.run(words, stdin=subprocess.DEVNULL, stdout=said, timeout=PATIENCE, check=False)
+        ended = subprocess.run(words, stdin=subprocess.DEVNULL, stdout=said, timeout=LONG_PATIENCE, check=False)
     same(ended.returncode, 0, "status")
     with open(trace, encoding="utf-8", errors="replace") as lines:
         return [line.split(None, 1)[1] for line in lines]
@@ -109,6 +109,16 @@ def idle_server_calls_little(room):
     want(2.9 <= asked <= 3.1, f"asked for {asked} s of pauses in 12 turns")
 
 
+def many_logs_are_asked_about_seldom(room):
+    """an idle server that follows sixty logs asks about each of them at most six times a turn"""
+    for number in range(60):
+        write(room.path(f"many-{number}.log"), "nothing\n")
+    room.configure(log=room.path("many-*.log"))
+    calls = traced(room, turns=12)
+    asked = sum(f'"{room.path("many-7.log")}"' in call for call in calls)
+    want(12 <= asked <= 72, f"asked {asked} times about a log in 12 turns")
+
+
 def long_log_is_read_at_once(room):
     """a log that is long at the start is read without pauses, each look's lines in one write"""
     addresses = [f"198.51.{number // 250}.{number % 250 + 1}" for number in range(10_000)]
@@ -128,5 +138,6 @@ CHECKS = [
     pauses_are_made,
     pauses_are_made_again,
     idle_server_calls_little,
+    many_logs_are_asked_about_seldom,
     long_log_is_read_at_once,
 ]

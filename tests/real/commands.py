@@ -1,17 +1,21 @@
 """Actions whose commands are run: bans and their ends, tries, time-outs, checks, and what a command may do to the server."""
 
+import contextlib
 import os
 import resource
 import signal
 import subprocess
 import time
 
-from room import as_nobody, failures, same, wait_for, want, write
+from room import Skipped, as_nobody, failures, same, wait_for, want, write
 
 ADDRESS = "192.0.2.7"
 
 # A command that never ends, and notes the number of the process that its shell waits for.
 ENDLESS = "sleep 1000 & echo $! > {pid}; wait"
+
+# The same, whose process ends by nothing but KILL.
+STUBBORN = "(trap '' HUP INT QUIT TERM; exec sleep 1000) & echo $! > {pid}; wait"
 
 
 def act(room, bantime=60, **items):
@@ -114,7 +118,7 @@ def a_command_that_is_not_there_fails(room):
 
 def a_command_is_timed_out(room):
     """a command that takes too long is ended with the processes of its shell, and the server goes on meanwhile"""
-    act(room, actionban=ENDLESS, timeout="2")
+    act(room, actionban=STUBBORN, timeout="2")
     with room.server() as server:
         ban(room)
         process = noted_process(room)
@@ -124,6 +128,24 @@ def a_command_is_timed_out(room):
         took = server.moment("ERROR [web/note] ban failed: timed out") - server.moment(f"NOTICE [web] Ban {ADDRESS}")
         want(took >= 2, f"ended after {took} s")
         wait_for(lambda: not lives(process), "the end of the process")
+        wait_for(lambda: not children(server), "the end of the shell")
+
+
+def a_command_starts_more(room):
+    """a command that starts another process as soon as one has ended leaves none behind when it is ended"""
+    act(room, actionban="while :; do sleep 1000 & echo $! >> {pid}; wait $!; done", timeout="2")
+    with room.server() as server:
+        ban(room)
+        try:
+            server.wait_said("ERROR [web/note] ban given up")
+            processes = content(room, "pid").split()
+            want(len(processes) >= 3, f"started {processes}")
+            wait_for(lambda: not any(map(lives, processes)), "the end of all processes")
+        finally:
+            # What is left where the check fails.
+            for process in filter(lives, content(room, "pid").split()):
+                with contextlib.suppress(ProcessLookupError):
+                    os.kill(int(process), signal.SIGKILL)
 
 
 def a_check_fails(room):
@@ -144,6 +166,28 @@ def a_check_fails(room):
         said = [line for line in server.said() if "note" in line]
         same(said, ["WARNING [web/note] check failed: status 1", "INFO [web/note] restart"], "said")
         wait_done(room, ["start", f"ban {ADDRESS}", "stop", "start", f"ban {ADDRESS}", "ban 192.0.2.8"])
+
+
+def check_ends_so(room, check, cause):
+    """Wants a check that ends so to void its job, and the action to start anew."""
+    act(room, actionstart="echo start >> {done}", actioncheck=check, actionban="echo ban <ip> >> {done}", timeout="2")
+    with room.server() as server:
+        ban(room)
+        wait_done(room, ["start", "start", f"ban {ADDRESS}"])
+        server.turn()
+        said = [line for line in server.said() if "note" in line]
+        same(said, [f"WARNING [web/note] check failed: {cause}", "INFO [web/note] restart"], "said")
+        wait_for(lambda: not children(server), "the end of all commands")
+
+
+def a_check_is_timed_out(room):
+    """a check that takes too long has failed, and no try is counted"""
+    check_ends_so(room, ENDLESS, "timed out")
+
+
+def a_check_is_too_long(room):
+    """a check that cannot be started has failed, and no try is counted"""
+    check_ends_so(room, "true " + "a" * 140_000, "not started")
 
 
 def a_command_goes_away(room):
@@ -190,9 +234,10 @@ def a_command_fills_its_output(room):
     try:
         with room.server(stderr=writer) as server:
             ban(room)
-            noted_process(room)
+            process = noted_process(room)
             server.turn()
             server.wait_said("ERROR [web/note] ban failed: timed out")
+            wait_for(lambda: not lives(process), "the end of the process")
     finally:
         os.close(reader)
         os.close(writer)
@@ -235,6 +280,17 @@ def commands_end_with_a_fault(room):
         server.wait()
 
 
+def commands_are_told_apart(room):
+    """of ten commands that run at once each is told with its own status, in whatever order they end"""
+    # The last ones end first.
+    act_often(room, 1, 10, "name=<actname>; number=${{name#note}}; sleep 0.$((9 - number)); exit $number")
+    with room.server() as server:
+        wanted = [f"ERROR [web0/note{number}] start failed: status {number}" for number in range(1, 10)]
+        for line in wanted:
+            server.wait_said(line)
+        same(sorted({line for line in server.said() if "failed" in line}), wanted, "said")
+
+
 def sixteen_commands_run(room):
     """of twenty commands that may run at once sixteen do, and the others follow"""
     # Each waits until sixteen have begun.
@@ -273,6 +329,34 @@ def no_process_is_to_be_had(room):
         server.wait_said("ERROR [web/note] ban given up")
 
 
+def a_shell_is_not_there(room):
+    """where there is no sh a command is not started, and the server goes on"""
+    act(room, actionban="true")
+    os.mkdir(room.path("empty"))
+    hide = 'mount --bind "$1" "$2" && shift 2 && exec "$@"'
+    user = [] if os.geteuid() == 0 else ["--map-root-user"]
+    # What the programs of the system stand in is empty, for the server alone.
+    starter = ["unshare", *user, "--mount", "sh", "-c", hide, "sh", room.path("empty"), os.path.realpath("/bin")]
+    try:
+        subprocess.run([*starter, room.program, "--version"], capture_output=True, check=True)
+    except (OSError, subprocess.CalledProcessError) as why:
+        raise Skipped("nothing may be hidden from a program here") from why
+    room.starter = starter
+    with room.server() as server:
+        ban(room)
+        server.wait_said("ERROR [web/note] ban failed: not started", 3)
+        server.wait_said("ERROR [web/note] ban given up")
+        server.turn()
+
+
+def a_command_signals_its_group(room):
+    """a command that signals its own process group signals the server"""
+    act(room, actionban="kill -s TERM 0")
+    with room.server(start_new_session=True) as server:
+        ban(room)
+        server.wait_ended(-signal.SIGTERM)
+
+
 def a_command_is_too_long(room):
     """a command of 64 KiB is run, and one that is longer than the system takes is not started"""
     act(room, actionstart="echo " + "a" * 65_536 + " >> {done}", actionban="echo " + "a" * 140_000 + " >> {done}")
@@ -282,18 +366,56 @@ def a_command_is_too_long(room):
         server.wait_said("ERROR [web/note] ban failed: not started")
 
 
+def shells(count):
+    """How many seconds so many shells take here now, one behind the other."""
+    begin = time.monotonic()
+    for _ in range(count):
+        subprocess.run(["sh", "-c", "true"], check=True)
+    return time.monotonic() - begin
+
+
 def a_lane_does_not_wait(room):
     """a hundred bans of one jail are made well before a hundred pauses are over, one behind the other"""
     act(room, actionban="echo <ip> >> {done}")
     addresses = [f"198.51.100.{number}" for number in range(100)]
     with room.server() as server:
         server.turn()
+        alone = shells(100)
         begin = time.monotonic()
         write(room.log, "".join(failures(*[address] * 3) for address in addresses), "a")
         wait_done(room, addresses)
         took = time.monotonic() - begin
-        want(took < 15, f"took {took:.1f} s")
+        alone = max(alone, shells(100))
+        # A hundred pauses are 25 s. On a busy machine shells are slow by themselves.
+        want(took < 15 + 4 * alone, f"took {took:.1f} s, and a hundred shells {alone:.1f} s")
         server.turn()
+
+
+def reads(server):
+    """How often a server has read from a file so far."""
+    try:
+        with open(f"/proc/{server.pid}/io", encoding="utf-8") as file:
+            return int(dict(line.split(": ") for line in file)["syscr"])
+    except (OSError, KeyError) as why:
+        raise Skipped("the system does not tell what a process reads") from why
+
+
+def pauses_are_made_behind_commands(room):
+    """a server that has found failures and run commands pauses as any other"""
+    act(room, actionstart="echo start >> {done}", actionban="echo ban >> {done}", timeout="1")
+    write(room.path("conf/action.d/late.conf"), f"[Definition]\ntimeout = 1\nactionstart = {ENDLESS.format(pid=room.path('pid'))}\n")
+    room.configure(more="action = note\n    late\n")
+    with room.server() as server:
+        ban(room)
+        wait_done(room, ["start", "ban"])
+        server.wait_said("ERROR [web/late] start given up")
+        wait_for(lambda: not children(server), "the end of all commands")
+        server.turn()
+        before = reads(server)
+        time.sleep(3)
+        made = reads(server) - before
+    # Some four a turn, of which there are twelve at most.
+    want(made <= 150, f"{made} reads in three seconds")
 
 
 def a_log_is_watched(room):
@@ -317,7 +439,10 @@ CHECKS = [
     a_command_that_fails_is_tried_three_times,
     a_command_that_is_not_there_fails,
     a_command_is_timed_out,
+    a_command_starts_more,
     a_check_fails,
+    a_check_is_timed_out,
+    a_check_is_too_long,
     a_command_goes_away,
     a_command_knows_little,
     a_command_writes,
@@ -325,10 +450,14 @@ CHECKS = [
     a_server_without_errors,
     commands_end_with_the_server,
     commands_end_with_a_fault,
+    commands_are_told_apart,
     sixteen_commands_run,
     many_lanes_start,
     no_process_is_to_be_had,
+    a_shell_is_not_there,
+    a_command_signals_its_group,
     a_command_is_too_long,
     a_lane_does_not_wait,
+    pauses_are_made_behind_commands,
     a_log_is_watched,
 ]

@@ -2,7 +2,7 @@
 
 import os
 
-from room import as_nobody, failures, same, write
+from room import JAIL, as_nobody, failures, same, write
 
 READY = ["INFO Server ready"]
 TOO_LARGE = ["ERROR Configuration too large"]
@@ -96,9 +96,28 @@ def wildcard_has_no_directory(room):
     same((status, said), (0, [f"WARNING [web] cannot read {path}", *READY]), "said")
 
 
+def more_jails(room, count):
+    """So many jails more, which all follow the log of the first one, with patterns that are quickly built."""
+    text = JAIL.format(log=room.log, maxretry=3, bantime=60).replace("= Epoch", "= {NONE}").replace("^ fail from <ADDR>$", "fail from <IP4>$")
+    return "".join("\n" + text.replace("[web]", f"[web{number}]") for number in range(count))
+
+
+def most_jails(room):
+    """256 jails are run, each with what is found in a log of all of them, and 257 are refused"""
+    room.configure(more=more_jails(room, 254))
+    write(room.log, failures("192.0.2.7"))
+    status, said, errors = room.run("--conf", room.conf, "--turns", "1")
+    same((status, errors), (0, ""), "end")
+    wanted = ["INFO Server ready", "INFO [web] Found 192.0.2.7", *[f"INFO [web{number}] Found 192.0.2.7" for number in range(254)]]
+    same([line.split(" ", 1)[1] for line in said.splitlines()], wanted, "said")
+    room.configure(more=more_jails(room, 255))
+    room.ends(4, ["ERROR Configuration refused: jail.conf [probe] enabled: TooMany"], "--conf", room.conf)
+
+
 CHECKS = [
     most_files,
     most_bytes,
+    most_jails,
     files_of_other_kinds,
     later_file_counts,
     place_is_written_otherwise,

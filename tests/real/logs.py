@@ -79,6 +79,32 @@ def log_is_replaced(room):
         same(server.said(), [READY, found("192.0.2.1"), rotated(room), found("192.0.2.2"), found("192.0.2.3")], "said")
 
 
+def log_is_edited(room):
+    """a log that is edited to be shorter is another one, and what is left in it is found again"""
+    write(room.log, failures("192.0.2.1", "192.0.2.2", "192.0.2.3"))
+    with room.server() as server:
+        server.wait_said(found("192.0.2.3"))
+        server.turn()
+        write(room.path("next"), failures("192.0.2.2", "192.0.2.3"))
+        os.rename(room.path("next"), room.log)
+        server.wait_said(found("192.0.2.3"), 2)
+        wanted = [READY, *[found(f"192.0.2.{number}") for number in [1, 2, 3]], rotated(room), found("192.0.2.2"), found("192.0.2.3")]
+        same(server.said(), wanted, "said")
+
+
+def log_is_replaced_by_its_like(room):
+    """a log that is replaced by one with the same first 64 bytes that is no shorter is taken for the same"""
+    head = "nothing to see in this line, which is always the first one of this log\n"
+    write(room.log, head + failures("192.0.2.1"))
+    with room.server() as server:
+        server.wait_said(found("192.0.2.1"))
+        server.turn()
+        write(room.path("next"), head + failures("192.0.2.2", "192.0.2.3"))
+        os.rename(room.path("next"), room.log)
+        server.wait_said(found("192.0.2.3"))
+        same(server.said(), [READY, found("192.0.2.1"), found("192.0.2.3")], "said")
+
+
 def log_is_not_there(room):
     """of a log that is not there nothing is said, and it is found when it comes, and when its directory comes"""
     room.configure(log=room.path("later/web.log"))
@@ -219,6 +245,8 @@ CHECKS = [
     log_is_moved_away,
     log_is_cut,
     log_is_replaced,
+    log_is_edited,
+    log_is_replaced_by_its_like,
     log_is_not_there,
     log_may_not_be_read,
     log_is_of_another_kind,

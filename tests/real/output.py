@@ -94,6 +94,32 @@ def output_would_block(room):
     slow(room, blocking=False)
 
 
+def pauses(number):
+    """How often a process has waited so far, as the system counts it."""
+    with open(f"/proc/{number}/status", encoding="utf-8") as file:
+        return [line for line in file if line.startswith("voluntary")]
+
+
+def nobody_takes_the_output(room):
+    """where standard output would block for a minute the server ends with status 9, and not before"""
+    write(room.log, failures(*[f"198.51.100.{number}" for number in range(200)]))
+    read_end, write_end = os.pipe()
+    os.set_blocking(write_end, False)
+    fcntl.fcntl(write_end, getattr(fcntl, "F_SETPIPE_SZ", 1031), PAGE)
+    begin = time.monotonic()
+    process = subprocess.Popen(room.words(), stdin=subprocess.DEVNULL, stdout=write_end)
+    try:
+        # On a busy machine its pauses are longer, and so is the minute.
+        wait_for(lambda: process.poll() is not None, "the end", lambda: pauses(process.pid))
+        same(process.returncode, 9, "status")
+        want(time.monotonic() - begin >= 60, "a minute is not over")
+    finally:
+        process.kill()
+        process.wait()
+        os.close(write_end)
+        os.close(read_end)
+
+
 def input_is_closed(room):
     """a server whose standard input and errors are closed runs as any other"""
     def close():
@@ -109,4 +135,13 @@ def input_is_closed(room):
     same(lines, ["INFO Server ready", "INFO [web] Found 192.0.2.7"], "said")
 
 
-CHECKS = [output_is_full, output_becomes_full, output_is_closed, reader_has_gone, reader_is_slow, output_would_block, input_is_closed]
+CHECKS = [
+    output_is_full,
+    output_becomes_full,
+    output_is_closed,
+    reader_has_gone,
+    reader_is_slow,
+    output_would_block,
+    nobody_takes_the_output,
+    input_is_closed,
+]

@@ -9,6 +9,9 @@ import time
 # How many seconds a check waits for what has to come while nothing else comes, on a machine that is busy with other work.
 PATIENCE = 180
 
+# How many seconds a program may take that is run to its end, which tells nothing meanwhile.
+LONG_PATIENCE = 5 * PATIENCE
+
 # A user that may read only what all may.
 NOBODY = 65534
 
@@ -71,9 +74,9 @@ def write(path, content, mode="w"):
         file.write(data)
 
 
-def failures(*addresses):
-    """A line for each address, dated now."""
-    now = int(time.time())
+def failures(*addresses, ahead=0):
+    """A line for each address, dated now, or so many seconds ahead of it."""
+    now = int(time.time()) + ahead
     return "".join(f"{now} fail from {address}\n" for address in addresses)
 
 
@@ -98,6 +101,8 @@ class Room:
         self.place = place
         self.conf = os.path.join(place, "conf")
         self.log = os.path.join(place, "web.log")
+        # The words in front of the server's, of what starts it.
+        self.starter = []
         os.mkdir(self.conf)
         os.chmod(place, 0o755)
         self.configure()
@@ -111,16 +116,16 @@ class Room:
         return os.path.join(self.place, name)
 
     def words(self, *more):
-        return [self.program, "--conf", self.conf, *more]
+        return [*self.starter, self.program, "--conf", self.conf, *more]
 
     def run(self, *words, program=None, **how):
         """Runs the server, or another program, with these words to its end, and gives its status, what it said and its errors."""
         with tempfile.TemporaryFile() as errors:
             how = {"stdin": subprocess.DEVNULL, "stdout": subprocess.PIPE, "stderr": errors, **how}
             try:
-                ended = subprocess.run([program or self.program, *words], timeout=PATIENCE, check=False, **how)
+                ended = subprocess.run([program or self.program, *words], timeout=LONG_PATIENCE, check=False, **how)
             except subprocess.TimeoutExpired as late:
-                raise Failed(f"did not end within {PATIENCE} s") from late
+                raise Failed(f"did not end within {LONG_PATIENCE} s") from late
             errors.seek(0)
             said = (ended.stdout or b"").decode()
             return ended.returncode, said, errors.read().decode()

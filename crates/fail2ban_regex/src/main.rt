@@ -2,6 +2,13 @@
 //!
 //! What a test is, is in the crates below, over traits of the outside. Here stand these traits over the operating system, and the
 //! words that the program is called with. That files, the clock and standard output are what the system says they are is trusted.
+//! Nothing here knows what a test is.
+//!
+//! ```text
+//! let mut output = Output::new(rt.clone()?);
+//! let mut files = RealFiles::new(rt);
+//! Ok(regex_tool(alloc, words, now, &mut files, &mut output).number())
+//! ```
 #![tactic(auto)]
 
 mod fault;

@@ -12,6 +12,7 @@ pub fn read_clock(rt: &impl Clock, last: Reading) -> Reading {
     match now.duration_since(UNIX_EPOCH) {
         Ok(since) => Reading {
             secs: since.as_secs(),
+            // It differs from reading to reading: the random part of a ban is made of it.
             word: u64::from(since.subsec_nanos()),
         },
         Err(_) => last,

@@ -59,6 +59,7 @@ impl<P: OpenProcess + Drop> Commands<P> {
         };
         match self.running[place].shell.try_wait() {
             Ok(Some(status)) => {
+                // They stand in no order: each is found by its job.
                 let _ = self.running.swap_remove(place);
                 PollAnswer::Ended(status_of(status))
             }

@@ -2,7 +2,13 @@
 //!
 //! What the server does is in the crates below, over traits of the outside. Here stand these traits over the operating system,
 //! and the words that the program is called with. Nothing here is told as a history: that files, the clock and standard output
-//! are what the system says they are is trusted.
+//! are what the system says they are is trusted. Nothing here knows what a call is made for, but for the words of help.
+//!
+//! ```text
+//! let mut world = RealWorld::new(rt, errors);
+//! let number = server(alloc, words.as_slice(), &mut world).number();
+//! world.end_commands();
+//! ```
 #![tactic(auto)]
 
 mod clock;

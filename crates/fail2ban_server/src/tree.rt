@@ -211,6 +211,7 @@ fn read_files<R: Files + AllocGlobal>(
     ensures fits { IfOk result (λ tree. FitsTree (ConfigTree tree)) }
 {
     let mut files = Seq::new(rt.alloc());
+    // Counted once more: a file may have grown since it was walked.
     let mut left = MOST_BYTES;
     for path in paths {
         let place = joined(rt.alloc(), root, path.as_str())?;

@@ -22,6 +22,7 @@ pub(crate) fn wait<R: Files + Clock + Processes + AllocGlobal>(
     let step = STEP.saturating_mul(watched.steps());
     let mut slept: u64 = 0;
     let mut looked: u64 = 0;
+    // Each nap takes a microsecond at least, so there are no more of them.
     for _ in 0..most {
         if slept >= most || commands.has_ended() {
             return;

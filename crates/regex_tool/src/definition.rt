@@ -17,7 +17,7 @@ use f2b_world::Files;
 use jail_conf::{ConfFail, Fail, Settings, conf};
 use std::alloc::Global;
 
-/// A jail with these patterns of failures.
+/// A jail with these patterns of failures. What a test does not look at has some value that a jail may have.
 fn plain_jail(alloc: Global, fail: Seq<Text>) -> Result<JailDef, NoMemory>
     ensures { IfOk result (λ jail. jail ≡ plain_jail fail) }
 {
@@ -103,6 +103,7 @@ fn filter_tree(alloc: Global, target: Target<'_>, tree: &Tree) -> Result<Tree, N
             files.push(file.copy()?)?;
         }
     }
+    // A tree stands in byte order, and `jail.conf` behind all of `filter.d/`.
     files.push(jail_file(alloc, target)?)?;
     Ok(Tree { files })
 }

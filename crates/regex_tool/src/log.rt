@@ -85,6 +85,7 @@ impl<'f> LogTest<'f> {
     pub(crate) fn feed(&mut self, bytes: &[u8]) -> Result<(), NoMemory>
         ensures { OnOk result ((jail : JailDef) (shows : Shows) (now : ℕ) (seen : List ℕ) → HasRead jail shows now self.old seen → HasRead jail shows now self.new (seen ++ bytes.now)) }
     {
+        // The carry of a long line is its length, which has to stay a number.
         if self.carry.len().checked_add(bytes.len() as u64).is_none() {
             return Err(NoMemory);
         }

@@ -27,6 +27,7 @@ fn read_log<F: Files>(files: &mut F, path: &str, test: &mut LogTest<'_>) -> Resu
     ensures opened { IsOpened (F.stands files.old) (F.stands files.new) }
 {
     let mut at: u64 = 0;
+    // Each piece has a byte at least, so no file has more; and so it is seen that the reading ends.
     for _piece in 0..u64::MAX {
         match files.piece(path, at, LOOK_BYTES) {
             FilePiece::Bytes(bytes) if bytes.is_empty() => return Ok(true),

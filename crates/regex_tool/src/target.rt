@@ -38,6 +38,7 @@ fn is_jail_name(name: &[u8]) -> bool
 fn is_filter_name(name: &str) -> bool
     ensures { result ≡ is_filter_name name.now }
 {
+    // These sections of a `jail.conf` are no jails.
     is_jail_name(name.as_bytes()) && !(name == "DEFAULT" || name == "INCLUDES")
 }
 

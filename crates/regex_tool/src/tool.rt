@@ -28,6 +28,7 @@ fn tested<F: Files>(
 {
     let jail = definition(alloc, asked, files)?;
     let filter = build(alloc, files, &jail)?;
+    // As the server takes its readings.
     let now = now.min(LATEST_READING);
     let results = results(alloc, files, &jail, &filter, asked, now)?;
     Ok(output(alloc, asked.shows, &jail, &results)?)

@@ -3,6 +3,11 @@
 //! `first_turn` reads the clock, lists the directory of each path with a wildcard, and takes the configuration with the paths that were
 //! found as the first input. `follow` then follows the logs of its jails, each from the place that the core keeps of it. Nothing here
 //! reads a configuration, builds a pattern or looks at a log.
+//!
+//! ```text
+//! let clocked = first_turn(alloc, world, plan, &settings)?;      // `Server ready` is said
+//! let logs = follow(alloc, filters.as_slice(), &clocked)?;       // the filters of `run_trees`, in the order of the jails
+//! ```
 #![tactic(auto)]
 
 mod begin;

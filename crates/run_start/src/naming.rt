@@ -77,6 +77,7 @@ fn name_next<'p, W: World + Directories>(
         before,
     } = walk;
     let (path, rest) = first_of(left);
+    // What the last listing told comes before any other call.
     let clocked = bring(alloc, world, clocked, before.as_slice(), None, &[])?;
     let Listing { names, unread } = list(alloc, world, clocked.now, path)?;
     push_expanded(alloc, &mut found, path, &names)?;

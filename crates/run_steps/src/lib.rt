@@ -3,6 +3,11 @@
 //! A part of a run calls the outside once, and hands what the answer brings to `bring`: lines that come first, what happened, and
 //! lines that come behind. There the step is made, and all lines are said in one call. What the code keeps of a server for that is
 //! `Clocked`, and each clause here says from where to where the law of a run goes. Nothing here looks at a log or reads a clock.
+//!
+//! ```text
+//! let clocked = bring(alloc, world, clocked, &[], Some(What::Tick), &[])?; // bans that are due have ended, and each end is said
+//! return Err(refuse(alloc, world, clocked.now, Status::NumbersSpent));     // why the run ends is said, and then it ends so
+//! ```
 #![tactic(auto)]
 
 mod clocked;

@@ -38,6 +38,7 @@ fn build_filter<W: World>(alloc: Global, world: &mut W, jail: &JailDef) -> Resul
                 place,
                 kind,
             };
+            // No clock was read yet: the line has the second 0.
             Err(refuse(alloc, world, 0, refusal))
         }
     }

@@ -2,12 +2,12 @@
 //!
 //! A configuration that could not be read or that is refused ends the run here, and so does the first pattern that is not built. The
 //! refusal is said before the run ends, unless its line cannot be said. What is handed up is the configuration, and a filter for each
-//! of its jails, in their order:
+//! of its jails, in their order. Nothing here reads a clock or knows what a server keeps.
 //!
-//!     let settings = read_settings(alloc, world, plan)?;
-//!     let filters = build_filters(alloc, world, plan, &settings)?;
-//!
-//! Nothing here reads a clock or knows what a server keeps.
+//! ```text
+//! let settings = read_settings(alloc, world, plan)?;
+//! let filters = build_filters(alloc, world, plan, &settings)?;
+//! ```
 #![tactic(auto)]
 
 mod filters;

@@ -66,6 +66,7 @@ pub fn read_settings<W: World>(
     let answer = world.config(plan.root.as_str());
     match take_answer(alloc, answer)? {
         Ok(settings) => Ok(settings),
+        // No clock was read yet: the line has the second 0.
         Err(refusal) => Err(refuse(alloc, world, 0, refusal)),
     }
 }

@@ -5,6 +5,11 @@
 //! stands in `run_trees` and `run_start`, the looks of a turn in `turn_logs` and its commands in `turn_children`; here are the words, the
 //! clock, the pause, and the order in which all follow each other. No thread, file or clock is known here but through the traits of
 //! `f2b_world`.
+//!
+//! ```text
+//! let status = server(alloc, words.as_slice(), &mut world); // --conf DIR --turns 12: twelve turns, unless something ends it before
+//! ExitCode::from(status.number())
+//! ```
 #![tactic(auto)]
 
 mod clock;

@@ -12,6 +12,7 @@ pub fn number(alloc: Global, text: &str) -> Result<Option<u64>, NoMemory>
     let Ok(value) = text.parse::<u64>() else {
         return Ok(None);
     };
+    // `parse` reads `+7` and `007` too.
     let canonical = format!(in alloc; "{value}")?;
     if canonical.as_str() == text {
         Ok(Some(value))

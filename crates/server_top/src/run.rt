@@ -52,6 +52,7 @@ fn serve<W: World + Directories + Children>(
     ensures err { IfErr result (Halts (W.stands world.old).told (W.stands world.new).told (opening plan.now)) }
     ensures cause { IfErr result (HasCause (W.stands world.old) (W.stands world.new)) }
 {
+    // The logs borrow the filters, which so stand here until the run is over.
     let (filters, clocked) = prepare(alloc, world, plan)?;
     let logs = follow(alloc, filters.as_slice(), &clocked)?;
     let running = Running {

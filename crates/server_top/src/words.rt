@@ -35,6 +35,7 @@ pub fn read_words(alloc: Global, words: &[String]) -> Result<Option<Plan>, NoMem
             if conf.as_str() != "--conf" {
                 return Ok(None);
             }
+            // So many turns are never made: the run has no end of its own.
             plan_in(alloc, root.as_str(), u64::MAX)
         }
         [conf, root, turns, count] => {

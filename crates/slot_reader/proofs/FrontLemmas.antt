@@ -1,8 +1,8 @@
 -- What stands at the front of a window.
-use Rattle.std.proofs.Common.{ℕ, ◌≡◌, ◌+◌, ◌-◌, ◌<◌, ◌≤◌, inl, inr, List, [], ◌∷◌, ◌++◌, length, drop, slice_index, Result, Ok, Err, length-append, refl, sym, ap, ◌∙◌, arith}
+use Rattle.std.proofs.Common.{ℕ, ◌≡◌, ◌-◌, ◌≤◌, inl, inr, List, [], ◌∷◌, length, drop, slice_index, Ok, Err, length-append, refl, sym, ap, ◌∙◌, arith}
 use Rattle.f2b_base.specs.declared.input.Input.{Input}
 use Rattle.journal_slots.specs.Grammar.{number_of}
-use Rattle.journal_slots.specs.Starts.{Start, start, generation}
+use Rattle.journal_slots.specs.Starts.{start, generation}
 use Rattle.journal_slots.proofs.StartLemmas.{start_codec}
 use Rattle.record_codec.specs.declared.version.Version.{Version as Spelling}
 use Rattle.record_codec.specs.Inputs.{input}
@@ -53,11 +53,11 @@ pub ruleset items = (item_closed, item_none, item_taken, item_bad)
 
 -- ---- at the front of bytes of which the first is read
 
-pub lead_found : (bytes : List ℕ) (len : ℕ) (b : Begun) (rest : List ℕ) → IsBytes bytes → 1 ≤ length bytes → ¬ (slice_index bytes 0 ≡ 0) → start.read (drop 1 bytes) ≡ Ok (start_in b, rest) → len ≡ length bytes - length rest → IsLead bytes (Opens b len)
-lead_found [] len b rest ok long on is len_is = absurd (omega (arith, long))
-lead_found (gate ∷ behind) len b rest ok long on is len_is = lead_opens gate len b behind rest on (IsBytes-tail gate behind ok) is len_is
+pub lead_found : (bytes behind : List ℕ) (len : ℕ) (b : Begun) (rest : List ℕ) → behind ≡ drop 1 bytes → IsBytes bytes → 1 ≤ length bytes → ¬ (slice_index bytes 0 ≡ 0) → start.read behind ≡ Ok (start_in b, rest) → len ≡ length bytes - length rest → IsLead bytes (Opens b len)
+lead_found [] behind len b rest behind_is ok long on is len_is = absurd (omega (arith, long))
+lead_found (gate ∷ more) behind len b rest behind_is ok long on is len_is = lead_opens gate len b more rest on (IsBytes-tail gate more ok) (sym (ap start.read behind_is) ∙ is) len_is
 
-pub item_found : (version : Spelling) (bytes : List ℕ) (len : ℕ) (i : Input) (rest : List ℕ) → IsBytes bytes → 1 ≤ length bytes → ¬ (slice_index bytes 0 ≡ 0) → (input version).read (drop 1 bytes) ≡ Ok (i, rest) → len ≡ length bytes - length rest
+pub item_found : (version : Spelling) (bytes behind : List ℕ) (len : ℕ) (i : Input) (rest : List ℕ) → behind ≡ drop 1 bytes → IsBytes bytes → 1 ≤ length bytes → ¬ (slice_index bytes 0 ≡ 0) → (input version).read behind ≡ Ok (i, rest) → len ≡ length bytes - length rest
     → IsItem version bytes (Taken i len)
-item_found version [] len i rest ok long on is len_is = absurd (omega (arith, long))
-item_found version (gate ∷ behind) len i rest ok long on is len_is = item_taken version gate len i behind rest on (IsBytes-tail gate behind ok) is len_is
+item_found version [] behind len i rest behind_is ok long on is len_is = absurd (omega (arith, long))
+item_found version (gate ∷ more) behind len i rest behind_is ok long on is len_is = item_taken version gate len i more rest on (IsBytes-tail gate more ok) (sym (ap (input version).read behind_is) ∙ is) len_is

@@ -1,5 +1,5 @@
 -- What a window over a slot tells of the whole slot.
-use Rattle.std.proofs.Common.{ℕ, ◌≡◌, ◌+◌, ◌-◌, ◌<◌, ◌≤◌, ◌==◌, ◌||◌, nat_lt, false, min, List, [], ◌∷◌, ◌++◌, length, take, drop, Result, Ok, Err, length-append, refl, sym, ap, ap₂, ◌∙◌, append_assoc, append-nil, subst, arith}
+use Rattle.std.proofs.Common.{ℕ, ◌≡◌, ◌+◌, ◌-◌, ◌<◌, ◌≤◌, ◌==◌, ◌||◌, nat_lt, false, List, [], ◌∷◌, ◌++◌, length, take, drop, Result, Ok, Err, length-append, sym, ap, ap₂, ◌∙◌, append_assoc, append-nil, subst, arith}
 use Rattle.std.proofs.lemmas.Bool.{le-ltb, cond-false}
 use Rattle.std.proofs.lemmas.List.{length-take, length-drop, drop_all, take-append-drop}
 use Rattle.std.proofs.Math.Seq.{take-append_seam}
@@ -10,7 +10,7 @@ use Rattle.journal_slots.specs.Grammar.{Opened, Empty, Open, Bad, inputs_at, ope
 use Rattle.journal_slots.specs.Starts.{Start, start, generation, IsHead}
 use Rattle.journal_slots.proofs.RunLemmas.{not_closed}
 use Rattle.journal_slots.proofs.StartLemmas.{start_codec}
-use Rattle.journal_slots.proofs.SlotLemmas.{front_parses, front_ends, front_bad, start_bad, front_more, fresh_front, closed_empty, short_empty}
+use Rattle.journal_slots.proofs.SlotLemmas.{front_parses, front_ends, front_bad, start_bad, front_more, fresh_front, closed_empty}
 use Rattle.record_codec.specs.Inputs.{input}
 use Rattle.record_fields.specs.Codec.{IsHeld}
 use Rattle.record_fields.proofs.CodecLemmas.{bind_ok, ok_is}

@@ -1,14 +1,14 @@
 -- A reader that stops has left no more bytes than there were, whether it reads a value or finds none.
-use Rattle.std.proofs.Common.{◌≡◌, ℕ, zero, suc, ◌+◌, ◌-◌, ◌*◌, ◌^◌, ◌<◌, ◌≤◌, Bool, true, false, cond, ◌==◌, ◌&&◌, nat_lt, nat_le, List, [], ◌∷◌, ◌++◌, length, take, drop, Option, Some, None, Result, Ok, Err, option_and_then, refl, arith}
+use Rattle.std.proofs.Common.{ℕ, zero, suc, ◌+◌, ◌-◌, ◌*◌, ◌^◌, ◌≤◌, Bool, true, false, cond, ◌==◌, ◌&&◌, nat_lt, nat_le, List, [], ◌∷◌, ◌++◌, length, take, drop, Option, Some, None, Result, Ok, Err, option_and_then, arith}
 use Rattle.std.specs.Int.{Width, w32, w64, byte_len, from_be_bytes}
 use Rattle.std.specs.Str.{is_utf8}
 use Rattle.std.proofs.lemmas.List.{length-drop}
-use Rattle.f2b_base.specs.declared.addr.Addr.TheVariants.{V4, V6}
+use Rattle.f2b_base.specs.declared.addr.Addr.TheVariants.{V6}
 use Rattle.f2b_base.specs.Addresses.{is_mapped}
 use Rattle.record_fields.specs.Addresses.{fixed_at, sixteen_at, addr_at, addr, bits_of, bits, cidr}
 use Rattle.record_fields.specs.Codec.{◌>>=◌, Reads, as_made, Codec, and_then, both, made, fit, checked, coded, Cases, case, no_case, field, option_of}
 use Rattle.record_fields.specs.Lists.{is_few, items_at, list_at, each_at, each_list_at, listed, each_of}
-use Rattle.record_fields.specs.Numbers.{digits_at, number_at, number, at_most, between, unzigzag, signed}
+use Rattle.record_fields.specs.Numbers.{digits_at, number_at, number, at_most, between, signed}
 use Rattle.record_fields.specs.Small.{flag}
 use Rattle.record_fields.specs.Texts.{string_at, string, text, short}
 

@@ -1,5 +1,5 @@
 -- No reader of a view or an input leaves more bytes than there were.
-use Rattle.std.proofs.Common.{ℕ, List, Option, Some, None}
+use Rattle.std.proofs.Common.{ℕ, List}
 use Rattle.f2b_base.specs.declared.ban.Until.{Until}
 use Rattle.f2b_base.specs.declared.input.What.{What}
 use Rattle.f2b_base.specs.declared.jail.DateSpec.{DateSpec}
@@ -18,9 +18,9 @@ use Rattle.record_codec.specs.declared.version.Version.{Version}
 use Rattle.record_codec.specs.declared.version.Version.TheVariants.{One, Two}
 use Rattle.record_codec.specs.Definitions.{name, watch_def, place, head_at, pattern, date, base, factor, ban_rule, family, action_def, zone, jail_def, defs}
 use Rattle.record_codec.specs.Inputs.{read_fields, ended_fields, ban_fields, unban_fields, read_at, ended_at, config_at, ban_at, unban_at, attempt_at, ignore_at, findtime_at, bantime_at, maxretry_at, idle_at, check_failed_at, what, input}
-use Rattle.record_codec.specs.Lanes.{lane_id, up_lane, job, outcome}
+use Rattle.record_codec.specs.Lanes.{lane_id, up_lane, began, kind, tries, job, outcome}
 use Rattle.record_codec.specs.Versions.{failure_v1, failure_v2, failure}
-use Rattle.record_codec.specs.Views.{until, ban, past, path_of, watch_view, watches_at, watches, jail_fields, jail_view, jails_at, jail_views, view}
+use Rattle.record_codec.specs.Views.{until, ban, past, watch_spelling, jail_spelling, path_of, watch_view, watches_at, watches, jail_fields, jail_view, jails_at, jail_views, view}
 use Rattle.record_fields.specs.Codec.{no_case}
 use Rattle.record_fields.specs.Numbers.{number}
 use Rattle.record_fields.specs.Small.{moment, span, count}
@@ -123,11 +123,20 @@ up_lane_leaves : LeavesNoMore up_lane
 unfolding up_lane
 up_lane_leaves = fit_leaves _ _ (made_leaves _ _ _ (both_leaves _ _ name_leaves action_def_leaves))
 
+began_leaves : LeavesNoMore began
+began_leaves = at_most_leaves _
+
+kind_leaves : LeavesNoMore kind
+kind_leaves = coded_leaves _ _ _
+
+tries_leaves : LeavesNoMore tries
+tries_leaves = coded_leaves _ _ _
+
 job_leaves : LeavesNoMore job
 unfolding job
 job_leaves = fit_leaves _ _ (made_leaves _ _ _
-    (both_leaves _ _ (at_most_leaves _) (both_leaves _ _ lane_id_leaves (both_leaves _ _ (coded_leaves _ _ _) (both_leaves _ _ (option_leaves _ addr_leaves)
-    (both_leaves _ _ text_leaves (both_leaves _ _ span_leaves (both_leaves _ _ (coded_leaves _ _ _) moment_leaves))))))))
+    (both_leaves _ _ began_leaves (both_leaves _ _ lane_id_leaves (both_leaves _ _ kind_leaves (both_leaves _ _ (option_leaves _ addr_leaves)
+    (both_leaves _ _ text_leaves (both_leaves _ _ span_leaves (both_leaves _ _ tries_leaves moment_leaves))))))))
 
 outcome_leaves : LeavesNoMore outcome
 unfolding outcome
@@ -162,7 +171,7 @@ watch_view_leaves d = record { within = as_made_leaves _ _ (both_leaves (path_of
 
 watches_leaves : (ds : List WatchDef) → LeavesNoMore (watches ds)
 unfolding watches_at
-watches_leaves ds = record { within = (each_leaves _ watch_view ds watch_view_leaves).within }
+watches_leaves ds = record { within = (each_leaves watch_spelling watch_view ds watch_view_leaves).within }
 
 jail_view_leaves : (version : Version) (at : ℕ) (d : JailDef) → LeavesNoMore (jail_view version at d)
 unfolding jail_view
@@ -174,7 +183,7 @@ jail_view_leaves version at d = record {
 
 jail_views_leaves : (version : Version) (at : ℕ) (ds : List JailDef) → LeavesNoMore (jail_views version at ds)
 unfolding jails_at
-jail_views_leaves version at ds = record { within = (each_leaves _ (jail_view version at) ds (jail_view_leaves version at)).within }
+jail_views_leaves version at ds = record { within = (each_leaves (jail_spelling version) (jail_view version at) ds (jail_view_leaves version at)).within }
 
 pub view_leaves : (version : Version) → LeavesNoMore (view version)
 unfolding view

@@ -1,18 +1,18 @@
 -- What calls that read the disk tell, one behind the other.
-use Rattle.std.proofs.Common.{ℕ, ◌≡◌, ◌≢◌, ◌+◌, ◌≤◌, ◌<◌, Option, Some, None, List, [], ◌∷◌, ◌++◌, length, take, drop, refl, sym, ap, subst, ◌∙◌, arith}
+use Rattle.std.proofs.Common.{ℕ, ◌≡◌, ◌≢◌, Option, Some, None, List, [], ◌∷◌, ◌++◌, length, take, drop, refl, sym, ap, subst, ◌∙◌, arith}
 use Rattle.std.proofs.lemmas.Option.{none-some, same_Some}
 use Rattle.f2b_world.specs.declared.answer.Len.{Len}
 use Rattle.f2b_world.specs.declared.answer.Len.TheVariants.{Bytes as LenBytes, Failed as LenFailed}
 use Rattle.f2b_world.specs.declared.answer.Piece.TheVariants.{Bytes as PieceBytes, Failed as PieceFailed}
 use Rattle.f2b_world.specs.declared.event.Event.{Event}
 use Rattle.f2b_world.specs.declared.event.Event.TheVariants.{DiskLen, DiskRead}
-use Rattle.f2b_world.specs.Faults.{Fault as Kind, OfDisk, Rose}
+use Rattle.f2b_world.specs.Faults.{Fault as Kind, OfDisk}
 use Rattle.f2b_world.specs.Slots.{Slot, slot_step, slot_after, settled}
-use Rattle.f2b_world.specs.Told.{History, Standing, Called, Adds, IsHonest, Leaves, grown, slot_of}
+use Rattle.f2b_world.specs.Told.{History, Standing, Called, Adds, IsHonest, grown, slot_of}
 use Rattle.f2b_world.proofs.AddsLemmas.{adds_weaker, adds_then, adds_none}
 use Rattle.slot_reader.specs.declared.fault.Fault.{Fault}
 use Rattle.slot_reader.specs.declared.fault.Fault.TheVariants.{Disk, NoMemory}
-use Rattle.slot_reader.specs.Reads.{content, AreReads, OnlyReads, Tells, IsAllOf, IsPieceAt}
+use Rattle.slot_reader.specs.Reads.{AreReads, OnlyReads, Tells, IsAllOf, IsPieceAt}
 
 -- ---- no slot changes
 

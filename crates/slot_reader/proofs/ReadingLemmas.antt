@@ -1,5 +1,5 @@
 -- What a reader of a slot gives, and what is known of the slot then.
-use Rattle.std.proofs.Common.{ℕ, ◌≡◌, ◌+◌, ◌-◌, ◌<◌, ◌≤◌, ◌^◌, inl, inr, ◌⊎◌, true, false, Option, Some, None, List, [], ◌∷◌, ◌++◌, length, take, drop, Result, Ok, Err, IfOk, length-append, refl, sym, ap, ap₂, ◌∙◌, subst, arith}
+use Rattle.std.proofs.Common.{ℕ, ◌≡◌, ◌+◌, ◌-◌, ◌<◌, ◌≤◌, ◌^◌, inl, inr, Option, Some, None, List, [], ◌∷◌, ◌++◌, length, take, drop, Ok, Err, length-append, refl, sym, ap, ap₂, ◌∙◌, subst, arith}
 use Rattle.std.proofs.lemmas.Option.{none-some, same_Some}
 use Rattle.f2b_base.specs.declared.input.Input.{Input}
 use Rattle.f2b_base.specs.declared.view.View.{View}
@@ -8,14 +8,13 @@ use Rattle.f2b_world.specs.Told.{History, Standing}
 use Rattle.journal_slots.specs.declared.head.Head.TheVariants.{Short, Shut}
 use Rattle.journal_slots.specs.Fronts.{IsFront}
 use Rattle.journal_slots.specs.Grammar.{Bad, parse_slot}
-use Rattle.journal_slots.specs.Starts.{Start, start}
+use Rattle.journal_slots.specs.Starts.{start}
 use Rattle.journal_slots.proofs.SlotLemmas.{short_empty}
 use Rattle.record_codec.specs.Inputs.{input}
 use Rattle.record_fields.specs.Codec.{IsHeld}
 use Rattle.slot_reader.specs.declared.checked.Checked.{Checked}
-use Rattle.slot_reader.specs.declared.checked.Checked.TheVariants.{Empty as EmptyChecked, Open as OpenChecked, Bad as BadChecked}
+use Rattle.slot_reader.specs.declared.checked.Checked.TheVariants.{Open as OpenChecked, Bad as BadChecked}
 use Rattle.slot_reader.specs.declared.fault.Fault.{Fault}
-use Rattle.slot_reader.specs.declared.item.Item.{Item}
 use Rattle.slot_reader.specs.declared.item.Item.TheVariants.{Closed, Taken, Bad as BadItem}
 use Rattle.slot_reader.specs.declared.lead.Begun.{Begun}
 use Rattle.slot_reader.specs.declared.lead.Lead.TheVariants.{Shut as ShutLead, Opens, Bad as BadLead}
@@ -28,7 +27,7 @@ use Rattle.slot_reader.specs.declared.reader.SlotReader.{SlotReader}
 use Rattle.slot_reader.specs.declared.version.Version.{Version}
 use Rattle.slot_reader.specs.Fronts.{start_in, IsLead, IsItem}
 use Rattle.slot_reader.specs.Reads.{content, OnlyReads, IsAllOf}
-use Rattle.slot_reader.specs.Readings.{start_of, HasRead, EndsAt, IsNext, Reads, TellsNext, GoesOn, IsSameSlot, Stands, IsOpened, IsChecked, IsTold, ended_by}
+use Rattle.slot_reader.specs.Readings.{start_of, HasRead, EndsAt, Reads, TellsNext, GoesOn, IsSameSlot, IsOpened, IsChecked, IsTold, ended_by}
 use Rattle.slot_reader.specs.Versions.{spelling}
 use Rattle.slot_reader.specs.Windows.{Window, IsWithin, IsWhole, IsOver, Shows, IsAtPlaceOf}
 use Rattle.slot_reader.proofs.GrammarLemmas.{input_more, input_closed, input_missing, input_bad, start_shut, shut_head, start_opens, start_is_bad}

@@ -1,5 +1,5 @@
 -- Worked rows of windows and of what stands at their front, computed.
-use Rattle.std.proofs.Common.{◌≡◌, ℕ, inl, inr, List, [], ◌∷◌, Option, Some, None, Err, refl, lit<}
+use Rattle.std.proofs.Common.{inl, inr, [], ◌∷◌, refl, lit<}
 use Rattle.f2b_base.specs.declared.input.Input.{Input}
 use Rattle.f2b_base.specs.declared.input.What.TheVariants.{Tick}
 use Rattle.journal_slots.specs.Starts.{generation, version, start}
@@ -8,9 +8,9 @@ use Rattle.record_codec.specs.Inputs.{input, what}
 use Rattle.record_fields.specs.Addresses.{fixed_at}
 use Rattle.record_fields.specs.Numbers.{digits, digits_at, number_at}
 use Rattle.slot_reader.specs.declared.item.Item.TheVariants.{Closed, Taken, Bad as BadItem}
-use Rattle.slot_reader.specs.declared.lead.Lead.TheVariants.{Shut, Bad as BadLead}
+use Rattle.slot_reader.specs.declared.lead.Lead.TheVariants.{Bad as BadLead}
 use Rattle.slot_reader.specs.Fronts.{IsLead, IsItem}
-use Rattle.slot_reader.specs.Windows.{Window, IsWithin, IsWhole, IsOver}
+use Rattle.slot_reader.specs.Windows.{Window, IsWhole, IsOver}
 
 -- of the slot 01 02 03 04 05 the window shows 03 04
 abbrev middle : Window

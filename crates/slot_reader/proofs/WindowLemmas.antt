@@ -1,10 +1,10 @@
 -- A window that is moved on, and grows.
-use Rattle.std.proofs.Common.{ℕ, ◌≡◌, ◌+◌, ◌-◌, ◌≤◌, ◌<◌, ◌^◌, min, max, Option, Some, List, [], ◌++◌, length, take, drop, refl, sym, ap, ap₂, subst, ◌∙◌, length-append, arith}
-use Rattle.std.proofs.lemmas.List.{take-append-drop, length-take, length-drop, drop-drop, drop-take}
+use Rattle.std.proofs.Common.{ℕ, ◌≡◌, ◌+◌, ◌-◌, ◌≤◌, ◌<◌, ◌^◌, Option, List, [], ◌++◌, length, take, drop, refl, sym, ap, ap₂, subst, ◌∙◌, length-append, arith}
+use Rattle.std.proofs.lemmas.List.{take-append-drop, length-drop, drop-drop, drop-take}
 use Rattle.std.proofs.Math.Seq.{take-add}
 use Rattle.f2b_world.specs.Slots.{Slot}
 use Rattle.f2b_world.specs.Told.{History, HasLength, Standing}
-use Rattle.slot_reader.specs.Reads.{content, AreReads, OnlyReads, IsAllOf, IsPieceAt}
+use Rattle.slot_reader.specs.Reads.{content, OnlyReads, IsAllOf, IsPieceAt}
 use Rattle.slot_reader.specs.Windows.{Window, IsWithin, IsWhole, IsOver, Shows, IsAtPlaceOf}
 use Rattle.slot_reader.proofs.ReadLemmas.{told_before, reads_same, reads_then, tells_then}
 

@@ -1,6 +1,5 @@
 -- What stands at the front of a window.
 use Rattle.std.specs.Prelude.{ℕ, Bool, true, false, ◌≡◌, ◌+◌, ◌-◌, ◌<◌, ◌⊎◌, List, [], ◌∷◌, ◌++◌, length, Err}
-use Rattle.f2b_base.specs.declared.input.Input.{Input}
 use Rattle.journal_slots.specs.Grammar.{number_of}
 use Rattle.journal_slots.specs.Starts.{Start, start, generation}
 use Rattle.record_codec.specs.declared.version.Version.{Version as Spelling}

@@ -1,9 +1,8 @@
 -- What is known of a slot that is read from its front.
-use Rattle.std.specs.Prelude.{ℕ, ◌≡◌, ◌+◌, ◌<◌, ◌≤◌, Option, Some, None, List, [], ◌∷◌, ◌++◌, length, take, Result, Ok, Err}
+use Rattle.std.specs.Prelude.{ℕ, ◌≡◌, ◌<◌, Option, Some, None, List, [], ◌∷◌, ◌++◌, length, take, Result, Ok, Err}
 use Rattle.f2b_base.specs.declared.input.Input.{Input}
 use Rattle.f2b_base.specs.declared.view.View.{View}
 use Rattle.f2b_world.specs.Told.{History}
-use Rattle.journal_slots.specs.declared.head.Head.{Head}
 use Rattle.journal_slots.specs.Fronts.{IsFront}
 use Rattle.journal_slots.specs.Grammar.{Empty, Open, Bad, parse_slot}
 use Rattle.journal_slots.specs.Starts.{Start, IsHead, short_bytes}
@@ -16,7 +15,6 @@ use Rattle.slot_reader.specs.declared.opening.Opening.TheVariants.{Empty as Empt
 use Rattle.slot_reader.specs.declared.reader.Next.{Next}
 use Rattle.slot_reader.specs.declared.reader.Next.TheVariants.{Input as NextInput, Closed, Bad as BadNext}
 use Rattle.slot_reader.specs.declared.reader.SlotReader.{SlotReader}
-use Rattle.slot_reader.specs.declared.version.Version.{Version}
 use Rattle.slot_reader.specs.Reads.{content}
 use Rattle.slot_reader.specs.Versions.{spelling}
 use Rattle.slot_reader.specs.Windows.{IsOver, IsWithin, Shows}

@@ -35,6 +35,7 @@ fn command_launch(job: &Job, now: u64) -> Result<Launch, NoMemory>
 {
     Ok(Launch {
         child: child_of(job, Task::Command, now),
+        // A copy: the job stays with the core, which changes hands at the start.
         text: job.text.copy()?,
     })
 }

@@ -116,6 +116,7 @@ pub(crate) fn poll<'f, W: World + Children>(
     match outcome_of(world.child_poll(child.job)) {
         Some(outcome) => {
             let running = child_ended(alloc, world, running, place, child, outcome)?;
+            // The next one stands at this place now.
             Ok((running, place))
         }
         None => {

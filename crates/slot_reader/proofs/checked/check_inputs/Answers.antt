@@ -1,7 +1,7 @@
-use Rattle.std.proofs.Common.{◌≡◌, ◌∙◌, Ok, Some, None, ap, sym, subst, rules, arith}
+use Rattle.std.proofs.Common.{◌∙◌, sym, subst}
 use Rattle.slot_reader.specs.Readings.{TellsNext}
 use Rattle.slot_reader.proofs.ReadLemmas.{reads_then}
-use Rattle.slot_reader.proofs.ReadingLemmas.{checked_ended, so_far_more, further_on, same_slot_then}
+use Rattle.slot_reader.proofs.ReadingLemmas.{checked_ended, so_far_more, same_slot_then}
 use Rattle.slot_reader.proofs.checked.check_inputs.Goals as goal
 
 pub returns-in-Some-clause-checked : goal.returns-in-Some-clause-checked
@@ -11,8 +11,8 @@ returns-in-Some-clause-checked g c = λ v given.
     let tells = subst (TellsNext c.next.new.self v x.0 told) c.in_ok-next.was (c.next.ensures.next v x.0 x.1) in
     checked_ended c.args.reader c.next.new.self v x.0 told c.in_ok-next.next c.in-Some.checked (same_slot_then c.args.reader c.inputs.reader c.next.new.self c.inputs.invariant.same c.next.ensures.same) tells (sym c.ended.ensures ∙ c.in-Some.is))
 
-pub inputs-preserved-in-None : goal.inputs-preserved-in-None
-inputs-preserved-in-None g c =
+pub inputs-preserved : goal.inputs-preserved
+inputs-preserved g c =
     let none = sym c.ended.ensures ∙ c.in-None.is in
     record {
       same = same_slot_then c.args.reader c.inputs.reader c.next.new.self c.inputs.invariant.same c.next.ensures.same;

@@ -1,4 +1,4 @@
-use Rattle.std.proofs.Common.{◌≡◌, ◌<◌, ◌^◌, ℕ, ap, sym, subst, ◌∙◌, rules, arith}
+use Rattle.std.proofs.Common.{◌≡◌, ◌<◌, ◌^◌, ap, subst, ◌∙◌, rules, arith}
 use Rattle.slot_reader.specs.Fronts.{IsLead, is_clear_lead}
 use Rattle.slot_reader.specs.Windows.{Window}
 use Rattle.slot_reader.proofs.ReadingLemmas.{opened_short, opened_shut, opened_open, opened_bad, opens_within}

@@ -1,4 +1,4 @@
-use Rattle.std.proofs.Common.{◌≡◌, ◌+◌, ℕ, Ok, Err, ap, sym, subst, ◌∙◌, rules, arith}
+use Rattle.std.proofs.Common.{◌+◌, ℕ, Ok, ap, sym, subst}
 use Rattle.std.proofs.lemmas.Result.{err_from_is_err_and}
 use Rattle.slot_reader.specs.declared.reader.Next.TheVariants.{Bad as BadNext}
 use Rattle.slot_reader.specs.Fronts.{IsItem, is_clear_item}

@@ -1,5 +1,5 @@
-use Rattle.std.proofs.Common.{◌≡◌, ◌+◌, ◌-◌, ◌++◌, length, drop, refl, sym, ap₂, ◌∙◌, subst, rules, arith, ℕ, List}
-use Rattle.std.proofs.lemmas.List.{length-drop}
+use Rattle.std.proofs.Common.{◌≡◌, ◌+◌, ◌-◌, ◌++◌, length, take, drop, refl, sym, ap, ap₂, ◌∙◌, subst, arith, ℕ, List}
+use Rattle.std.proofs.lemmas.List.{length-drop, take_all}
 use Rattle.slot_reader.specs.Windows.{Window, Shows}
 use Rattle.slot_reader.proofs.WindowLemmas.{shows_still, shows_grown, window_of}
 use Rattle.slot_reader.proofs.shown.Shown.grow.Goals as goal
@@ -18,7 +18,9 @@ returns-clause-shows g c =
     let v : Window = window_of s.slot s.long (s.base + s.from) 0 c.in_ok-bytes.bytes in
     let old = g.D.Outside.stands c.args.disk.now in
     let shows : Shows w old.told = subst (λ (u : Window). Shows u old.told) (sym c.self.view_is) c.requires.shows in
+    let x = c.as_slice.result.now in
+    let rest : take (length x - s.from) (drop s.from x) ≡ drop s.from x = take_all (length x - s.from) (drop s.from x) (omega (arith, length-drop s.from x)) in
     let whole : c.in_ok-bytes.bytes ≡ drop s.from s.bytes ++ c.in_ok-piece.piece =
-    first_of (c.in_ok-bytes.ensures ∙ ap₂ (λ (x y : List ℕ). drop s.from x ++ y) c.as_slice.ensures c.as_slice-2.ensures, search rules) in
+    c.in_ok-bytes.ensures ∙ ap₂ (λ (p q : List ℕ). p ++ q) (rest ∙ ap (drop s.from) c.as_slice.ensures) c.as_slice-2.ensures in
     shows_grown w v old (g.D.Outside.stands c.piece_at.new.disk) c.in_ok-piece.piece (s.base + c.len.result) c.min.result c.piece_at.ensures.reads shows c.in_ok-piece.ensures.piece
     (omega (arith, few, c.len.ensures, length-drop s.from s.bytes)) c.in_ok-piece.ensures.len refl refl (omega arith) whole
