@@ -8,6 +8,7 @@ trap 'rm -rf "$room"' EXIT
 # "$program" then, and "$room/said" has what it printed.
 program_over() {
     name=$1
+    rm -rf "$room/crates" "$room/crates.txt"
     shift
     mkdir -p "$room/crates/$name/src"
     cat >"$room/crates/$name/src/main.rt"
