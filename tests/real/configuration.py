@@ -123,11 +123,23 @@ def many_masks(room):
     room.ends(0, [*READY, "INFO [web] Found 192.0.2.7"], "--conf", room.conf, "--turns", "1")
 
 
+def many_sections_and_items(room):
+    """a thousand sections of jails that are off, and a filter of a thousand items, are read"""
+    os.mkdir(room.path("conf/jail.d"))
+    os.mkdir(room.path("conf/filter.d"))
+    write(room.path("conf/filter.d/many.conf"), "[Definition]\n" + "".join(f"item{number} = value\n" for number in range(1_000)))
+    sections = "".join(f"[off{number}]\nport = {number}\n" for number in range(1_000))
+    write(room.path("conf/jail.d/many.conf"), sections + "[web]\nfilter = many\n")
+    write(room.log, failures("192.0.2.7"))
+    room.ends(0, [*READY, "INFO [web] Found 192.0.2.7"], "--conf", room.conf, "--turns", "1")
+
+
 CHECKS = [
     most_files,
     most_bytes,
     most_jails,
     many_masks,
+    many_sections_and_items,
     files_of_other_kinds,
     later_file_counts,
     place_is_written_otherwise,
