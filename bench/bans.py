@@ -14,18 +14,21 @@ BANS = 10_000
 # So many single failures are timed.
 LINES = 50
 
-JAIL = """\
+# A jail with a log of its own, and how a line of it is a failure.
+WATCHED = """\
 [{name}]
 enabled = true
 logpath = {place}/{name}.log
 ignoreself = false
+findtime = 600
+"""
+
+SECONDS = """\
 datepattern = Epoch
 failregex = ^ fail from <IP4>$
-findtime = 600
-maxretry = 1
-bantime = 60000
-action = {actions}
 """
+
+JAIL = f"{WATCHED}{SECONDS}maxretry = 1\nbantime = 60000\naction = {{actions}}\n"
 
 # The last ban of a jail shows that all before it are made. No command starts a second process.
 ACTION = """\

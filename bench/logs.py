@@ -2,7 +2,7 @@
 
     logs.py SERVER
 
-Lines a second are of processor time, on one core. Beside it, where it says so, Python's re searches the same lines.
+Lines a second are of processor time, on one core; beside them are those of Python's re on the same lines.
 """
 
 import os
@@ -12,6 +12,7 @@ import sys
 import tempfile
 import time
 
+from bans import SECONDS, WATCHED
 from findings import search
 from follow import LOOK, run
 from follow import search as search_epoch
@@ -20,28 +21,10 @@ from tester import FILTER, LINE_LENGTH, filled, parts
 JAILS = 10
 LINES = 200_000
 
-SSHD = """\
-[{name}]
-enabled = true
-logpath = {place}/{name}.log
-ignoreself = false
-filter = sshd
-findtime = 600
-maxretry = 1000
-bantime = 60
-"""
-
-EPOCH = """\
-[{name}]
-enabled = true
-logpath = {place}/{name}.log
-ignoreself = false
-datepattern = Epoch
-failregex = ^ fail from <IP4>$
-findtime = 600
-maxretry = 1000
-bantime = 60
-"""
+# No failure bans.
+COUNTED = f"{WATCHED}maxretry = 1000\nbantime = 60\n"
+SSHD = f"{COUNTED}filter = sshd\n"
+EPOCH = f"{COUNTED}{SECONDS}"
 
 IDLE_JAILS = 20
 IDLE_SECONDS = 20
