@@ -11,6 +11,14 @@
 //! wait; so does the choice of the next job, but for the ids that run, and a failed check for each job that goes. Whether a lane is
 //! about to stop takes time by the number of lanes that wait alone. Nothing here knows a clock, a command or a process, or why
 //! a job was made: the caller says what time it is and what runs.
+//!
+//! ```text
+//! let mut lanes = Lanes::new(alloc);
+//! lanes.push(alloc, job)?;                           // a Ban with the id 7, due at 1000
+//! let next = lanes.next_due(1000, &[]);              // job 7: it is run, and its command ends with status 1
+//! lanes.settle(7, Outcome::Status(1), 1001);         // Again(1003): then it is due once more
+//! lanes.settle(7, Outcome::Status(0), 1003);         // Done, and the next job of its lane may start
+//! ```
 #![tactic(auto)]
 
 mod checks;

@@ -4,6 +4,15 @@
 //! and the past entries in the order in which they came. Each call says the lists after it. A jail asks for an address's ban at each
 //! failure, starts a ban where the address is full, and ends each one that is due. Room for the past entry of a ban is taken when the
 //! ban starts, so that to end it needs none. Nothing here knows the clock, a log or an action: the caller says what time it is.
+//!
+//! ```text
+//! let mut table = BanTable::new(alloc);
+//! table.start(ban)?;                        // of an address that is not banned, until 1600
+//! table.due(1599);                          // None
+//! table.due(1600);                          // that ban
+//! table.end(ban.addr, 1600);                // that ban, which is over
+//! table.past(ban.addr)                      // 1
+//! ```
 #![tactic(auto)]
 
 mod addresses;

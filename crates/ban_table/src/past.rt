@@ -76,6 +76,7 @@ impl PastBans {
         ensures small { self.new.room < 2 ^ 63 }
     {
         if self.entries.capacity() - self.entries.len() < count {
+            // Twice as much: else a million starts would move the list a million times.
             self.entries.reserve(count.saturating_mul(2))?;
         }
         Ok(())

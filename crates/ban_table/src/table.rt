@@ -102,6 +102,7 @@ impl BanTable {
         ensures ok { OnOk result (self.new ≡ begun ban self.old) }
         ensures err { OnErr result (self.new ≡ self.old) }
     {
+        // Room for the past entry of each ban that stands, this one among them: to end a ban must not fail.
         self.past.make_room(self.bans.len() + 1)?;
         self.counts.more(ban.addr)?;
         if self.index.add(&ban).is_err() {
@@ -194,6 +195,7 @@ impl BanTable {
         ensures { result ≡ up_to_32 (length (filter (past_of addr) self.now.past)) }
     {
         let active = u64::from(self.index.serial_of(addr).is_some());
+        // The count is that of all its bans, the active one among them.
         (self.counts.of(addr) - active).min(u64::from(u32::MAX)) as u32
     }
 

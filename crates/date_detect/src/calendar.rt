@@ -96,6 +96,7 @@ pub(crate) fn latest(now: u64, date: DayTime) -> Option<i64>
 {
     let limit = now.min(LATEST_READING) + DAY;
     let year = year_at(limit, date.zone);
+    // Of nine years one has 29 February, also across 2100.
     for back in 0..9 {
         let moment = moment_by(limit, date, year - back);
         if moment.is_some() {

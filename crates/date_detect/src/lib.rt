@@ -4,6 +4,12 @@
 //! outside for each pattern, and tried in their order: the first form whose leftmost match is a date and a time gives the date. A
 //! searcher borrows the forms, keeps what its searches learn, and goes through many lines. Weekdays and fractions of a second are
 //! read over. Nothing here knows a clock: the caller says what time it is, since a date may leave its year out.
+//!
+//! ```text
+//! let dates = Dates::build(alloc, world, &DateSpec::Default)?;       // the six usual forms
+//! let mut searcher = dates.searcher(alloc)?;
+//! searcher.found("Mar  1 10:00:00 mx smtpd[204]: login", now, 0)     // from 0 to 15, and which second that is in UTC
+//! ```
 #![tactic(auto)]
 
 mod build;

@@ -3,6 +3,12 @@
 //! Contracts see a text, bytes and a sequence as lists, and everything above them as plain records and enums of lists and
 //! numbers. Each type copies whole, compares, and prints for tests. Nothing here knows a file, a clock or a rule of the server,
 //! but for the text forms of addresses and the length of a ban.
+//!
+//! ```text
+//! let name = Text::from_str(alloc, "sshd")?;               // contracts see the list of its bytes
+//! let addr = Addr::read(b"::ffff:192.0.2.7");              // 192.0.2.7: a host is one value, however it is written
+//! let span = ban_span(&jail.rule, 0, word, serial);        // of a first ban: the rule's base, and its random part
+//! ```
 #![tactic(auto)]
 
 mod addr;
@@ -18,8 +24,6 @@ mod outside;
 mod plain;
 mod seq;
 mod spans;
-#[cfg(test)]
-mod tests;
 mod text;
 mod view;
 

@@ -3,6 +3,13 @@
 //! A world plays a script and keeps its history as long as it finds memory for it. Where it finds none it answers so, and is as it was.
 //! Where a call has no answer for that, or a command that starts finds no room beside those that run, the world tells nothing from
 //! then on and goes on with its script.
+//!
+//! ```text
+//! let script = Script { readings, trees, changes, children, clients, fails, image };
+//! let mut world = MemWorld::new(alloc, script)?;
+//! let status = server(alloc, words.as_slice(), &mut world);
+//! world.events()                            // each call that was made, with its answer, in order
+//! ```
 #![tactic(auto)]
 
 mod answers;

@@ -14,6 +14,13 @@
 //! in turn, that the first job of a lane stays first until it is settled or voided, and that starts that fail come to an end.
 //!
 //! But for copies and comparisons, no function here does anything.
+//!
+//! ```text
+//! step s input             the State after an input
+//! step_now n input         the Now after it, which is what code keeps: that of the State after it
+//! told s input             what the step tells, for lines and for lanes
+//! steps s inputs           the State after some inputs, one after the other
+//! ```
 #![tactic(auto)]
 
 mod fill;

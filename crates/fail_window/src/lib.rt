@@ -6,6 +6,13 @@
 //! stands alone in itself, since most addresses fail once, and several in a block. A failure costs a search by halves, the room that
 //! it takes, and what is too old and goes: at most `maxretry` looks where it came late, and one where it came in order. A window never
 //! knows the clock, a jail or a ban: the caller says what time it is.
+//!
+//! ```text
+//! let mut window = Window::new(alloc, 600, 3);            // findtime 600, maxretry 3
+//! window.add(first, 100)?;                                // of the time 100: false
+//! window.add(second, 300)?;                               // of the time 300: false
+//! window.add(third, 699)?                                 // of the time 699: true, and false of 700
+//! ```
 #![tactic(auto)]
 
 mod kept;

@@ -25,6 +25,7 @@ pub fn is_recent(at: u64, findtime: u64, failure: &Failure) -> bool
     ensures { result ≡ is_recent at findtime failure.now }
 {
     let time = failure.time;
+    // Halved on this side, since twice `findtime` may be no number of 64 bits.
     at < time || (at - time) / 2 < findtime
 }
 
@@ -69,6 +70,7 @@ fn has_run_with(kept: &VecDeque<Failure>, place: usize, findtime: u64, maxretry:
     if kept.len() < maxretry {
         return false;
     }
+    // The runs without this place were looked at when the last of each came.
     let first = (place + 1).saturating_sub(maxretry);
     let end = place.min(kept.len() - maxretry) + 1;
     for index in first..end {

@@ -4,6 +4,12 @@
 //! line. Or it hands in a tree of files and the name of a base, and gets what the files of that base come to, each laid over those
 //! before it, with what they include. In both the values are raw; a value is asked for by its name in a scope of sections, and has its
 //! references replaced then. Nothing here knows a directory, or what an item is good for.
+//!
+//! ```text
+//! let files = FileTable::new(alloc, &tree)?;
+//! let sections = merge_in(alloc, &files, "jail")?;                 // jail.conf, jail.d/*.conf, jail.local, jail.d/*.local
+//! let bantime = value(alloc, &sections, &scope, "bantime")?;       // of the first section of the scope that has it, if one has
+//! ```
 #![tactic(auto)]
 
 mod error;
@@ -17,17 +23,11 @@ mod known;
 mod laws;
 mod line;
 mod merge_error;
-#[cfg(test)]
-mod merge_tests;
 mod merges;
 mod names;
 mod parts;
 mod sections;
-#[cfg(test)]
-mod tests;
 mod value_error;
-#[cfg(test)]
-mod value_tests;
 mod values;
 
 pub use error::IniError;

@@ -63,6 +63,7 @@ fn known_of(alloc: Global, sections: &Sections) -> Result<Seq<(Text, Text)>, NoM
     ensures { IfOk result (λ known. known ≡ known_of sections.now) }
 {
     let mut known = Seq::new(alloc);
+    // No memory holds so many items; and so it is seen that the walk ends.
     'places: for index in 0..usize::MAX {
         let Some(name) = sections.item("Definition", index) else {
             return Ok(known);

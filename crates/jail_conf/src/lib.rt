@@ -2,14 +2,20 @@
 //!
 //! A caller hands in a tree of files and gets what it comes to, or the refusal that is told first, as `specs/` defines them: there the
 //! order of lines is the order of refusals. Nothing here reads a file, or builds a pattern.
+//!
+//! ```text
+//! match conf(alloc, &tree) {
+//!     Ok(settings) => ..,                                // settings.defs.jails are those that are enabled
+//!     Err(Fail::Refused(error)) => error.text(alloc)?,   // Configuration refused: jail.conf [sshd] bantime: BadTime
+//!     Err(Fail::NoMemory) => ..,
+//! }
+//! ```
 #![tactic(auto)]
 
 mod actions;
 mod addresses;
 mod choices;
 mod conf_error;
-#[cfg(test)]
-mod conf_tests;
 mod configuration;
 mod counts;
 mod dates;
@@ -19,20 +25,14 @@ mod filter;
 mod ignored;
 mod jails;
 mod laws;
-#[cfg(test)]
-mod limit_tests;
 mod limits;
 mod lines;
 mod logs;
 mod merged_bases;
 mod numbers;
 mod options;
-#[cfg(test)]
-mod options_tests;
 mod patterns;
 mod printed;
-#[cfg(test)]
-mod printed_tests;
 mod reading;
 mod rule;
 mod seconds;
@@ -41,8 +41,6 @@ mod settings;
 mod source;
 mod sources;
 mod terms;
-#[cfg(test)]
-mod tests;
 mod texts;
 mod times;
 mod unsupported;

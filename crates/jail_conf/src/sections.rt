@@ -63,6 +63,7 @@ pub(crate) fn section_names(alloc: Global, sections: &Sections) -> Result<Seq<Te
     ensures { IfOk result (λ names. names ≡ section_names sections.now) }
 {
     let mut names = Seq::new(alloc);
+    // No memory holds so many sections; and so it is seen that the walk ends.
     'places: for index in 0..usize::MAX {
         let Some(name) = sections.section(index) else {
             return Ok(names);

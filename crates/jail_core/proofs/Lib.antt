@@ -2,4 +2,3 @@ pub mod AgainLemmas
 pub mod ConfigLemmas
 pub mod CoreLemmas
 pub mod StoredLemmas
-pub mod TakenLemmas

@@ -6,13 +6,17 @@
 //! not by what stands, but for a configuration, a stop and a check that failed, which look at each active ban. A view is built only
 //! where it is asked for. Nothing here opens a log, runs a command or knows the clock: the caller says what was found, and what time
 //! it is.
+//!
+//! ```text
+//! let input = Input { secs: 1600, word, what: What::Tick };
+//! let (core, told) = core.take(&input)?;                  // bans that end at 1600 or before are over; told says which
+//! let view = core.view()?;                                // what is stored of it
+//! ```
 #![tactic(auto)]
 
 mod after;
 mod again;
 mod state;
-#[cfg(test)]
-mod tests;
 
 pub use again::view_after;
 pub use state::Core;

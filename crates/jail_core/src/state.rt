@@ -217,6 +217,7 @@ impl Core {
     pub fn spent(&self) -> bool
         ensures { result ≡ is_whole_spent moves_now books_now self.now }
     {
+        // Half of all numbers are left for the input that is taken last.
         self.jails.next_ban() > 1 << 62 || self.actions.next_job() > 1 << 62
     }
 
@@ -259,6 +260,7 @@ impl Core {
             jails,
             actions,
         } = self;
+        // The order is the model's: ends by time, what happened, and then what is over for long goes.
         let jails = jails.raised(&mut told, input.secs)?;
         let Aftermath {
             jails,

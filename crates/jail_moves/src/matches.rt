@@ -51,6 +51,7 @@ fn first_shown(failures: &[Failure], maxmatches: u64) -> usize
 {
     let mut left = Left {
         lines: maxmatches,
+        // The last line has nothing behind it, and costs as if it had.
         bytes: MATCHES_BYTES + BETWEEN.len(),
     };
     for index in (0..failures.len()).rev() {

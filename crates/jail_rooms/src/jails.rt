@@ -241,6 +241,7 @@ impl Jails {
             next_ban,
             next_sweep,
         } = self;
+        // Now never goes back.
         let at = at.max(secs);
         end_due_bans(jails.as_mut_slice(), told, at)?;
         Ok(Jails {

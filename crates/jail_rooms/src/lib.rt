@@ -6,6 +6,12 @@
 //! what it changes, and not by what stands in a jail: a failure is one look into the windows of its jail, and a ban that ends costs
 //! nothing for those that stay. Nothing here knows a lane, opens a log or knows the clock: the caller says what was found, and what time
 //! it is.
+//!
+//! ```text
+//! let jails = jails.raised(&mut told, secs)?;             // bans that are due end
+//! let jails = jails.after(&mut told, &what, word)?;       // what happened
+//! let jails = jails.dropped();                            // what is over for long goes
+//! ```
 #![tactic(auto)]
 
 mod acts;

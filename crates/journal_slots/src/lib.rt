@@ -4,6 +4,11 @@
 //! closed. `parse_slot` reads a slot, `IsFront` says what was written of one, and `top_of` says which of two slots counts. The definitions
 //! stand in `specs/` and are what contracts of other crates cite; worked rows of them are computed in `proofs/Rows.antt`. Nothing here
 //! knows a disk, or what a stop leaves of a slot while it is written.
+//!
+//! ```text
+//! 01 | 00 00 00 00 00 00 00 01 | 02 | 00 80 a3 05 00 00 00 00 00 00 00 | 01 | 64 00 00 | 00
+//! gate, generation, version, a view, an open gate, an input, a closed gate: parse_slot gives Open, with one input
+//! ```
 #![tactic(auto)]
 
 mod head;

@@ -181,6 +181,7 @@ impl LaneBook {
     {
         match self.book.checked(job) {
             Some(lane) => {
+                // A copy: the job that names the lane is about to go.
                 let lane = lane.copy()?;
                 self.lane_failed(told, held, job, &lane, outcome, at)
             }
@@ -192,6 +193,7 @@ impl LaneBook {
     pub fn stop(&mut self, held: &[JailBans], at: u64) -> Result<(), NoMemory>
         ensures { OnOk result (self.new ≡ stopped books_now at (held_of held.now) self.old) }
     {
+        // A copy: each lane that goes down leaves the list.
         let lanes = self.up.copy()?;
         self.all_down(lanes.as_slice(), held, at)?;
         self.stopping = true;

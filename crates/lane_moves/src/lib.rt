@@ -4,6 +4,13 @@
 //! and ended, the ending of a try, a check that failed, a stop, and the lanes that a configuration takes down and brings up. Commands
 //! are written when their job is made. What became of tries and checks that failed is told, for lines. Nothing here knows a jail, a
 //! clock or a process: the caller says which bans are active, and what time it is.
+//!
+//! ```text
+//! let mut book = LaneBook::new(alloc);
+//! book.missing_up(&held, &defs, at)?;                               // a Start job for each lane of the configuration
+//! book.issue(told.as_slice(), at)?;                                 // a Ban job for each ban that began, in each lane that takes it
+//! book.ended(&mut lanes_told, 0, Outcome::Status(0), at)?;          // job 0 is done: the next one of its lane may be tried
+//! ```
 #![tactic(auto)]
 
 mod book;

@@ -130,6 +130,7 @@ impl Follower {
         ensures placed { OnOk result (self.new.placed ≡ self.old.placed) }
         ensures err { OnErr result (self.new ≡ self.old) }
     {
+        // What may fail comes first, so that an error changes nothing.
         let head = joined(alloc, &self.head, bytes)?;
         let lines = self.carry.take(alloc, bytes)?;
         self.from += bytes.len() as u64;

@@ -7,7 +7,7 @@
 //!
 //! ```text
 //! let mut set = LogSet::new(alloc, &filters, definitions)?;
-//! set.add(alloc, "sshd", "/var/log/auth.log", &place)?;
+//! set.add(alloc, &jail.name, &watch.path, &watch.place)?;
 //! while let Some(log) = set.next(from) {
 //!     let ask = set.ask(log);
 //!     let look = .. a look at set.path(log) as ask says ..;

@@ -32,12 +32,6 @@ mod open_failures;
 mod outcomes;
 mod read_error;
 mod rules;
-#[cfg(test)]
-mod tests;
-#[cfg(test)]
-mod tests_inputs;
-#[cfg(test)]
-mod tests_views;
 mod version;
 mod view_spelling;
 mod views;

@@ -63,6 +63,7 @@ fn take_digits(bytes: &[u8], left: u8) -> Option<(u64, &[u8])>
                 return Some((u64::from(*b), rest));
             }
             let (high, after) = take_digits(rest, left - 1)?;
+            // With 0 it would be a second spelling, and with more no number of 64 bits.
             if 0 < high && high < 1 << 57 {
                 Some((u64::from(*b - 128) + 128 * high, after))
             } else {

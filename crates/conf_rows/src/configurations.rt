@@ -1,0 +1,216 @@
+//! Whole configurations, with what they come to.
+use crate::trees::{told, tree};
+use f2b_base::{ActionDef, JailDef, WatchDef};
+use jail_conf::conf;
+use std::alloc::Global;
+use std::process::Abort;
+use std::test::Fail;
+
+const NOTE: &str = "[Definition]
+actionstart = echo start <name>
+actionstop = echo stop <name>
+actionban = echo ban <ip> <port> <failures> <bantime>
+actionunban = echo unban <ip> <port>
+";
+
+const SSHD: &str = r"[Definition]
+prefregex = ^\s*\S+ sshd(?:-session)?\[[0-9]+\]: <F-CONTENT>.+</F-CONTENT>$
+failregex = ^Failed \S+ for (?:invalid user )?<F-USER>.*</F-USER> from <HOST> port [0-9]+(?: ssh2)?$
+    ^Invalid user <F-USER>.*</F-USER> from <HOST>(?: port [0-9]+)?$
+    ^Connection closed by authenticating user <F-USER>.*</F-USER> <HOST> port [0-9]+ \[preauth\]$
+ignoreregex =
+";
+
+const JAIL: &str = r#"[INCLUDES]
+before = paths.conf
+[DEFAULT]
+ignoreip = 127.0.0.1/8 ::1
+bantime  = 10m
+findtime = 10m
+maxretry = 5
+backend = auto
+usedns = warn
+logencoding = auto
+mode = normal
+filter = %(__name__)s[mode=%(mode)s]
+banaction = note
+action_ = %(banaction)s[port="%(port)s"]
+action = %(action_)s
+[sshd]
+port = ssh
+logpath = %(sshd_log)s
+"#;
+
+const PATHS: &str = "[INCLUDES]
+after = paths-overrides.local
+[DEFAULT]
+sshd_log = /var/log/auth.log
+";
+
+const WORKED: [(&str, &str); 5] = [
+    ("action.d/note.conf", NOTE),
+    ("filter.d/sshd.conf", SSHD),
+    ("jail.conf", JAIL),
+    ("jail.local", "[sshd]\nenabled = true\nmaxretry = 3\n"),
+    ("paths.conf", PATHS),
+];
+
+fn is_as_worked(rt: &impl Abort, jail: &JailDef) {
+    assert_eq!(rt; jail.name.as_str(), "sshd");
+    assert!(rt; jail.pref.is_some());
+    assert_eq!(rt; jail.fail.len(), 3);
+    assert_eq!(rt; jail.ignore_lines.len(), 0);
+    assert_eq!(rt; jail.ignore.len(), 4);
+    assert_eq!(rt; jail.findtime, 600);
+    assert_eq!(rt; jail.maxretry, 3);
+    assert_eq!(rt; jail.maxmatches, 3);
+    assert_eq!(rt; jail.rule.base, 600);
+}
+
+fn log_is_as_worked(rt: &impl Abort, watches: &[WatchDef]) {
+    assert_eq!(rt; watches.len(), 1);
+    assert_eq!(rt; watches[0].path.as_str(), "/var/log/auth.log");
+}
+
+fn action_is_as_worked(rt: &impl Abort, actions: &[ActionDef]) {
+    assert_eq!(rt; actions.len(), 1);
+    assert_eq!(rt; actions[0].start.as_str(), "echo start sshd");
+    assert_eq!(rt;
+        actions[0].ban.as_str(),
+        "echo ban <ip> ssh <failures> <bantime>"
+    );
+    assert_eq!(rt; actions[0].timeout, 60);
+}
+
+fn jails_are_as_worked(rt: &impl Abort, jails: &[JailDef]) {
+    assert_eq!(rt; jails.len(), 1);
+    is_as_worked(rt, &jails[0]);
+    log_is_as_worked(rt, jails[0].watches.as_slice());
+    action_is_as_worked(rt, jails[0].actions.as_slice());
+}
+
+#[test]
+fn reads_the_worked_tree(rt: HostRuntime) -> Result<(), Fail> {
+    let settings = conf(rt.alloc(), &tree(rt.alloc(), &WORKED)?)?;
+    assert_eq!(rt; settings.socket.as_str(), "/var/run/fail2ban/fail2ban.sock");
+    assert_eq!(rt; settings.defs.purge, 86_400);
+    jails_are_as_worked(&rt, settings.defs.jails.as_slice());
+    Ok(())
+}
+
+const SLOW: &str = "[Definition]\nactionban = a\n[Init]\ntimeout = 0\n";
+
+/// What is told of an enabled jail with these items.
+fn told_of_jail(alloc: Global, items: &str) -> Result<String, Fail> {
+    let jail = format!(in alloc; "[j]\nenabled = on\n{items}\n")?;
+    let files = [
+        ("action.d/a.conf", "[Definition]\nactionban = ban\n"),
+        ("action.d/slow.conf", SLOW),
+        ("filter.d/f.conf", "[Definition]\nmaxlines = 2\n"),
+        ("filter.d/p.conf", "[Definition]\nprefregex = <HOST>\n"),
+        ("jail.conf", jail.as_str()),
+    ];
+    told(alloc, files.as_slice())
+}
+
+/// Rows of a jail's items, and what is told of it.
+fn are_told_of_jails(rt: &impl Abort, alloc: Global, rows: &[(&str, &str)]) -> Result<(), Fail> {
+    for (items, want) in rows {
+        assert_eq!(rt; told_of_jail(alloc, items)?.as_str(), *want);
+    }
+    Ok(())
+}
+
+const KINDS: [(&str, &str); 25] = [
+    ("", "read"),
+    ("enabled = maybe", "jail.conf|j|enabled|BadBool"),
+    ("ignoreself = 2", "jail.conf|j|ignoreself|BadBool"),
+    ("filter = f[", "jail.conf|j|filter|BadOptions"),
+    ("filter = g", "filter.d/g.conf|j|filter|MissingFile"),
+    ("filter = f", "filter.d/f.conf|j|maxlines|Unsupported"),
+    ("filter = p", "filter.d/p.conf|j|prefregex|BadTag"),
+    ("logpath = var/log", "jail.conf|j|logpath|BadGlob"),
+    ("logtimezone = CET", "jail.conf|j|logtimezone|BadZone"),
+    ("datepattern = %%Q", "jail.conf|j|datepattern|BadDate"),
+    ("failregex = x", "jail.conf|j|failregex|NoHost"),
+    (
+        "failregex = <HOST> <HOST>",
+        "jail.conf|j|failregex|TwoHosts",
+    ),
+    ("failregex = <HOST> <CIDR>", "jail.conf|j|failregex|BadTag"),
+    (
+        "ignoreregex = <HOST> <HOST>",
+        "jail.conf|j|ignoreregex|TwoHosts",
+    ),
+    ("ignoreip = 1.2.3", "jail.conf|j|ignoreip|BadAddress"),
+    ("usedns = raw", "jail.conf|j|usedns|Unsupported"),
+    ("findtime = 0", "jail.conf|j|findtime|BadTime"),
+    ("maxretry = 1x", "jail.conf|j|maxretry|BadNumber"),
+    ("bantime = 0", "jail.conf|j|bantime|BadTime"),
+    (
+        "bantime.overalljails = yes",
+        "jail.conf|j|bantime.overalljails|Unsupported",
+    ),
+    ("action = a[", "jail.conf|j|action|BadOptions"),
+    ("action = b", "action.d/b.conf|j|action|MissingFile"),
+    ("action = a\n a[x=1]", "jail.conf|j|action|DoubleAction"),
+    ("action = a\n a[actname=b]", "read"),
+    ("action = slow", "action.d/slow.conf|j|timeout|BadTime"),
+];
+
+#[test]
+fn tells_each_kind_of_an_item(rt: HostRuntime) -> Result<(), Fail> {
+    are_told_of_jails(&rt, rt.alloc(), &KINDS)
+}
+
+/// Rows of a `fail2ban.conf`, a `jail.conf`, and what is told of them.
+fn are_told_of_two(
+    rt: &impl Abort,
+    alloc: Global,
+    rows: &[(&str, &str, &str)],
+) -> Result<(), Fail> {
+    for &(server, jails, want) in rows {
+        let files = [("fail2ban.conf", server), ("jail.conf", jails)];
+        assert_eq!(rt; told(alloc, files.as_slice())?.as_str(), want);
+    }
+    Ok(())
+}
+
+const FIRST_OF_TWO: [(&str, &str, &str); 7] = [
+    (
+        "[Definition]\ndbpurgeage = -1\n",
+        "x",
+        "fail2ban.conf|Definition|dbpurgeage|BadTime",
+    ),
+    (
+        "",
+        "[j]\nenabled = on\nbantime = 0\nfindtime = x\n",
+        "jail.conf|j|findtime|BadTime",
+    ),
+    (
+        "",
+        "[j]\nenabled = on\naction = a\nfilter = f\n",
+        "filter.d/f.conf|j|filter|MissingFile",
+    ),
+    ("", "[a b]\nenabled = x\n", "jail.conf|a b||BadName"),
+    (
+        "",
+        "[j]\nenabled = x\nfilter = f\n",
+        "jail.conf|j|enabled|BadBool",
+    ),
+    (
+        "",
+        "[j]\nbantime = 0\n[k]\nenabled = on\nmaxretry = x\n",
+        "jail.conf|k|maxretry|BadNumber",
+    ),
+    (
+        "",
+        "[k]\nenabled = on\nmaxretry = x\n[j]\nenabled = x\n",
+        "jail.conf|k|maxretry|BadNumber",
+    ),
+];
+
+#[test]
+fn tells_the_first_of_two_faults(rt: HostRuntime) -> Result<(), Fail> {
+    are_told_of_two(&rt, rt.alloc(), &FIRST_OF_TWO)
+}
