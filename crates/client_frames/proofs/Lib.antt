@@ -1,0 +1,5 @@
+pub mod FrameLemmas
+pub mod HeardLemmas
+pub mod ReceiveLemmas
+pub mod ReplyLemmas
+pub mod WordLemmas
