@@ -94,7 +94,7 @@ pub within_fed : (came bytes : List ℕ) → 1 ≤ missing came → length bytes
 within_fed came bytes some few =
     by_length came
     (λ none. by_length (came ++ bytes) (λ more. within_none (came ++ bytes) more)
-        (λ n said. within_some (came ++ bytes) n said (omega (arith, length-append came bytes, missing_none came none, none_said came none))))
+    (λ n said. within_some (came ++ bytes) n said (omega (arith, length-append came bytes, missing_none came none, none_said came none))))
     (λ n said. within_some (came ++ bytes) n (said_front came bytes n said) (omega (arith, length-append came bytes, missing_some came n said)))
 
 -- what is fed to a connection that wants it
@@ -116,11 +116,11 @@ part_wants most came four part =
     by_length came
     (λ none. record { some = omega (arith, missing_none came none, none_said came none); few = omega (arith, missing_none came none) })
     (λ n said.
-        let bounds = subst (λ (o : Option ℕ). IfSome o (λ n. (1 ≤ n) × (n ≤ most) × (length came < 4 + n))) said part in
-        record {
-          some = omega (arith, missing_some came n said, bounds.2);
-          few = omega (arith, missing_some came n said, bounds.1, (some_said came n said).long);
-        })
+    let bounds = subst (λ (o : Option ℕ). IfSome o (λ n. (1 ≤ n) × (n ≤ most) × (length came < 4 + n))) said part in
+    record {
+      some = omega (arith, missing_some came n said, bounds.2);
+      few = omega (arith, missing_some came n said, bounds.1, (some_said came n said).long);
+    })
 
 pub part_none : (most : ℕ) (came : List ℕ) → said_length came ≡ None → IsPart most came
 part_none most came none = subst (λ (o : Option ℕ). IfSome o (λ n. (1 ≤ n) × (n ≤ most) × (length came < 4 + n))) (sym none) tt

@@ -30,8 +30,8 @@ word_of_none : (n : ℕ) (bytes : List ℕ) → (n ≤ length bytes → IsUtf8 (
 word_of_none n bytes never =
     by_bool (nat_le n (length bytes))
     (λ within. by_bool (is_utf8 (take n bytes))
-        (λ text. absurd (never (leb-true n (length bytes) within) (IsUtf8-from_is_utf8 (take n bytes) text)))
-        (λ other. rw (within, other) refl))
+    (λ text. absurd (never (leb-true n (length bytes) within) (IsUtf8-from_is_utf8 (take n bytes) text)))
+    (λ other. rw (within, other) refl))
     (λ past. rw past refl)
 
 pub first_word_none : (bytes : List ℕ) → AreBytes bytes → ¬ BeginsWithWord bytes → first_word bytes ≡ None
@@ -100,7 +100,7 @@ words_in_front (word ∷ words) others k fit =
     ∙ words_in_more (length words + k) bytes word (spelling words ++ others) some (first_word_is bytes word (spelling words ++ others) (All-head IsWord word words fit) is)
     ∙ ap (with_word word) (words_in_front words others k (All-tail IsWord word words fit))
 
-length-spelling : (words : List (List ℕ)) → length words ≤ length (spelling words)
+pub length-spelling : (words : List (List ℕ)) → length words ≤ length (spelling words)
 unfolding spelling
 length-spelling [] = omega arith
 length-spelling (word ∷ words) = omega (arith, length-append (word_spelling word) (spelling words), length-word_spelling word, length-spelling words)
@@ -166,7 +166,7 @@ heard_bad_at at body fits few bad =
     let none : first_word bad.others ≡ None = first_word_none bad.others (bytes_behind (spelling bad.words) bad.others (subst AreBytes bad.is fits)) bad.bad in
     heard_whole body (omega (arith, len, some)) few
     ∙ ap (heard_words (length body)) (ap (words_in (length body)) bad.is
-        ∙ words_in_others bad.words bad.others (length body) (omega (arith, len, length-spelling bad.words)) bad.fit bad.some none)
+    ∙ words_in_others bad.words bad.others (length body) (omega (arith, len, length-spelling bad.words)) bad.fit bad.some none)
     ∙ ap (λ (n : ℕ). BadWord n) (let place : length body - length bad.others ≡ at = omega (arith, len, bad.place) in place)
 
 pub heard_bad : (at : ℕ) (came : List ℕ) → AreBytes came → IsBad at came → heard came ≡ BadWord at
@@ -208,7 +208,7 @@ heard_is came Part fits part =
     by_length came
     (λ none. heard_none came none)
     (λ n said. let bounds = subst (λ (o : Option ℕ). IfSome o (λ n. (1 ≤ n) × (n ≤ most_request) × (length came < 4 + n))) said part in
-        heard_part came n said bounds.0 bounds.1 bounds.2)
+    heard_part came n said bounds.0 bounds.1 bounds.2)
 heard_is came (Words words) fits is = heard_request came words is
 heard_is came (TooLong n) fits is = heard_too_long came n is.0 is.1
 heard_is came Empty fits is = heard_empty came is

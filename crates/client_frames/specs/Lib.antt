@@ -1,3 +1,4 @@
 pub mod Frames
 pub mod Comes
 pub mod Replies
+pub mod Laws

@@ -1,5 +1,5 @@
 -- What is received of a server.
-use Rattle.std.specs.Prelude.{◌≡◌, ◌≢◌, ◌⊎◌, ℕ, ◌<◌, ◌≤◌, Bool, true, List, ◌++◌, length, Some, Result, Ok, Err}
+use Rattle.std.specs.Prelude.{◌≡◌, ◌≢◌, ◌⊎◌, ℕ, ◌+◌, ◌<◌, ◌≤◌, Bool, true, List, ◌++◌, length, Some, Result, Ok, Err}
 use Rattle.client_frames.specs.Comes.{IsPart, said_length}
 use Rattle.client_frames.specs.Frames.{IsReply, framed, most_reply, reply, reply_body}
 use Rattle.client_frames.specs.declared.answer.Answer.{Answer}

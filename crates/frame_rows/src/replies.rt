@@ -29,7 +29,7 @@ fn answer(alloc: Global, accepted: bool, text: &str) -> Result<Answer, Fail> {
 }
 
 /// A link over which these bytes come in pieces, and whose call at that place fails, if one is to.
-fn link(alloc: Global, bytes: &[u8], piece: u32, fails: Option<u64>) -> Result<MemLink, Fail> {
+fn link_of(alloc: Global, bytes: &[u8], piece: u32, fails: Option<u64>) -> Result<MemLink, Fail> {
     let mut places = Seq::new(alloc);
     if let Some(place) = fails {
         places.push(place)?;
@@ -62,11 +62,19 @@ fn are_received(rt: &impl Abort, alloc: Global, rows: &[(bool, &str, &[u8])]) ->
         let mut twice = Bytes::from_slice(alloc, frame)?;
         twice.push_slice(frame)?;
         for piece in 1..12 {
-            let mut link = link(alloc, twice.as_slice(), piece, None)?;
+            let mut link = link_of(alloc, twice.as_slice(), piece, None)?;
             let first = receive_reply(alloc, &mut link);
-            assert_eq!(rt; first, Ok(answer(alloc, accepted, text)?), "in pieces of {piece}");
+            assert_eq!(rt;
+                first,
+                Ok(answer(alloc, accepted, text)?),
+                "in pieces of {piece}"
+            );
             let second = receive_reply(alloc, &mut link);
-            assert_eq!(rt; second, Ok(answer(alloc, accepted, text)?), "in pieces of {piece}");
+            assert_eq!(rt;
+                second,
+                Ok(answer(alloc, accepted, text)?),
+                "in pieces of {piece}"
+            );
         }
     }
     Ok(())
@@ -80,8 +88,12 @@ fn a_reply_is_received_whole_however_it_is_cut(rt: HostRuntime) -> Result<(), Fa
 /// A reply that is cut anywhere ended too soon.
 fn is_cut(rt: &impl Abort, alloc: Global, frame: &[u8]) -> Result<(), Fail> {
     for len in 0..frame.len() {
-        let mut link = link(alloc, &frame[..len], 2, None)?;
-        assert_eq!(rt; receive_reply(alloc, &mut link), Err(ReceiveError::LinkEnded), "{len}");
+        let mut link = link_of(alloc, &frame[..len], 2, None)?;
+        assert_eq!(rt;
+            receive_reply(alloc, &mut link),
+            Err(ReceiveError::LinkEnded),
+            "{len}"
+        );
     }
     Ok(())
 }
@@ -89,8 +101,12 @@ fn is_cut(rt: &impl Abort, alloc: Global, frame: &[u8]) -> Result<(), Fail> {
 /// A reply of which any call fails is not there.
 fn is_lost(rt: &impl Abort, alloc: Global, frame: &[u8]) -> Result<(), Fail> {
     for place in 0..5 {
-        let mut link = link(alloc, frame, 2, Some(place))?;
-        assert_eq!(rt; receive_reply(alloc, &mut link), Err(ReceiveError::LinkFault), "{place}");
+        let mut link = link_of(alloc, frame, 2, Some(place))?;
+        assert_eq!(rt;
+            receive_reply(alloc, &mut link),
+            Err(ReceiveError::LinkFault),
+            "{place}"
+        );
     }
     Ok(())
 }
@@ -104,8 +120,12 @@ fn a_reply_that_is_cut_is_none(rt: HostRuntime) -> Result<(), Fail> {
 
 fn are_bad(rt: &impl Abort, alloc: Global, rows: &[&[u8]]) -> Result<(), Fail> {
     for &frame in rows {
-        let mut link = link(alloc, frame, 3, None)?;
-        assert_eq!(rt; receive_reply(alloc, &mut link), Err(ReceiveError::BadReply), "{frame:?}");
+        let mut link = link_of(alloc, frame, 3, None)?;
+        assert_eq!(rt;
+            receive_reply(alloc, &mut link),
+            Err(ReceiveError::BadReply),
+            "{frame:?}"
+        );
     }
     Ok(())
 }

@@ -29,14 +29,23 @@ const REQUESTS: [Row; 3] = [
 
 const REFUSED: [(&[u8], FrameError); 9] = [
     (&[0, 1, 0, 1], FrameError::TooLong(65_537)),
-    (&[0xff, 0xff, 0xff, 0xff], FrameError::TooLong(4_294_967_295)),
+    (
+        &[0xff, 0xff, 0xff, 0xff],
+        FrameError::TooLong(4_294_967_295),
+    ),
     (&[0, 0, 0, 0], FrameError::Empty),
     (&[0, 0, 0, 1, 0], FrameError::BadWord(0)),
     (&[0, 0, 0, 3, 0, 4, b'p'], FrameError::BadWord(0)),
     (&[0, 0, 0, 4, 0, 1, b'p', 0], FrameError::BadWord(3)),
-    (&[0, 0, 0, 6, 0, 1, b'p', 0, 2, b'q'], FrameError::BadWord(3)),
+    (
+        &[0, 0, 0, 6, 0, 1, b'p', 0, 2, b'q'],
+        FrameError::BadWord(3),
+    ),
     (&[0, 0, 0, 3, 0, 1, 0xff], FrameError::BadWord(0)),
-    (&[0, 0, 0, 8, 0, 1, b'p', 0, 3, b'q', 0xc3, 0x28], FrameError::BadWord(3)),
+    (
+        &[0, 0, 0, 8, 0, 1, b'p', 0, 3, b'q', 0xc3, 0x28],
+        FrameError::BadWord(3),
+    ),
 ];
 
 fn seq_of(alloc: Global, words: &[&str]) -> Result<Seq<Text>, Fail> {
@@ -160,7 +169,10 @@ fn frames_that_are_no_request_are_refused(rt: HostRuntime) {
 
 #[test]
 fn a_refusal_has_its_words(rt: HostRuntime) {
-    assert_eq!(rt; FrameError::TooLong(65_537).refusal(), Some("Frame too long"));
+    assert_eq!(rt;
+        FrameError::TooLong(65_537).refusal(),
+        Some("Frame too long")
+    );
     assert_eq!(rt; FrameError::Empty.refusal(), Some("Empty frame"));
     assert_eq!(rt; FrameError::BadWord(0).refusal(), Some("Bad word"));
 }

@@ -27,10 +27,7 @@ returns-in_err-receive_to-2-clause-received g c =
     let says : Says came (Ok count) = subst (λ (bytes : List ℕ). Says bytes (Ok count)) c.as_slice.ensures c.in_ok-count.ensures in
     let gives = err_from_is_err_and c.from_residual-in_err-receive_to-2.result c.from_residual-in_err-receive_to-2.ensures.1 in
     rw (gives.1, gives.2) (received_then (Fills 4 [] came (Ok tt)) (Fills (4 + count) came whole (Err error)) (IsTrueOf (Err error))
-        (λ xs ys e d begun ended. goes_on_with_fault count came whole error xs ys e d says begun ended) _ _ _ first c.in_err-receive_to-2.ensures.received)
-
-pub returns-in_err-count-clause-received : goal.returns-in_err-count-clause-received
-returns-in_err-count-clause-received g c = ?
+    (λ xs ys e d begun ended. goes_on_with_fault count came whole error xs ys e d says begun ended) _ _ _ first c.in_err-receive_to-2.ensures.received)
 
 pub reply_of-requires : goal.reply_of-requires
 reply_of-requires g c =
