@@ -1,13 +1,13 @@
 -- Requests come whole, whatever the pieces are.
-use Rattle.std.proofs.Common.{◌≡◌, ℕ, zero, suc, ◌+◌, ◌-◌, ◌<◌, ◌≤◌, ◌^◌, true, false, List, [], ◌∷◌, ◌++◌, length, take, drop, Option, Some, None, refl, sym, ap, ap₂, ◌∙◌, subst, append_assoc, append-nil, arith, inl, inr, lit≤, All}
+use Rattle.std.proofs.Common.{◌≡◌, ℕ, ◌+◌, ◌<◌, ◌≤◌, false, List, [], ◌∷◌, ◌++◌, length, take, drop, Some, refl, sym, ap, ◌∙◌, subst, append_assoc, append-nil, arith, inl, inr, lit≤, All}
 use Rattle.std.specs.List.{flat_map}
 use Rattle.std.proofs.lemmas.Bool.{cases_lt}
 use Rattle.std.proofs.lemmas.List.{length-append, take_at, take-append-le, take_all}
 use Rattle.std.proofs.lemmas.List.Elements.{All-head, All-tail}
-use Rattle.client_frames.specs.Comes.{Heard, Part, Words, Hearing, IsRequest, heard, hearing_after, missing, said_length, wanted}
-use Rattle.client_frames.specs.Frames.{framed, most_request, request, spelling}
-use Rattle.client_frames.specs.Laws.{AreWanted, CutLaw, IsSent, behind, fresh, requests_in, requests_of}
-use Rattle.client_frames.proofs.FrameLemmas.{by_length, length-framed, missing_some, none_said, part_wants, part_none, part_some, said_framed, said_front, some_said, some_within, wants_none, within_fed}
+use Rattle.client_frames.specs.Comes.{Heard, Part, Words, heard, hearing_after, missing, said_length}
+use Rattle.client_frames.specs.Frames.{most_request, request, spelling}
+use Rattle.client_frames.specs.Laws.{AreWanted, CutLaw, IsSent, requests_in, requests_of}
+use Rattle.client_frames.proofs.FrameLemmas.{by_length, length-framed, missing_some, none_said, part_wants, part_none, part_some, said_framed, said_front, some_within, wants_none, within_fed}
 use Rattle.client_frames.proofs.HeardLemmas.{heard_none, heard_part, heard_request, length-spelling}
 
 abbrev joined : List (List ℕ) → List ℕ

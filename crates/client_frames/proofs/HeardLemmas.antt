@@ -1,16 +1,16 @@
 -- What came is one thing, and reading it tells which.
-use Rattle.std.proofs.Common.{◌≡◌, ◌≢◌, ℕ, zero, suc, ◌+◌, ◌-◌, ◌<◌, ◌≤◌, ◌^◌, Bool, true, false, nat_lt, nat_le, ◌&&◌, List, [], ◌∷◌, ◌++◌, length, take, drop, get_or, Option, Some, None, Result, Ok, Err, refl, sym, ap, ap₂, ◌∙◌, subst, append_assoc, append-nil, arith, inl, inr, All, IfSome, IsUtf8, zero-add}
+use Rattle.std.proofs.Common.{◌≡◌, ◌≢◌, ℕ, zero, suc, ◌+◌, ◌-◌, ◌<◌, ◌≤◌, ◌^◌, Bool, true, false, nat_lt, nat_le, List, [], ◌∷◌, ◌++◌, length, take, drop, Option, Some, None, Result, Ok, Err, refl, sym, ap, ap₂, ◌∙◌, subst, append_assoc, append-nil, arith, inl, inr, All, IfSome, IsUtf8, zero-add}
 use Rattle.std.specs.Int.{w16, from_be_bytes}
 use Rattle.std.specs.Str.{is_utf8}
 use Rattle.std.proofs.lemmas.Bool.{cases_lt, lt-ltb, le-ltb, le-leb, leb-true, ne_eqb}
 use Rattle.std.proofs.lemmas.List.{length-append, length-drop, length-take, take_at, drop_at}
 use Rattle.std.proofs.lemmas.List.Elements.{All-head, All-tail}
 use Rattle.std.proofs.lemmas.Str.{IsUtf8-from_is_utf8, is_utf8-from_IsUtf8}
-use Rattle.client_frames.specs.Comes.{BeginsWithWord, Heard, Part, Words, TooLong, Empty, BadWord, Is, IsBad, IsBadAt, IsPart, IsRequest, IsWithin, Reads, first_word, heard, heard_behind, heard_by, heard_words, said_length, told, with_word, word_of, words_in}
-use Rattle.client_frames.specs.Frames.{AreRequest, IsWord, framed, most_request, request, spelling, word_spelling}
+use Rattle.client_frames.specs.Comes.{BeginsWithWord, Heard, Part, Words, TooLong, Empty, BadWord, Is, IsBad, IsBadAt, IsRequest, Reads, first_word, heard, heard_behind, heard_by, heard_words, said_length, told, with_word, word_of, words_in}
+use Rattle.client_frames.specs.Frames.{IsWord, framed, most_request, request, spelling, word_spelling}
 use Rattle.client_frames.specs.declared.error.FrameError.{FrameError}
 use Rattle.client_frames.specs.declared.error.FrameError.TheVariants as errors
-use Rattle.client_frames.proofs.FrameLemmas.{AreBytes, by_length, drop_framed, length-framed, said_framed, some_within, whole_is_framed}
+use Rattle.client_frames.proofs.FrameLemmas.{AreBytes, by_length, drop_framed, said_framed, whole_is_framed}
 use Rattle.client_frames.proofs.WordLemmas.{length-word_spelling, says_word, spelling-none, word_is}
 
 -- ---- one word

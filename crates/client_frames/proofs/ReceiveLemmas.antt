@@ -1,9 +1,9 @@
 -- What is received goes on: call by call, and part by part.
-use Rattle.std.proofs.Common.{◌≡◌, ◌≢◌, ℕ, ◌+◌, ◌-◌, ◌<◌, ◌≤◌, ◌^◌, Bool, true, false, List, [], ◌++◌, length, drop, Option, Some, None, Result, Ok, Err, refl, sym, ap, ap₂, ◌∙◌, subst, append_assoc, append-nil, arith, inl, inr, IfOk}
+use Rattle.std.proofs.Common.{◌≡◌, ◌≢◌, ℕ, ◌+◌, ◌<◌, ◌≤◌, Bool, true, List, [], ◌++◌, length, drop, Option, Some, None, Result, Ok, Err, refl, sym, ap, ap₂, ◌∙◌, subst, append_assoc, append-nil, arith, inl, inr, IfOk}
 use Rattle.std.proofs.lemmas.List.{length-append}
 use Rattle.f2b_world.specs.declared.answer.LinkRead.{LinkRead}
 use Rattle.f2b_world.specs.declared.answer.LinkRead.TheVariants.{Bytes as LinkBytes, End, Failed as ReadFailed, NoMemory as ReadNoMemory}
-use Rattle.f2b_world.specs.Faults.{Fault, OfLink, Rose, Counted}
+use Rattle.f2b_world.specs.Faults.{Fault, OfLink, Rose}
 use Rattle.f2b_world.specs.Links.{Talk, Goes, Receives, read_fault}
 use Rattle.f2b_world.specs.Told.{Standing, Spoken}
 use Rattle.client_frames.specs.Comes.{IsPart, said_length}

@@ -1,5 +1,5 @@
 -- Which bytes are a reply behind its length.
-use Rattle.std.proofs.Common.{◌≡◌, ◌≢◌, ℕ, ◌+◌, ◌<◌, ◌≤◌, Bool, List, [], ◌∷◌, length, drop, get_or, refl, sym, ap, ap₂, ◌∙◌, subst, arith, IsUtf8}
+use Rattle.std.proofs.Common.{◌≡◌, ◌≢◌, ℕ, ◌<◌, ◌≤◌, Bool, List, [], ◌∷◌, length, drop, get_or, sym, ap, ap₂, subst, arith, IsUtf8}
 use Rattle.client_frames.specs.Frames.{IsReply, most_reply, reply_body, verdict}
 use Rattle.client_frames.specs.Replies.{IsNoReply}
 use Rattle.client_frames.specs.declared.answer.Answer.{Answer}

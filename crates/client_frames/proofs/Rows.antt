@@ -1,8 +1,7 @@
 -- Worked frames, computed from the definitions.
-use Rattle.std.proofs.Common.{◌≡◌, true, false, ℕ, List, [], ◌∷◌, ◌++◌, Option, Some, None, refl, codes}
-use Rattle.client_frames.specs.Comes.{Part, Words, TooLong, Empty, BadWord, first_word, heard, missing, said_length, words_in}
+use Rattle.std.proofs.Common.{◌≡◌, true, false, ℕ, List, [], ◌∷◌, ◌++◌, refl, codes}
+use Rattle.client_frames.specs.Comes.{Part, TooLong, Empty, BadWord, first_word, heard, missing, said_length, words_in}
 use Rattle.client_frames.specs.Frames.{four_bytes, framed, reply, reply_body, request, spelling, two_bytes, word_spelling}
-use Rattle.client_frames.specs.declared.answer.Answer.{Answer}
 
 abbrev ping : List ℕ
 ping = 112 ∷ 105 ∷ 110 ∷ 103 ∷ []

@@ -1,6 +1,6 @@
 -- The frames of requests and replies. A frame is bytes behind their number; a request is words, and a reply is a text behind a byte that
 -- says whether the request was accepted.
-use Rattle.std.specs.Prelude.{ℕ, ◌<◌, ◌≤◌, ◌^◌, Bool, true, false, List, ◌∷◌, ◌++◌, length, All, IsUtf8}
+use Rattle.std.specs.Prelude.{ℕ, ◌<◌, ◌≤◌, ◌^◌, Bool, true, false, List, ◌∷◌, ◌++◌, length, IsUtf8}
 use Rattle.std.specs.Int.{w16, w32, to_be_bytes}
 use Rattle.std.specs.List.{flat_map}
 use Rattle.client_frames.specs.declared.answer.Answer.{Answer}

@@ -1,5 +1,5 @@
 -- Requests that come one behind the other, cut anywhere.
-use Rattle.std.specs.Prelude.{◌≡◌, ℕ, ◌≤◌, Bool, false, List, [], ◌∷◌, ◌++◌, length, All}
+use Rattle.std.specs.Prelude.{◌≡◌, ℕ, ◌≤◌, false, List, [], ◌∷◌, ◌++◌, length, All}
 use Rattle.std.specs.List.{flat_map}
 use Rattle.client_frames.specs.Comes.{Heard, Words, Hearing, heard, hearing_after, wanted}
 use Rattle.client_frames.specs.Frames.{AreRequest, IsWord, request}

@@ -1,4 +1,4 @@
-use Rattle.std.proofs.Common.{◌≡◌, ◌∙◌, sym, arith}
+use Rattle.std.proofs.Common.{◌∙◌, sym, arith}
 use Rattle.client_frames.proofs.FrameLemmas.{missing_none, missing_some, none_said, said_below, some_said, some_within}
 use Rattle.client_frames.proofs.frame.missing.Goals as goal
 

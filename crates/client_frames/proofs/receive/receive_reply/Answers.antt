@@ -1,7 +1,7 @@
-use Rattle.std.proofs.Common.{◌≡◌, ◌+◌, ◌∙◌, [], List, ℕ, Ok, Err, ap, length, subst, sym, arith}
+use Rattle.std.proofs.Common.{◌+◌, ◌∙◌, [], List, ℕ, Ok, Err, ap, length, subst, arith}
 use Rattle.std.proofs.lemmas.Result.{err_from_is_err_and}
 use Rattle.client_frames.specs.Replies.{Fills, IsTrueOf, Says}
-use Rattle.client_frames.proofs.ReceiveLemmas.{begins_with_fault, bounds_of, goes_on_with_fault, is_true_of_whole, received_then, received_weaker, rose_since, says_fault, whole_came, whole_is}
+use Rattle.client_frames.proofs.ReceiveLemmas.{begins_with_fault, bounds_of, goes_on_with_fault, is_true_of_whole, received_then, received_weaker, whole_came, whole_is}
 use Rattle.client_frames.proofs.receive.receive_reply.Goals as goal
 
 pub returns-in_err-receive_to-clause-received : goal.returns-in_err-receive_to-clause-received

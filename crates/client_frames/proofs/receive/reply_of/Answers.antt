@@ -1,4 +1,4 @@
-use Rattle.std.proofs.Common.{subst, sym, arith, List, ℕ}
+use Rattle.std.proofs.Common.{subst, arith, List, ℕ}
 use Rattle.client_frames.specs.Replies.{Answers}
 use Rattle.client_frames.proofs.ReceiveLemmas.{judges_frame}
 use Rattle.client_frames.proofs.receive.reply_of.Goals as goal

@@ -1,6 +1,5 @@
-use Rattle.std.proofs.Common.{◌≡◌, ◌+◌, ◌≤◌, ◌∙◌, length, take, sym, ap, arith, List, ℕ}
+use Rattle.std.proofs.Common.{◌≡◌, length, ap, arith}
 use Rattle.std.proofs.lemmas.Bool.{false≢true}
-use Rattle.client_frames.specs.Frames.{spelling}
 use Rattle.client_frames.proofs.WordLemmas.{length-spelling_more, spelling-none, word_within}
 use Rattle.client_frames.proofs.request.are_few.Goals as goal
 

@@ -1,4 +1,4 @@
-use Rattle.std.proofs.Common.{◌≡◌, ◌+◌, ◌≤◌, ◌++◌, ◌∙◌, length, take, sym, ap, arith, List, ℕ}
+use Rattle.std.proofs.Common.{◌++◌, ◌∙◌, length, take, sym, ap, arith, List, ℕ}
 use Rattle.client_frames.specs.Frames.{spelling, word_spelling}
 use Rattle.client_frames.proofs.WordLemmas.{spelling-more, spelling-none, word_within}
 use Rattle.client_frames.proofs.request.spelling_of.Goals as goal

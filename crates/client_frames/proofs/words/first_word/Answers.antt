@@ -1,6 +1,5 @@
 use Rattle.std.proofs.Common.{◌≡◌, ◌++◌, ◌∙◌, length, take, drop, sym, ap, ap₂, subst, arith, List, ℕ, IsUtf8}
 use Rattle.std.proofs.lemmas.List.{take_rest}
-use Rattle.std.specs.Int.{w16, from_be_bytes}
 use Rattle.client_frames.specs.Frames.{word_spelling}
 use Rattle.client_frames.proofs.WordLemmas.{no_word_in_few, no_word_of_bytes, no_word_past_end, word_is}
 use Rattle.client_frames.proofs.words.first_word.Goals as goal

@@ -1,4 +1,4 @@
-use Rattle.client_frames.proofs.WordLemmas.{Came, came_more, came_none, word_shortens}
+use Rattle.client_frames.proofs.WordLemmas.{came_more, came_none, word_shortens}
 use Rattle.client_frames.proofs.words.words_of.Goals as goal
 
 pub loop-rest-init : goal.loop-rest-init
