@@ -142,8 +142,7 @@ module _ (r s : SlotReader) (a b : Standing) (reads : OnlyReads a b) (slot : s.s
   left_then =
       let t = told_before a.told b.told reads.events h told in
       let same : content t.0 r.shown.slot ≡ now = ap (λ (x : Slot). x.now) (sym (t.2 r.shown.slot)) ∙ ap (content h) (sym slot) in
-      let is = before t.0 t.1 in
-      let P : List ℕ → Type 0 = StandBehind r left in (
+      let is = before t.0 t.1 in (
         record { view = is.view; before = is.before; opened = is.opened; read = subst (HasRead r is.view is.before) same is.read; parsed = ap parse_slot (sym same) ∙ is.parsed; inputs = is.inputs },
         says is.view is.before (reads_of r is.view is.before a.told t.0 t.1 is.read) h told,
       )
