@@ -386,7 +386,7 @@ const NOISE: [([u8; 40], u64); 3] = [
 ];
 
 fn noise(rt: &impl Abort, alloc: Global, bytes: &[u8], place: u64) -> Result<(), Fail> {
-    for len in 0..bytes.len() + 1 {
+    for len in 0..=bytes.len() {
         let want = if len <= 16 { Ok(0) } else { Err(place) };
         has(rt, alloc, &bytes[..len], want)?;
     }

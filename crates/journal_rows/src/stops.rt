@@ -52,25 +52,53 @@ const NEWER_TICK: Stored = Stored {
     secs: 101,
 };
 
-// The new view in that generation.
-const fn fresh(generation: u64) -> Stored {
-    Stored {
-        generation,
-        next_job: 9,
-        inputs: 0,
-        secs: 0,
-    }
-}
+/// The new view in generation 1.
+const FIRST_VIEW: Stored = Stored {
+    generation: 1,
+    next_job: 9,
+    inputs: 0,
+    secs: 0,
+};
 
-// The same and the input.
-const fn fresh_input(generation: u64) -> Stored {
-    Stored {
-        generation,
-        next_job: 9,
-        inputs: 1,
-        secs: 200,
-    }
-}
+/// The same and the input.
+const FIRST_INPUT: Stored = Stored {
+    generation: 1,
+    next_job: 9,
+    inputs: 1,
+    secs: 200,
+};
+
+/// The new view in generation 2.
+const SECOND_VIEW: Stored = Stored {
+    generation: 2,
+    next_job: 9,
+    inputs: 0,
+    secs: 0,
+};
+
+/// The same and the input.
+const SECOND_INPUT: Stored = Stored {
+    generation: 2,
+    next_job: 9,
+    inputs: 1,
+    secs: 200,
+};
+
+/// The new view in generation 3.
+const THIRD_VIEW: Stored = Stored {
+    generation: 3,
+    next_job: 9,
+    inputs: 0,
+    secs: 0,
+};
+
+/// The same and the input.
+const THIRD_INPUT: Stored = Stored {
+    generation: 3,
+    next_job: 9,
+    inputs: 1,
+    secs: 200,
+};
 
 const SCENES: [Scene; 6] = [
     Scene {
@@ -95,11 +123,11 @@ const SCENES: [Scene; 6] = [
         before: NOTHING,
         view: Some(Since {
             calls: 5,
-            stored: fresh(1),
+            stored: FIRST_VIEW,
         }),
         after: Since {
             calls: 9,
-            stored: fresh_input(1),
+            stored: FIRST_INPUT,
         },
     },
     Scene {
@@ -111,11 +139,11 @@ const SCENES: [Scene; 6] = [
         before: ONE_TICK,
         view: Some(Since {
             calls: 5,
-            stored: fresh(2),
+            stored: SECOND_VIEW,
         }),
         after: Since {
             calls: 9,
-            stored: fresh_input(2),
+            stored: SECOND_INPUT,
         },
     },
     Scene {
@@ -127,11 +155,11 @@ const SCENES: [Scene; 6] = [
         before: NEWER_TICK,
         view: Some(Since {
             calls: 5,
-            stored: fresh(3),
+            stored: THIRD_VIEW,
         }),
         after: Since {
             calls: 9,
-            stored: fresh_input(3),
+            stored: THIRD_INPUT,
         },
     },
     Scene {
@@ -143,11 +171,11 @@ const SCENES: [Scene; 6] = [
         before: NEWER_TICK,
         view: Some(Since {
             calls: 3,
-            stored: fresh(3),
+            stored: THIRD_VIEW,
         }),
         after: Since {
             calls: 7,
-            stored: fresh_input(3),
+            stored: THIRD_INPUT,
         },
     },
     Scene {
@@ -159,11 +187,11 @@ const SCENES: [Scene; 6] = [
         before: ONE_TICK,
         view: Some(Since {
             calls: 5,
-            stored: fresh(2),
+            stored: SECOND_VIEW,
         }),
         after: Since {
             calls: 9,
-            stored: fresh_input(2),
+            stored: SECOND_INPUT,
         },
     },
 ];
@@ -218,7 +246,7 @@ fn each_stop(rt: &impl Abort, alloc: Global, scene: &Scene) -> Result<(), Fail> 
         "{}",
         scene.name
     );
-    for calls in 0..scene.calls.min(100) + 1 {
+    for calls in 0..=scene.calls {
         is_stopped(rt, alloc, scene, &world, begin.saturating_add(calls), calls)?;
     }
     Ok(())
