@@ -1,6 +1,7 @@
 -- Where a journal stands over two slots that were read to their ends.
-use Rattle.std.proofs.Common.{true≢false, ℕ, zero, suc, ◌≡◌, ◌==◌, ◌+◌, ◌-◌, ◌<◌, ◌≤◌, true, false, Bool, List, ◌∷◌, ◌++◌, length, take, Ok, Err, refl, sym, ap, ap₂, ◌∙◌, subst, arith, if◌then◌else◌}
+use Rattle.std.proofs.Common.{true≢false, ℕ, zero, suc, ◌≡◌, ◌==◌, ◌&&◌, nat_le, ◌+◌, ◌-◌, ◌<◌, ◌≤◌, true, false, Bool, List, ◌∷◌, ◌++◌, length, take, Ok, Err, refl, sym, ap, ap₂, ◌∙◌, subst, arith, if◌then◌else◌}
 use Rattle.std.proofs.lemmas.Bool.{eq-eqb, ne_eqb}
+use Rattle.f2b_base.specs.declared.input.Input.{Input}
 use Rattle.journal_slots.specs.declared.head.Head.{Head}
 use Rattle.journal_slots.specs.declared.head.Head.TheVariants.{Ajar}
 use Rattle.journal_slots.specs.Grammar.{Opened, Parsed, Empty, Open, Bad, parse_slot}
@@ -15,6 +16,7 @@ use Rattle.slot_reader.specs.declared.checked.OpenSlot.{OpenSlot}
 use Rattle.slot_reader.specs.Readings.{IsChecked}
 use Rattle.slot_reader.specs.Versions.{spelling}
 use Rattle.slot_writes.specs.declared.position.Position.{Position}
+use Rattle.slot_writes.specs.Entries.{fits, input_bytes}
 use Rattle.slot_writes.specs.Rests.{IsTop, IsOpenAt, nothing_stored}
 use Rattle.ban_journal.specs.declared.load_error.LoadError.TheVariants.{NotAJournal}
 use Rattle.ban_journal.specs.Loads.{is_written, top_in, IsAtTop, StandsOver, IsFound}
@@ -148,3 +150,13 @@ pub ruleset beside_open = (same_bad, other_bad, first_alone, same_open, first_ne
 
 pub first_bad : (limit number at : ℕ) (now : ℕ → List ℕ) → IsChecked (now 0) (BadSlot number at) → IsFound limit now (Err (NotAJournal 0 at))
 first_bad limit number at now p = ap (λ (r : Parsed). top_of r (parse_slot (now 1))) p
+
+-- ---- what fits
+
+-- Where no slot is open nothing fits.
+pub none_fits : (p : Position) (i : Input) → IsAtTop p NoneOpen → fits p i ≡ false
+none_fits p i at = ap (λ (grows : Bool). grows && nat_le (p.gate + 1 + length (input_bytes i) + 1) p.limit) at.2
+
+-- Where the slot that counts is in version 1 nothing fits.
+pub none_fits_one : (p : Position) (i : Input) (slot : ℕ) (o : Opened) → IsAtTop p (Newest slot o) → o.start.version ≡ One → fits p i ≡ false
+none_fits_one p i slot o at one = ap (λ (grows : Bool). grows && nat_le (p.gate + 1 + length (input_bytes i) + 1) p.limit) (at.2 ∙ ap is_written one)
