@@ -117,7 +117,7 @@ module _ (limit : ℕ) (head : Head) (now : ℕ → List ℕ) (p : IsChecked (no
   pub second_found : (o : OpenSlot) → IsChecked (now 1) (OpenedSlot o) → IsFound limit now (Ok (at_newest limit 1 o head))
   second_found o q = (refl, stands_newest limit 1 0 refl refl o head now q p.1 (older_empty o.generation (parse_slot (now 0)) p.0))
 
-pub ruleset beside_empty = (second_bad, none_found, second_found)
+pub ruleset beside_empty = (second_bad)
 
 -- ---- beside an open slot 0
 
@@ -146,7 +146,7 @@ module _ (limit : ℕ) (a : OpenSlot) (now : ℕ → List ℕ) (p : IsChecked (n
   pub second_newest : (b : OpenSlot) → IsChecked (now 1) (OpenedSlot b) → ¬ (a.generation ≡ b.generation) → a.generation ≤ b.generation → IsFound limit now (Ok (at_newest limit 1 b Ajar))
   second_newest b q other le = (refl, stands_newest limit 1 0 refl refl b Ajar now q (begins_ajar (now 0) a p) (older_than (now 0) a p b.generation (omega (arith, other, le))))
 
-pub ruleset beside_open = (same_bad, other_bad, first_alone, same_open, first_newest, second_newest)
+pub ruleset beside_open = (same_bad, other_bad, same_open)
 
 pub first_bad : (limit number at : ℕ) (now : ℕ → List ℕ) → IsChecked (now 0) (BadSlot number at) → IsFound limit now (Err (NotAJournal 0 at))
 first_bad limit number at now p = ap (λ (r : Parsed). top_of r (parse_slot (now 1))) p

@@ -181,7 +181,7 @@ pub tells_error : (a b : Standing) (fault : Fault) → Tells fault a b → Tells
 tells_error a b FaultDisk tells = tells
 tells_error a b FaultMemory tells = tells
 
-pub ruleset given = (given_input, given_all, given_bad, given_fails, tells_error)
+pub ruleset given = (tells_error)
 
 pub none_given : (a : Standing) → OnlyReads a a
 none_given a = reads_same a
@@ -200,7 +200,7 @@ open_top number stored first Empty is top = absurd is
 open_top number stored first (Open o) is top = (o, refl, is.1, top.1)
 open_top number stored first (Bad other at) is top = absurd top
 
-abbrev BegunAt : Position → Option History → Result (View × StoredInputs) LoadError → Type 0
+abbrev pub BegunAt : Position → Option History → Result (View × StoredInputs) LoadError → Type 0
 BegunAt p told result = (stored : Stored) → WhereTold told (λ g. StandsOver p stored (content g) → IsBegun stored (content g) result)
 
 pub begun_empty : (p : Position) (head : Head) (told : Option History) → IsTold (λ now. IsOpened now (EmptyOpening head)) p.slot told → BegunAt p told (Ok (empty_view, record { reader = None }))
@@ -224,7 +224,7 @@ pub begun_fails : (p : Position) (fault : Fault) (told : Option History) → Beg
 begun_fails p FaultDisk told stored g is stands = tt
 begun_fails p FaultMemory told stored g is stands = tt
 
-pub ruleset begun = (begun_empty, begun_open, begun_bad, begun_fails, tells_error)
+pub ruleset begun = (begun_empty, begun_bad, begun_fails, tells_error)
 
 -- ---- the journal
 
@@ -267,16 +267,17 @@ rests_of p stored g small held is settled_are =
       older = is.older;
     }
 
-module _ (limit : ℕ) (first second : Checked) (b c : Standing) (first_is : IsTold (λ now. IsChecked now first) 0 b.told) (then_reads : OnlyReads b c) (second_is : IsTold (λ now. IsChecked now second) 1 c.told) where
-  abbrev FoundAs : Result Position LoadError → Type 0
-  FoundAs result = (now : ℕ → List ℕ) → IsChecked (now 0) first → IsChecked (now 1) second → IsFound limit now result
+-- where it stands whose slots are these
+abbrev pub FoundBy : ℕ → Checked → Checked → Result Position LoadError → Type 0
+FoundBy limit first second result = (now : ℕ → List ℕ) → IsChecked (now 0) first → IsChecked (now 1) second → IsFound limit now result
 
-  pub loaded_refused : (e : LoadError) → FoundAs (Err e) → WhereTold c.told (λ g. IsLoaded limit g (Err e))
+module _ (limit : ℕ) (first second : Checked) (b c : Standing) (first_is : IsTold (λ now. IsChecked now first) 0 b.told) (then_reads : OnlyReads b c) (second_is : IsTold (λ now. IsChecked now second) 1 c.told) where
+  pub loaded_refused : (e : LoadError) → FoundBy limit first second (Err e) → WhereTold c.told (λ g. IsLoaded limit g (Err e))
   loaded_refused DiskFault found g is = tt
   loaded_refused NoMemory found g is = tt
   loaded_refused (NotAJournal slot at) found g is = found (content g) ((told_still (λ now. IsChecked now first) 0 b c then_reads first_is g is).1) ((second_is g is).1)
 
-  module _ (p : Position) (d : Standing) (found : FoundAs (Ok p)) (reads : OnlyReads c d) where
+  module _ (p : Position) (d : Standing) (found : FoundBy limit first second (Ok p)) (reads : OnlyReads c d) where
     -- where the journal stands over what both slots hold
     stands_over : (g : History) → d.told ≡ Some g → ((k : ℕ) → k < 2 → IsHeld (content g k)) × (p.limit ≡ limit) × ((stored : Stored) × StandsOver p stored (content g))
     stands_over g is =
@@ -319,4 +320,4 @@ error_then a b c DiskFault p rose = let steady = p.steady OfDisk in grind (arith
 error_then a b c (NotAJournal slot at) p rose = tt
 error_then a b c NoMemory p rose = tt
 
-pub ruleset loads = (reads_then, tells_error, error_then, loaded_ok, loaded_placed, loaded_stops, loaded_refused, loaded_fault)
+pub ruleset loads = (reads_then, tells_error, error_then, loaded_fault)

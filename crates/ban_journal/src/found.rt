@@ -23,15 +23,15 @@ fn is_written(version: Version) -> bool
 }
 
 /// Where the journal stands whose newest slot this is, beside another one that begins so.
-fn newest(limit: u64, slot: u8, open: OpenSlot, other: Head) -> Position
-    ensures { result ≡ record { limit = limit; slot = slot; generation = open.generation; grows = is_written (spelling open.version); gate = open.gate; head = Ajar; other = other } }
+fn newest(limit: u64, slot: u8, opened: OpenSlot, other: Head) -> Position
+    ensures { result ≡ record { limit = limit; slot = slot; generation = opened.generation; grows = is_written (spelling opened.version); gate = opened.gate; head = Ajar; other = other } }
 {
     Position {
         limit,
         slot,
-        generation: open.generation,
-        grows: is_written(open.version),
-        gate: open.gate,
+        generation: opened.generation,
+        grows: is_written(opened.version),
+        gate: opened.gate,
         head: Head::Ajar,
         other,
     }
@@ -55,7 +55,7 @@ fn beside_empty(limit: u64, head: Head, second: Checked) -> Result<Position, Loa
             head: other,
             other: head,
         }),
-        Checked::Open(open) => Ok(newest(limit, 1, open, head)),
+        Checked::Open(second) => Ok(newest(limit, 1, second, head)),
     }
 }
 
@@ -100,6 +100,6 @@ pub(crate) fn position_of(
     match first {
         Checked::Bad { at, .. } => Err(LoadError::NotAJournal { slot: 0, at }),
         Checked::Empty(head) => beside_empty(limit, head, second),
-        Checked::Open(open) => beside_open(limit, open, second),
+        Checked::Open(first) => beside_open(limit, first, second),
     }
 }
