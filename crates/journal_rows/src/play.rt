@@ -62,7 +62,7 @@ fn and_input(stored: Stored, input: &Input) -> Stored {
 }
 
 /// What a disk has stored.
-pub fn stored<D: Disk>(alloc: Global, disk: &mut D) -> Result<Stored, LoadError> {
+pub fn all_stored<D: Disk>(alloc: Global, disk: &mut D) -> Result<Stored, LoadError> {
     let Loaded {
         journal,
         view,
@@ -90,7 +90,7 @@ pub fn stored_in(
     slot1: &[u8],
 ) -> Result<Result<Stored, LoadError>, Fail> {
     let mut world = disk(alloc, slot0, slot1, &[])?;
-    Ok(stored(alloc, &mut world))
+    Ok(all_stored(alloc, &mut world))
 }
 
 /// What was stored once so many calls were made on a disk and a stop came, where of each slot's unsynced bytes so many were kept and
@@ -108,5 +108,5 @@ pub fn stored_after_stop(
     let image = world.torn(at, keep, fill)?;
     let script = script(alloc, image, &[])?;
     let mut world = MemWorld::new(alloc, script)?;
-    Ok(stored(alloc, &mut world))
+    Ok(all_stored(alloc, &mut world))
 }
