@@ -1,12 +1,12 @@
 -- Where a journal stands over two slots that were read to their ends.
-use Rattle.std.proofs.Common.{true≢false, ℕ, zero, suc, ◌≡◌, ◌==◌, ◌&&◌, nat_le, ◌+◌, ◌-◌, ◌<◌, ◌≤◌, true, false, Bool, List, ◌∷◌, ◌++◌, length, take, Ok, Err, refl, sym, ap, ap₂, ◌∙◌, subst, arith, if◌then◌else◌}
+use Rattle.std.proofs.Common.{true≢false, ℕ, ◌≡◌, ◌==◌, ◌&&◌, nat_le, ◌+◌, ◌-◌, ◌<◌, ◌≤◌, true, false, Bool, List, length, take, Ok, Err, refl, sym, ap, ap₂, ◌∙◌, subst, arith, if◌then◌else◌}
 use Rattle.std.proofs.lemmas.Bool.{eq-eqb, ne_eqb}
 use Rattle.f2b_base.specs.declared.input.Input.{Input}
 use Rattle.journal_slots.specs.declared.head.Head.{Head}
 use Rattle.journal_slots.specs.declared.head.Head.TheVariants.{Ajar}
-use Rattle.journal_slots.specs.Grammar.{Opened, Parsed, Empty, Open, Bad, parse_slot}
+use Rattle.journal_slots.specs.Grammar.{Opened, Parsed, Empty, Open, parse_slot}
 use Rattle.journal_slots.specs.Starts.{IsHead}
-use Rattle.journal_slots.specs.Tops.{Stored, Top, Newest, NoneOpen, NoJournal, top_of, stored_in, IsOlder}
+use Rattle.journal_slots.specs.Tops.{Stored, Newest, NoneOpen, NoJournal, top_of, stored_in, IsOlder}
 use Rattle.journal_slots.proofs.SlotLemmas.{front_head}
 use Rattle.journal_slots.proofs.TopLemmas.{newest}
 use Rattle.record_codec.specs.declared.version.Version.{Version}

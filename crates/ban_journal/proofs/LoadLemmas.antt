@@ -1,20 +1,20 @@
 -- What a journal gives that is loaded, and what both slots mean.
-use Rattle.std.proofs.Common.{ℕ, zero, suc, ◌≡◌, ◌+◌, ◌-◌, ◌<◌, ◌≤◌, ◌==◌, ◌||◌, nat_lt, true, Option, Some, None, List, [], ◌∷◌, ◌++◌, length, drop, Result, Ok, Err, length-append, refl, sym, ap, ap₂, ◌∙◌, append_assoc, append-nil, subst, arith, lit<}
+use Rattle.std.proofs.Common.{ℕ, zero, suc, ◌≡◌, ◌+◌, ◌-◌, ◌<◌, ◌≤◌, Option, Some, None, List, [], ◌∷◌, ◌++◌, length, drop, Result, Ok, Err, length-append, refl, sym, ap, ◌∙◌, append_assoc, append-nil, subst, arith}
 use Rattle.std.proofs.lemmas.Bool.{le-ltb}
 use Rattle.std.proofs.lemmas.List.{take-append-drop, append_cancel_left}
 use Rattle.std.proofs.lemmas.Option.{same_Some}
 use Rattle.f2b_base.specs.declared.input.Input.{Input}
 use Rattle.f2b_base.specs.declared.view.View.{View}
 use Rattle.f2b_model.specs.Views.{empty_view}
-use Rattle.f2b_world.specs.Faults.{OfDisk, Rose}
+use Rattle.f2b_world.specs.Faults.{OfDisk}
 use Rattle.f2b_world.specs.Slots.{Slot}
-use Rattle.f2b_world.specs.Told.{History, Standing, HasLength, slot_of}
+use Rattle.f2b_world.specs.Told.{History, Standing}
 use Rattle.journal_slots.specs.declared.head.Head.{Head}
 use Rattle.journal_slots.specs.declared.head.Head.TheVariants.{Short, Ajar, Shut}
-use Rattle.journal_slots.specs.Fronts.{IsRun, IsFront}
+use Rattle.journal_slots.specs.Fronts.{IsRun}
 use Rattle.journal_slots.specs.Grammar.{Opened, Parsed, Empty, Open, Bad, inputs_at, opened_at, number_of, parsed_of, parse_slot}
 use Rattle.journal_slots.specs.Starts.{Start, start, generation, IsHead}
-use Rattle.journal_slots.specs.Tops.{Stored, NoJournal}
+use Rattle.journal_slots.specs.Tops.{Stored}
 use Rattle.journal_slots.proofs.RunLemmas.{not_closed, with_front, run_reads}
 use Rattle.journal_slots.proofs.StartLemmas.{start_codec}
 use Rattle.record_fields.specs.Codec.{◌>>=◌, IsHeld}
@@ -22,7 +22,6 @@ use Rattle.record_fields.proofs.CodecLemmas.{held_behind}
 use Rattle.slot_reader.specs.declared.checked.Checked.{Checked}
 use Rattle.slot_reader.specs.declared.fault.Fault.{Fault}
 use Rattle.slot_reader.specs.declared.fault.Fault.TheVariants.{Disk as FaultDisk, NoMemory as FaultMemory}
-use Rattle.slot_reader.specs.declared.opening.Opening.{Opening}
 use Rattle.slot_reader.specs.declared.opening.Opening.TheVariants.{Empty as EmptyOpening, Open as OpenOpening, Bad as BadOpening}
 use Rattle.slot_reader.specs.declared.reader.Next.{Next}
 use Rattle.slot_reader.specs.declared.reader.Next.TheVariants.{Input as NextInput, Closed, Bad as BadNext}
@@ -33,11 +32,10 @@ use Rattle.slot_reader.proofs.ReadLemmas.{told_before, reads_same, reads_then}
 use Rattle.slot_writes.specs.declared.position.Position.{Position}
 use Rattle.slot_writes.specs.Entries.{fresh_slot}
 use Rattle.slot_writes.specs.Rests.{IsTop, IsOpenAt, IsAtRest}
-use Rattle.ban_journal.specs.declared.load.Loaded.{Loaded}
 use Rattle.ban_journal.specs.declared.load.StoredInputs.{StoredInputs}
 use Rattle.ban_journal.specs.declared.load_error.LoadError.{LoadError}
 use Rattle.ban_journal.specs.declared.load_error.LoadError.TheVariants.{DiskFault, NotAJournal, NoMemory}
-use Rattle.ban_journal.specs.Loads.{WhereTold, load_error, TellsError, StandsOver, IsFound, StandBehind, AreLeft, IsGiven, IsBegun, AreSettled, HasLoaded, IsLoaded}
+use Rattle.ban_journal.specs.Loads.{WhereTold, load_error, TellsError, StandsOver, IsFound, StandBehind, AreLeft, IsGiven, IsBegun, AreSettled, IsLoaded}
 use Rattle.ban_journal.specs.Places.{least_bytes, IsPlaced}
 
 -- ---- what was read of a slot, and what it means

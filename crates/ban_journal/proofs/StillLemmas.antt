@@ -1,9 +1,9 @@
 -- A journal while the disk is only read, as while its inputs are given.
-use Rattle.std.proofs.Common.{ℕ, ◌≡◌, ◌+◌, ◌<◌, Option, Some, List, length, sym, ap, ◌∙◌, arith}
+use Rattle.std.proofs.Common.{ℕ, ◌+◌, length, sym, ap, ◌∙◌, arith}
 use Rattle.f2b_world.specs.Slots.{Slot, settled}
-use Rattle.f2b_world.specs.Told.{History, Standing, HasLength, slot_of}
+use Rattle.f2b_world.specs.Told.{Standing, HasLength}
 use Rattle.journal_slots.specs.Tops.{Stored}
-use Rattle.slot_reader.specs.Reads.{content, OnlyReads}
+use Rattle.slot_reader.specs.Reads.{OnlyReads}
 use Rattle.slot_reader.proofs.ReadLemmas.{told_before}
 use Rattle.slot_writes.specs.declared.position.Position.{Position}
 use Rattle.slot_writes.specs.Entries.{fresh_slot}
