@@ -1,6 +1,5 @@
 -- What each call on the disk did, and calls one behind the other.
-use Rattle.std.proofs.Common.{ℕ, ◌≡◌, ◌≢◌, ◌==◌, ◌+◌, ◌≤◌, ◌<◌, ◌^◌, Bool, true, false, if◌then◌else◌, Option, Some, None, List, [], ◌∷◌, ◌++◌, length, take, drop, replicate, length-append, refl, sym, ap, subst, ◌∙◌, arith, eq-eqb}
-use Rattle.std.proofs.lemmas.Bool.{cases_Bool}
+use Rattle.std.proofs.Common.{ℕ, ◌≡◌, ◌≢◌, ◌==◌, ◌+◌, ◌≤◌, Bool, true, false, if◌then◌else◌, Option, Some, None, List, [], ◌∷◌, ◌++◌, length, take, drop, length-append, refl, sym, ap, subst, ◌∙◌, arith, eq-eqb}
 use Rattle.std.proofs.lemmas.List.{length-take, length-drop}
 use Rattle.f2b_world.specs.declared.answer.Synced.TheVariants.{Done as SyncDone, Failed as SyncFailed}
 use Rattle.f2b_world.specs.declared.answer.Wrote.{Wrote as WroteAnswer}
@@ -8,17 +7,16 @@ use Rattle.f2b_world.specs.declared.answer.Wrote.TheVariants.{Done as WroteDone,
 use Rattle.f2b_world.specs.declared.event.Event.{Event}
 use Rattle.f2b_world.specs.declared.event.Event.TheVariants.{DiskWrite, DiskSync}
 use Rattle.f2b_world.specs.Faults.{Fault as Kind, OfDisk, Rose}
-use Rattle.f2b_world.specs.Slots.{Slot, slot_step, slot_after, settled, written, write_to}
-use Rattle.f2b_world.specs.Told.{History, Standing, Called, Adds, IsHonest, HasLength, Leaves, grown, slot_of}
+use Rattle.f2b_world.specs.Slots.{Slot, slot_step, written, write_to}
+use Rattle.f2b_world.specs.Told.{History, Standing, Called, Adds, IsHonest, HasLength, grown, slot_of}
 use Rattle.f2b_world.proofs.AddsLemmas.{adds_weaker}
 use Rattle.journal_slots.specs.declared.head.Head.{Head}
-use Rattle.journal_slots.specs.declared.head.Head.TheVariants.{Short, Ajar, Shut}
 use Rattle.ban_journal.specs.declared.fault.Fault.{Fault}
 use Rattle.ban_journal.specs.declared.fault.Fault.TheVariants.{Disk as FaultDisk, NoMemory as FaultMemory}
 use Rattle.ban_journal.specs.Answers.{IsBeside, Wrote, Broke, Stopped, Stops}
-use Rattle.ban_journal.specs.Places.{IsNoShorter, least_bytes}
+use Rattle.ban_journal.specs.Places.{IsNoShorter}
 use Rattle.slot_writes.specs.Entries.{behind_gate, clearing, turn_calls}
-use Rattle.slot_writes.specs.Writes.{Write, Put, Sync, done_event, failed_event, done_events, IsBroken, Performs, Breaks, StopsShort}
+use Rattle.slot_writes.specs.Writes.{Write, Put, Sync, failed_event, done_events, IsBroken}
 use Rattle.slot_writes.proofs.RunLemmas.{performs_then, breaks_behind, stops_behind, breaks_more, stops_more, performs_none, stops_at_once, slot_grown}
 
 -- ---- how long slots are

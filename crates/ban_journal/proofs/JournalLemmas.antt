@@ -1,34 +1,31 @@
 -- What the journal's calls did, and what whatever a stop leaves means meanwhile.
-use Rattle.std.proofs.Common.{ℕ, zero, suc, ◌≡◌, ◌+◌, ◌-◌, ◌≤◌, ◌<◌, ◌^◌, ◌⊎◌, inl, inr, Bool, true, false, nat_lt, nat_le, min, Option, Some, None, Result, Ok, Err, IfOk, List, [], ◌∷◌, ◌++◌, length, take, length-append, refl, sym, ap, ap₂, subst, ◌∙◌, arith}
+use Rattle.std.proofs.Common.{ℕ, ◌≡◌, ◌+◌, ◌-◌, ◌≤◌, ◌<◌, ◌^◌, inl, inr, true, false, nat_le, min, Option, Some, None, Result, Ok, Err, IfOk, List, [], ◌∷◌, length, take, length-append, refl, sym, ap, ap₂, subst, ◌∙◌, arith}
 use Rattle.std.proofs.lemmas.Bool.{cases_Bool, leb-true, lt-ltb, le-ltb, le-leb}
-use Rattle.std.proofs.lemmas.List.{take_all}
 use Rattle.f2b_base.specs.declared.input.Input.{Input}
 use Rattle.f2b_base.specs.declared.view.View.{View}
-use Rattle.f2b_model.specs.Storable.{IsStorableInput}
 use Rattle.f2b_world.specs.declared.event.Event.{Event}
 use Rattle.f2b_world.specs.Told.{History, Standing, Adds, HasLength, grown}
 use Rattle.f2b_world.proofs.AddsLemmas.{adds_weaker, adds_none, grown_none}
-use Rattle.journal_slots.specs.declared.head.Head.TheVariants.{Short, Ajar, Shut}
+use Rattle.journal_slots.specs.declared.head.Head.TheVariants.{Ajar}
 use Rattle.journal_slots.specs.Starts.{last_generation}
-use Rattle.journal_slots.specs.Tops.{Stored}
 use Rattle.record_codec.specs.declared.version.Version.TheVariants.{Two}
 use Rattle.record_codec.specs.Inputs.{input}
-use Rattle.record_codec.specs.Views.{view, IsRecordedView}
+use Rattle.record_codec.specs.Views.{view}
 use Rattle.record_fields.specs.Codec.{capped}
 use Rattle.ban_journal.specs.declared.append_error.AppendError.{AppendError}
 use Rattle.ban_journal.specs.declared.append_error.AppendError.TheVariants.{DiskFault, Full, Spent, NoMemory}
 use Rattle.ban_journal.specs.declared.fault.Fault.{Fault}
 use Rattle.ban_journal.specs.declared.fault.Fault.TheVariants.{Disk as FaultDisk, NoMemory as FaultMemory}
-use Rattle.ban_journal.specs.Answers.{Wrote, Stopped, Stops, error_of, Fails, Writes, said, IsAnswer}
-use Rattle.ban_journal.specs.Kept.{KeepsEither, KeepsOneOf, Appends, TurnsOver, RestsAppended, RestsTurned}
-use Rattle.ban_journal.specs.Places.{IsPlaced, IsNoShorter, least_bytes}
+use Rattle.ban_journal.specs.Answers.{Wrote, Stops, error_of, Fails, Writes, said, IsAnswer}
+use Rattle.ban_journal.specs.Kept.{Appends, TurnsOver, RestsAppended, RestsTurned}
+use Rattle.ban_journal.specs.Places.{IsPlaced, least_bytes}
 use Rattle.ban_journal.proofs.CallLemmas.{stopped_at_once}
 use Rattle.ban_journal.proofs.PartLemmas.{none_taken, part_take}
 use Rattle.ban_journal.proofs.RoomLemmas.{room_of, grows_of, above_need, within_need, said_is}
 use Rattle.slot_writes.specs.declared.position.Position.{Position}
 use Rattle.slot_writes.specs.Entries.{Entry, Written, Full as EntryFull, Spent as EntrySpent, fresh_slot, entry, body, behind_gate, turn_calls, fits, append_writes, appended, fresh_start, need, turn_entry, turn_writes, turned, input_bytes}
-use Rattle.slot_writes.specs.Rests.{PermitsBoth, Rests, IsAtRest, MeansEither, MeansOneOf, Means, and_input, just_view}
-use Rattle.slot_writes.specs.Writes.{Write, done_events, failed_event, IsFirstPart, IsBroken, IsPart, Performs}
+use Rattle.slot_writes.specs.Rests.{PermitsBoth, IsAtRest, MeansEither, MeansOneOf, and_input, just_view}
+use Rattle.slot_writes.specs.Writes.{Write, done_events, IsFirstPart, IsBroken, IsPart, Performs}
 use Rattle.slot_writes.proofs.RestLemmas.{rest_means, append_means, append_rests, turn_means, turn_rests}
 use Rattle.slot_writes.proofs.RunLemmas.{all_is_part}
 

@@ -1,7 +1,7 @@
 -- The beginning of a run of calls is one, too.
-use Rattle.std.proofs.Common.{ℕ, zero, suc, ◌≡◌, ◌⊎◌, inl, inr, List, [], ◌∷◌, ◌++◌, take, refl, sym, ap, ◌∙◌, subst}
+use Rattle.std.proofs.Common.{ℕ, zero, suc, ◌≡◌, inl, inr, List, [], ◌∷◌, ◌++◌, take, refl, sym, ap, subst}
 use Rattle.f2b_world.specs.declared.event.Event.{Event}
-use Rattle.slot_writes.specs.Writes.{Write, done_event, failed_event, done_events, IsFirstPart, IsBroken, IsPart}
+use Rattle.slot_writes.specs.Writes.{Write, done_event, failed_event, done_events, IsPart}
 
 pub none_taken : (k : ℕ) → take k (let r : List Event = [] in r) ≡ []
 none_taken zero = refl

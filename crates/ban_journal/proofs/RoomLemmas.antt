@@ -1,11 +1,9 @@
 -- Room, by lengths that are capped.
-use Rattle.std.proofs.Common.{ℕ, ◌≡◌, ◌+◌, ◌-◌, ◌≤◌, ◌<◌, ◌^◌, ◌&&◌, min, nat_le, nat_lt, Bool, true, false, List, [], ◌∷◌, ◌++◌, length, length-append, refl, sym, ap, ◌∙◌, subst, arith, inl, inr, true≢false}
-use Rattle.std.proofs.lemmas.Bool.{cases_Bool, leb-true, le-leb, lt-ltb, le-ltb}
+use Rattle.std.proofs.Common.{ℕ, ◌≡◌, ◌+◌, ◌-◌, ◌≤◌, ◌<◌, ◌^◌, min, nat_le, true, List, [], ◌∷◌, length, length-append, refl, sym, ◌∙◌, arith, inl, inr, true≢false}
+use Rattle.std.proofs.lemmas.Bool.{cases_Bool, leb-true, le-leb}
 use Rattle.f2b_base.specs.declared.input.Input.{Input}
 use Rattle.f2b_base.specs.declared.view.View.{View}
-use Rattle.f2b_world.specs.Told.{Standing}
 use Rattle.record_codec.specs.declared.version.Version.TheVariants.{Two}
-use Rattle.record_codec.specs.Inputs.{input}
 use Rattle.record_codec.specs.Views.{view}
 use Rattle.record_fields.specs.Codec.{capped}
 use Rattle.record_fields.proofs.NumberLemmas.{both_of}

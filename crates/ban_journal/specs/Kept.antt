@@ -1,5 +1,5 @@
 -- What whatever a stop leaves means while an input is written.
-use Rattle.std.specs.Prelude.{ℕ, List, Option, take}
+use Rattle.std.specs.Prelude.{ℕ, Option, take}
 use Rattle.f2b_base.specs.declared.input.Input.{Input}
 use Rattle.f2b_base.specs.declared.view.View.{View}
 use Rattle.f2b_model.specs.Storable.{IsStorableInput}

@@ -25,7 +25,7 @@ const LAST_GENERATION: u64 = 1 << 62;
 /// A journal in two slots, which is seen as where it stands.
 #[derive(Debug, Drop)]
 pub struct Journal {
-    position: Position,
+    pub(crate) position: Position,
 }
 
 impl Model for Journal {

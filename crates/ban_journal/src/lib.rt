@@ -4,7 +4,7 @@
 //! the calls on the disk that `entry_of` of `slot_writes` names, in their order, and no other; it fails in one of them, or for want of
 //! memory before one. Whatever a stop leaves at any moment means what was stored before, or that with the input. An append costs two
 //! syncs. A journal is passed on by each call, so none is used after an error. Nothing here knows what a view or an input means.
-//! A journal cannot be loaded yet, so no caller outside has one.
+//! A journal is loaded from both slots, which are read to their ends first; its inputs then come one by one.
 //!
 //! ```text
 //! let journal = if journal.fits(&input) {
@@ -19,8 +19,13 @@ mod append_error;
 mod calls;
 mod entry;
 mod fault;
+mod found;
 mod journal;
+mod load;
+mod load_error;
 mod room;
 
 pub use append_error::AppendError;
 pub use journal::Journal;
+pub use load::{Loaded, StoredInputs};
+pub use load_error::LoadError;

@@ -1,6 +1,5 @@
 use Rattle.std.proofs.Common.{◌≤◌, ◌<◌, ◌^◌, arith, rules}
 use Rattle.journal_slots.specs.Starts.{last_generation}
-use Rattle.slot_writes.specs.Entries.{need}
 use Rattle.ban_journal.proofs.JournalLemmas.{room_left, turn_waits, written_answer, turn_keeps, turn_rests_if}
 use Rattle.ban_journal.proofs.journal.Journal.turn_over.Goals as goal
 
