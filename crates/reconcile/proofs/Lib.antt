@@ -1,0 +1,4 @@
+pub mod TakenLemmas
+pub mod ViewLemmas
+pub mod EngineLemmas
+pub mod AnswerLemmas
