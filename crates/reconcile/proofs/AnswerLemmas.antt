@@ -1,5 +1,5 @@
 -- From how an input's calls ended, what whatever a stop leaves opens to.
-use Rattle.std.proofs.Common.{ℕ, ◌≡◌, ◌<◌, ◌^◌, ◌⊎◌, inl, inr, Bool, true, false, if◌then◌else◌, Option, Some, None, Result, Ok, Err, List, [], ◌++◌, take, refl, sym, ap, subst, ◌∙◌, append-nil}
+use Rattle.std.proofs.Common.{ℕ, ◌≡◌, ◌<◌, ◌^◌, ◌⊎◌, inl, inr, Bool, true, false, if◌then◌else◌, Option, Some, None, Result, Ok, Err, IfOk, List, [], ◌++◌, take, refl, sym, ap, subst, ◌∙◌, append-nil}
 use Rattle.f2b_base.specs.declared.input.Input.{Input}
 use Rattle.f2b_base.specs.declared.view.View.{View}
 use Rattle.f2b_model.specs.declared.told.Told.{Told}
@@ -23,12 +23,12 @@ use Rattle.slot_writes.specs.Writes.{Write, done_events, IsFirstPart, IsBroken, 
 use Rattle.slot_writes.proofs.RunLemmas.{all_is_part}
 use Rattle.reconcile.specs.declared.engine_error.EngineError.{EngineError}
 use Rattle.reconcile.specs.declared.engine_error.EngineError.TheVariants.{Spent, DiskFault, Full, NoMemory}
-use Rattle.reconcile.specs.Answers.{entry_for, error_of, Refuses, IsWritten}
-use Rattle.reconcile.specs.Engines.{EngineNow, IsOnDisk, Lasts}
+use Rattle.reconcile.specs.Answers.{entry_for, error_of, journal_of, Refuses, IsWritten}
+use Rattle.reconcile.specs.Engines.{EngineNow, IsOnDisk, OpensThrough}
 use Rattle.reconcile.specs.Laws.{IsWithinBounds}
-use Rattle.reconcile.specs.Opens.{OpensEither, OpensAfter}
-use Rattle.reconcile.specs.Stops.{OpensThrough}
+use Rattle.reconcile.specs.Opens.{WhereTold, Opens, OpensEither}
 use Rattle.reconcile.proofs.EngineLemmas.{rest_opens, written_opens, written_on_disk}
+use Rattle.reconcile.proofs.TakenLemmas.{storable_taken}
 
 -- ---- what came
 
@@ -68,42 +68,50 @@ module _ (e : EngineNow) (i : Input) (within : IsWithinBounds e i) where
   abbrev either_at : History → List Event → Type 0
   either_at g es = (k : ℕ) → OpensEither (spread e.core) (spread (step_now e.core i)) (grown g (take k es))
 
-  through_calls : (next : Position) (ws : List Write) (old new : Option History) → entry_for e i ≡ Written next ws → Adds old new (λ g es. IsPart ws es) → Lasts e old → OpensThrough e i old new
+  through_calls : (next : Position) (ws : List Write) (old new : Option History) → entry_for e i ≡ Written next ws → Adds old new (λ g es. IsPart ws es) → WhereTold old (IsOnDisk e) → OpensThrough e i old new
   through_calls next ws old new is part lasts = record {
     points = told_of (λ g es. IsPart ws es) either_at old new part (λ g told es came k. written_opens e i next ws g within (lasts g told) (take k es) is (part_take ws es k came));
   }
 
-  through_none : (old new : Option History) → Adds old new (λ g es. es ≡ []) → Lasts e old → OpensThrough e i old new
+  through_none : (old new : Option History) → Adds old new (λ g es. es ≡ []) → WhereTold old (IsOnDisk e) → OpensThrough e i old new
   through_none old new none lasts = record {
     points = told_of (λ g es. es ≡ []) either_at old new none (λ g told es came k image permits. inl (rest_opens e g (lasts g told) image (nothing_new g es k came image permits)));
   }
 
-  through_entry : (entry : Entry) (a b : Standing) (answer : Result Position EngineError) → entry_for e i ≡ entry → IsWritten e.journal.limit entry a b answer → Lasts e a.told → OpensThrough e i a.told b.told
+  through_entry : (entry : Entry) (a b : Standing) (answer : Result Position EngineError) → entry_for e i ≡ entry → IsWritten e.journal.limit entry a b answer → WhereTold a.told (IsOnDisk e) → OpensThrough e i a.told b.told
   through_entry (Written next ws) a b answer is did lasts = through_calls next ws a.told b.told is (part_came e.journal.limit next ws a b answer did) lasts
   through_entry (EntryFull need) a b answer is did lasts = through_none a.told b.told (none_came _ a b answer did) lasts
   through_entry EntrySpent a b answer is did lasts = through_none a.told b.told (none_came _ a b answer did) lasts
 
-  lasts_entry : (entry : Entry) (a b : Standing) (p : Position) → entry_for e i ≡ entry → IsWritten e.journal.limit entry a b (Ok p) → Lasts e a.told → Lasts (record { journal = p; core = step_now e.core i }) b.told
-  lasts_entry (Written next ws) a b p is did lasts h told =
+  lasts_entry : (entry : Entry) (a b : Standing) (p : Position) → entry_for e i ≡ entry → IsWritten e.journal.limit entry a b (Ok p) → WhereTold a.told (IsOnDisk e) → WhereTold b.told (IsOnDisk (record { journal = p; core = step_now e.core i }))
+  lasts_entry (Written next ws) a b p is did lasts = λ h told.
       let d = done_at ws a.told b.told did.1.performs h told in
       let there = written_on_disk e i next ws d.0 within (lasts d.0 d.2) d.1 is d.4 in
       subst (λ (q : Position). IsOnDisk (record { journal = q; core = step_now e.core i }) h) (sym did.0) (subst (IsOnDisk (record { journal = next; core = step_now e.core i })) (sym d.3) there)
   lasts_entry (EntryFull need) a b p is did lasts = absurd did
   lasts_entry EntrySpent a b p is did lasts = absurd did
 
-module _ (e : EngineNow) (i : Input) (a b : Standing) (limited : e.journal.limit < 2 ^ 64) (storable : IsStorable e.core) (taken : IsStorableInput i) where
-  within : IsWithinBounds e i
-  within = record { limit = limited; core = storable; input = taken }
-
-  pub opens_through : (answer : Result Position EngineError) → IsWritten e.journal.limit (entry_for e i) a b answer → Lasts e a.told → OpensThrough e i a.told b.told
-  opens_through answer did = through_entry e i within (entry_for e i) a b answer refl did
-
-  pub lasts_on : (p : Position) (core : Now) → core ≡ step_now e.core i → IsWritten e.journal.limit (entry_for e i) a b (Ok p) → Lasts e a.told → Lasts (record { journal = p; core = core }) b.told
-  lasts_on p core is did lasts =
-      subst (λ (n : Now). Lasts (record { journal = p; core = n }) b.told) (sym is) (lasts_entry e i within (entry_for e i) a b p refl did lasts)
-
-pub opens_after : (e : EngineNow) (told : Option History) → Lasts e told → OpensAfter (spread e.core) told
+opens_after : (e : EngineNow) (told : Option History) → WhereTold told (IsOnDisk e) → WhereTold told (Opens (spread e.core))
 opens_after e told lasts g is = rest_opens e g (lasts g is)
+
+-- An engine took an input so, and answered that.
+pub record Took (e : EngineNow) (i : Input) (a b : Standing) (result : Result (EngineNow × Told) EngineError) : Type 0 where
+  pub within : IsWithinBounds e i
+  pub did : IsWritten e.journal.limit (entry_for e i) a b (journal_of result)
+  pub core : IfOk result (λ r. r.0.core ≡ step_now e.core i)
+
+pub took_opens : (e : EngineNow) (i : Input) (a b : Standing) (result : Result (EngineNow × Told) EngineError) → Took e i a b result → WhereTold a.told (IsOnDisk e) → OpensThrough e i a.told b.told
+took_opens e i a b result is = through_entry e i is.within (entry_for e i) a b (journal_of result) refl is.did
+
+pub took_lasts : (e : EngineNow) (i : Input) (a b : Standing) (result : Result (EngineNow × Told) EngineError) → Took e i a b result → WhereTold a.told (IsOnDisk e) → IfOk result (λ r. WhereTold b.told (IsOnDisk r.0))
+took_lasts e i a b (Ok r) is lasts =
+    subst (λ (n : Now). WhereTold b.told (IsOnDisk (record { journal = r.0.journal; core = n }))) (sym is.core) (lasts_entry e i is.within (entry_for e i) a b r.0.journal refl is.did lasts)
+took_lasts e i a b (Err x) is lasts = tt
+
+pub took_closed : (e : EngineNow) (i : Input) (a b : Standing) (result : Result (EngineNow × Told) EngineError) → Took e i a b result → WhereTold a.told (IsOnDisk e)
+    → IfOk result (λ r. WhereTold b.told (Opens (spread r.0.core)))
+took_closed e i a b (Ok r) is lasts = opens_after r.0 b.told (took_lasts e i a b (Ok r) is lasts)
+took_closed e i a b (Err x) is lasts = tt
 
 -- ---- how the calls end
 
@@ -172,17 +180,33 @@ module _ (p : Position) (v : View) (i : Input) (a b : Standing) where
   turn_failed w e is full did =
       subst (λ (entry : Entry). IsWritten p.limit entry a b (Err (error_of e))) (ap (λ (u : View). turn_entry p u i) is ∙ sym (turn_is full)) (refused_so (turn_entry p w i) e did)
 
--- the numbers of the state
-module _ (e : EngineNow) (i : Input) (a b : Standing) where
-  pub spent_written : is_whole_spent moves_now books_now e.core ≡ true → IsWritten e.journal.limit (entry_for e i) a a (Err Spent)
-  spent_written spent =
-      subst (λ (entry : Entry). IsWritten e.journal.limit entry a a (Err Spent)) (sym (if_true (is_whole_spent moves_now books_now e.core) EntrySpent (entry_of e.journal (spread e.core) i) spent)) (inl refl, refl)
+-- ---- how an engine takes an input
 
-  pub free_written : (answer : Result Position EngineError) → is_whole_spent moves_now books_now e.core ≡ false → IsWritten e.journal.limit (entry_of e.journal (spread e.core) i) a b answer
-      → IsWritten e.journal.limit (entry_for e i) a b answer
-  free_written answer free did =
-      subst (λ (entry : Entry). IsWritten e.journal.limit entry a b answer) (sym (if_false (is_whole_spent moves_now books_now e.core) EntrySpent (entry_of e.journal (spread e.core) i) free)) did
+-- its numbers are used up
+pub took_spent : (e f : EngineNow) (i : Input) (a : Standing) (spent : Bool) → f ≡ e → e.journal.limit < 2 ^ 64 → IsStorable f.core → IsStorableInput i → spent ≡ is_whole_spent moves_now books_now f.core
+    → spent ≡ true → Took e i a a (Err Spent)
+took_spent e f i a spent same limited stored taken is yes =
+    let used : is_whole_spent moves_now books_now e.core ≡ true = subst (λ (x : EngineNow). is_whole_spent moves_now books_now x.core ≡ true) same (sym is ∙ yes) in
+    let entry_is : entry_for e i ≡ EntrySpent = if_true (is_whole_spent moves_now books_now e.core) EntrySpent (entry_of e.journal (spread e.core) i) used in
+    record {
+      within = record { limit = limited; core = subst (λ (x : EngineNow). IsStorable x.core) same stored; input = taken };
+      did = subst (λ (entry : Entry). IsWritten e.journal.limit entry a a (Err Spent)) (sym entry_is) (inl refl, refl);
+      core = tt;
+    }
+
+-- they are not
+pub took_free : (e f : EngineNow) (i : Input) (a b : Standing) (spent : Bool) (result : Result (EngineNow × Told) EngineError) → f ≡ e → e.journal.limit < 2 ^ 64 → IsStorable f.core → IsStorableInput i
+    → spent ≡ is_whole_spent moves_now books_now f.core → spent ≡ false → IsWritten e.journal.limit (entry_of e.journal (spread e.core) i) a b (journal_of result)
+    → IfOk result (λ r. r.0.core ≡ step_now e.core i) → Took e i a b result
+took_free e f i a b spent result same limited stored taken is no did core =
+    let free : is_whole_spent moves_now books_now e.core ≡ false = subst (λ (x : EngineNow). is_whole_spent moves_now books_now x.core ≡ false) same (sym is ∙ no) in
+    let entry_is : entry_for e i ≡ entry_of e.journal (spread e.core) i = if_false (is_whole_spent moves_now books_now e.core) EntrySpent (entry_of e.journal (spread e.core) i) free in
+    record {
+      within = record { limit = limited; core = subst (λ (x : EngineNow). IsStorable x.core) same stored; input = taken };
+      did = subst (λ (entry : Entry). IsWritten e.journal.limit entry a b (journal_of result)) (sym entry_is) did;
+      core = core;
+    }
 
 pub ruleset written_exits = (append_written, append_failed, turn_written, turn_failed, unwritten)
 
-pub ruleset take_exits = (spent_written, free_written, written_unmade, opens_through, lasts_on, opens_after)
+pub ruleset taken_exits = (written_unmade, storable_taken)

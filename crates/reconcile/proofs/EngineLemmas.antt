@@ -55,7 +55,7 @@ turned_so p v i next ws is = elim (chosen (nat_lt p.limit (need v i)) (Full (nee
   | inr room ↦ elim (chosen (nat_le last_generation p.generation) Spent (Written (turned p v i) (turn_writes p v i)) (Written next ws) room.1) [
     | inl spent ↦ absurd (let e : Spent ≡ Written next ws = spent.1 in cc)
     | inr free ↦ (let e : Written (turned p v i) (turn_writes p v i) ≡ Written next ws = free.1 in
-      record { room = ltb-false p.limit (need v i) room.0; below = leb-false last_generation p.generation free.0; next_is = cc; calls = cc })
+        record { room = ltb-false p.limit (need v i) room.0; below = leb-false last_generation p.generation free.0; next_is = cc; calls = cc })
   ]
 ]
 

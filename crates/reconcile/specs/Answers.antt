@@ -8,7 +8,8 @@ use Rattle.f2b_model.specs.Views.{spread}
 use Rattle.f2b_model.specs.Whole.{is_whole_spent}
 use Rattle.f2b_world.specs.Told.{Standing}
 use Rattle.ban_journal.specs.declared.append_error.AppendError.{AppendError}
-use Rattle.ban_journal.specs.declared.append_error.AppendError.TheVariants.{DiskFault as JournalFault, Full as JournalFull, Spent as JournalSpent, NoMemory as JournalMemory}
+use Rattle.ban_journal.specs.declared.append_error.AppendError.TheVariants.{DiskFault as JournalFault, Full as JournalFull}
+use Rattle.ban_journal.specs.declared.append_error.AppendError.TheVariants.{Spent as JournalSpent, NoMemory as JournalMemory}
 use Rattle.ban_journal.specs.Answers.{Wrote, Broke, Stopped, said}
 use Rattle.slot_writes.specs.declared.position.Position.{Position}
 use Rattle.slot_writes.specs.Entries.{Entry, Written, Full as EntryFull, Spent as EntrySpent, entry_of}

@@ -19,12 +19,18 @@ pub record IsWithinBounds (e : EngineNow) (i : Input) : Type 0 where
   pub core : IsStorable e.core
   pub input : IsStorableInput i
 
+-- An engine that is on the disk is about to write an input by these calls, and its journal will stand there.
+pub record IsAboutToWrite (e : EngineNow) (i : Input) (next : Position) (ws : List Write) (g : History) : Type 0 where
+  pub bounds : IsWithinBounds e i
+  pub on : IsOnDisk e g
+  pub entry : entry_for e i ≡ Written next ws
+
 pub record IsEngineLaw : Type 0 where
   -- whatever a stop leaves of an engine that is on the disk opens to its view
   pub rests : (e : EngineNow) (g : History) → IsOnDisk e g → Opens (spread e.core) g
-  -- while an input is written, however far that came and whether the last call failed, it opens to the view before it or to the one with it
-  pub written : (e : EngineNow) (i : Input) (next : Position) (ws : List Write) (g : History) (es : List Event) → IsWithinBounds e i → IsOnDisk e g → entry_for e i ≡ Written next ws → IsPart ws es
-      → OpensEither (spread e.core) (spread (step_now e.core i)) (grown g es)
+  -- while an input is written, however far that came, it opens to the view before it or to the one with it
+  pub written : (e : EngineNow) (i : Input) (next : Position) (ws : List Write) (g : History) (es : List Event)
+      → IsAboutToWrite e i next ws g → IsPart ws es → OpensEither (spread e.core) (spread (step_now e.core i)) (grown g es)
   -- once it is written and taken the engine is on the disk with it
-  pub closed : (e : EngineNow) (i : Input) (next : Position) (ws : List Write) (g : History) (es : List Event) → IsWithinBounds e i → IsOnDisk e g → entry_for e i ≡ Written next ws → es ≡ done_events ws
-      → IsOnDisk (record { journal = next; core = step_now e.core i }) (grown g es)
+  pub closed : (e : EngineNow) (i : Input) (next : Position) (ws : List Write) (g : History) (es : List Event)
+      → IsAboutToWrite e i next ws g → es ≡ done_events ws → IsOnDisk (record { journal = next; core = step_now e.core i }) (grown g es)

@@ -12,6 +12,10 @@ use Rattle.f2b_world.specs.Told.{History}
 use Rattle.journal_slots.specs.Tops.{Stored, meaning}
 use Rattle.slot_writes.specs.Rests.{PermitsBoth}
 
+-- of the history, where it is told
+abbrev pub WhereTold : Option History → (History → Type 0) → Type 0
+WhereTold told P = (g : History) → told ≡ Some g → P g
+
 -- the view after these inputs
 abbrev pub view_after : View → List Input → View
 view_after v inputs = view_of (steps (back v) inputs)
@@ -36,7 +40,3 @@ Opens v g = (image : ℕ → List ℕ) → PermitsBoth g image → OpensTo v ima
 -- whatever a stop leaves opens to the one view or to the other
 abbrev pub OpensEither : View → View → History → Type 0
 OpensEither before after g = (image : ℕ → List ℕ) → PermitsBoth g image → OpensTo before image ⊎ OpensTo after image
-
--- as long as the disk tells
-abbrev pub OpensAfter : View → Option History → Type 0
-OpensAfter v told = (g : History) → told ≡ Some g → Opens v g

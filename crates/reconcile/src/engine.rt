@@ -5,9 +5,8 @@ ghost use Rattle.f2b_model.specs.Storable.{IsStorable, IsStorableInput};
 ghost use Rattle.f2b_model.specs.Views.{spread};
 ghost use Rattle.f2b_model.specs.Whole.{step_now, told_now};
 ghost use Rattle.reconcile.specs.Answers.{entry_for, journal_of, IsWritten};
-ghost use Rattle.reconcile.specs.Engines.{Lasts};
-ghost use Rattle.reconcile.specs.Opens.{OpensAfter};
-ghost use Rattle.reconcile.specs.Stops.{OpensThrough};
+ghost use Rattle.reconcile.specs.Engines.{IsOnDisk, OpensThrough};
+ghost use Rattle.reconcile.specs.Opens.{Opens, WhereTold};
 ghost use Rattle.slot_writes.specs.Entries.{entry_of};
 
 use crate::engine_error::EngineError;
@@ -38,6 +37,7 @@ impl Model for Engine {
 }
 
 /// Writes an input: behind the others where it fits, else into the other slot, behind the view so far.
+#[tactic(auto, using(crate::proofs::AnswerLemmas::written_exits))]
 fn written<D: Disk>(
     alloc: Global,
     disk: &mut D,
@@ -67,6 +67,27 @@ impl Engine {
         &self.core
     }
 
+    /// Writes an input and takes its step, where the numbers of the state are not used up.
+    #[tactic(auto, using(crate::proofs::AnswerLemmas::taken_exits))]
+    fn taken<D: Disk>(
+        self,
+        alloc: Global,
+        disk: &mut D,
+        input: &Input,
+    ) -> Result<(Engine, Told), EngineError>
+        requires storable { IsStorableInput input.now }
+        requires placed { IsPlaced self.journal (D.stands disk.old).told }
+        ensures answer { IsWritten self.journal.limit (entry_of self.journal (spread self.core) input.now) (D.stands disk.old) (D.stands disk.new) (journal_of result) }
+        ensures core { IfOk result (λ r. r.0.core ≡ step_now self.core input.now) }
+        ensures told { IfOk result (λ r. r.1 ≡ told_now self.core input.now) }
+        ensures placed { IfOk result (λ r. IsPlaced r.0.journal (D.stands disk.new).told) }
+    {
+        let Engine { journal, core } = self;
+        let journal = written(alloc, disk, journal, &core, input)?;
+        let (core, told) = core.take(input)?;
+        Ok((Engine { journal, core }, told))
+    }
+
     /// Writes an input and takes its step, and tells what that did, as `Core::take` says. What was written is over a stop once the last
     /// sync is done, and before that nothing of it has an effect.
     pub fn take<D: Disk>(
@@ -83,16 +104,13 @@ impl Engine {
         ensures placed { IfOk result (λ r. IsPlaced r.0.journal (D.stands disk.new).told) }
 
         // What a stop leaves of an engine that is on the disk, and where it is then.
-        ensures opens { Lasts self (D.stands disk.old).told → OpensThrough self input (D.stands disk.old).told (D.stands disk.new).told }
-        ensures closed { Lasts self (D.stands disk.old).told → IfOk result (λ r. OpensAfter (spread r.0.core) (D.stands disk.new).told) }
-        ensures lasts { Lasts self (D.stands disk.old).told → IfOk result (λ r. Lasts r.0 (D.stands disk.new).told) }
+        ensures opens { WhereTold (D.stands disk.old).told (IsOnDisk self) → OpensThrough self input (D.stands disk.old).told (D.stands disk.new).told }
+        ensures closed { WhereTold (D.stands disk.old).told (IsOnDisk self) → IfOk result (λ r. WhereTold (D.stands disk.new).told (Opens (spread r.0.core))) }
+        ensures lasts { WhereTold (D.stands disk.old).told (IsOnDisk self) → IfOk result (λ r. WhereTold (D.stands disk.new).told (IsOnDisk r.0)) }
     {
         if self.core.spent() {
             return Err(EngineError::Spent);
         }
-        let Engine { journal, core } = self;
-        let journal = written(alloc, disk, journal, &core, &input)?;
-        let (core, told) = core.take(&input)?;
-        Ok((Engine { journal, core }, told))
+        self.taken(alloc, disk, &input)
     }
 }

@@ -4,6 +4,6 @@ use Rattle.reconcile.proofs.law.engine_law.Goals as goal
 pub returns : goal.returns
 returns c = record {
   rests = rest_opens;
-  written = λ e i next ws g es within on is part. written_opens e i next ws g within on es is part;
-  closed = λ e i next ws g es within on is done. written_on_disk e i next ws g within on es is done;
+  written = λ e i next ws g es is part. written_opens e i next ws g is.bounds is.on es is.entry part;
+  closed = λ e i next ws g es is done. written_on_disk e i next ws g is.bounds is.on es is.entry done;
 }
