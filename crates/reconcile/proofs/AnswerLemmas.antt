@@ -185,8 +185,8 @@ module _ (p : Position) (v : View) (i : Input) (a b : Standing) where
 -- its numbers are used up
 pub took_spent : (e f : EngineNow) (i : Input) (a : Standing) (spent : Bool) → f ≡ e → e.journal.limit < 2 ^ 64 → IsStorable f.core → IsStorableInput i → spent ≡ is_whole_spent moves_now books_now f.core
     → spent ≡ true → Took e i a a (Err Spent)
-took_spent e f i a spent same limited stored taken is yes =
-    let used : is_whole_spent moves_now books_now e.core ≡ true = subst (λ (x : EngineNow). is_whole_spent moves_now books_now x.core ≡ true) same (sym is ∙ yes) in
+took_spent e f i a spent same limited stored taken is holds =
+    let used : is_whole_spent moves_now books_now e.core ≡ true = subst (λ (x : EngineNow). is_whole_spent moves_now books_now x.core ≡ true) same (sym is ∙ holds) in
     let entry_is : entry_for e i ≡ EntrySpent = if_true (is_whole_spent moves_now books_now e.core) EntrySpent (entry_of e.journal (spread e.core) i) used in
     record {
       within = record { limit = limited; core = subst (λ (x : EngineNow). IsStorable x.core) same stored; input = taken };
@@ -198,8 +198,8 @@ took_spent e f i a spent same limited stored taken is yes =
 pub took_free : (e f : EngineNow) (i : Input) (a b : Standing) (spent : Bool) (result : Result (EngineNow × Told) EngineError) → f ≡ e → e.journal.limit < 2 ^ 64 → IsStorable f.core → IsStorableInput i
     → spent ≡ is_whole_spent moves_now books_now f.core → spent ≡ false → IsWritten e.journal.limit (entry_of e.journal (spread e.core) i) a b (journal_of result)
     → IfOk result (λ r. r.0.core ≡ step_now e.core i) → Took e i a b result
-took_free e f i a b spent result same limited stored taken is no did core =
-    let free : is_whole_spent moves_now books_now e.core ≡ false = subst (λ (x : EngineNow). is_whole_spent moves_now books_now x.core ≡ false) same (sym is ∙ no) in
+took_free e f i a b spent result same limited stored taken is fails did core =
+    let free : is_whole_spent moves_now books_now e.core ≡ false = subst (λ (x : EngineNow). is_whole_spent moves_now books_now x.core ≡ false) same (sym is ∙ fails) in
     let entry_is : entry_for e i ≡ entry_of e.journal (spread e.core) i = if_false (is_whole_spent moves_now books_now e.core) EntrySpent (entry_of e.journal (spread e.core) i) free in
     record {
       within = record { limit = limited; core = subst (λ (x : EngineNow). IsStorable x.core) same stored; input = taken };

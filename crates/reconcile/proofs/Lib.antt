@@ -2,3 +2,4 @@ pub mod TakenLemmas
 pub mod ViewLemmas
 pub mod EngineLemmas
 pub mod AnswerLemmas
+pub mod StillLemmas
