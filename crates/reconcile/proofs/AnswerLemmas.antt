@@ -1,5 +1,5 @@
 -- From how an input's calls ended, what whatever a stop leaves opens to.
-use Rattle.std.proofs.Common.{ℕ, ◌≡◌, ◌<◌, ◌^◌, ◌⊎◌, inl, inr, Bool, true, false, if◌then◌else◌, Option, Some, None, Result, Ok, Err, IfOk, List, [], ◌++◌, take, refl, sym, ap, subst, ◌∙◌, append-nil}
+use Rattle.std.proofs.Common.{ℕ, ◌≡◌, ◌<◌, ◌^◌, inl, inr, Bool, true, false, if◌then◌else◌, Option, Some, None, Result, Ok, Err, IfOk, List, [], take, refl, sym, ap, subst, ◌∙◌, append-nil}
 use Rattle.f2b_base.specs.declared.input.Input.{Input}
 use Rattle.f2b_base.specs.declared.view.View.{View}
 use Rattle.f2b_model.specs.declared.told.Told.{Told}
@@ -13,7 +13,7 @@ use Rattle.f2b_world.specs.Told.{History, Standing, Adds, grown}
 use Rattle.f2b_world.proofs.AddsLemmas.{adds_weaker, adds_none, grown_none}
 use Rattle.ban_journal.specs.declared.append_error.AppendError.{AppendError}
 use Rattle.ban_journal.specs.declared.append_error.AppendError.TheVariants.{DiskFault as JournalFault, Full as JournalFull, Spent as JournalSpent, NoMemory as JournalMemory}
-use Rattle.ban_journal.specs.Answers.{Wrote, Stopped, Writes, IsAnswer}
+use Rattle.ban_journal.specs.Answers.{Writes, IsAnswer}
 use Rattle.ban_journal.proofs.CallLemmas.{stopped_at_once}
 use Rattle.ban_journal.proofs.PartLemmas.{none_taken, part_take}
 use Rattle.slot_writes.specs.declared.position.Position.{Position}

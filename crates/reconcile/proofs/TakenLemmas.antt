@@ -1,17 +1,17 @@
 -- What can be stored can be taken.
-use Rattle.std.proofs.Common.{◌≡◌, ℕ, ◌^◌, ◌<◌, ◌≤◌, List, [], ◌∷◌, length, map, get_or, zero, suc, ℤ, arith}
+use Rattle.std.proofs.Common.{ℕ, ◌<◌, ◌≤◌, List, [], ◌∷◌, length, map, get_or, zero, suc, ℤ, arith}
 use Rattle.std.specs.Prelude.{◌≤ℤ◌, All, pos, negsuc, bytes_eq}
 use Rattle.std.proofs.lemmas.Int.{ints}
 use Rattle.f2b_base.specs.Span.{IsRule}
 use Rattle.f2b_base.specs.declared.ban.BanRule.{BanRule}
 use Rattle.f2b_base.specs.declared.input.Input.{Input}
 use Rattle.f2b_base.specs.declared.input.What.{What}
-use Rattle.f2b_base.specs.declared.input.What.TheVariants.{Tick, Read, Ended, Config, Stop, Ban, Unban, Attempt, Ignore, Findtime, Bantime, Maxretry, Idle, CheckFailed}
+use Rattle.f2b_base.specs.declared.input.What.TheVariants.{Config, Findtime, Bantime, Maxretry}
 use Rattle.f2b_base.specs.declared.jail.Defs.{Defs}
 use Rattle.f2b_base.specs.declared.jail.JailDef.{JailDef}
 use Rattle.f2b_base.specs.declared.jail.WatchDef.{WatchDef}
 use Rattle.f2b_model.specs.Lists.{AllOf, AreDistinct}
-use Rattle.f2b_model.specs.Sound.{AreFitDefs, IsFit, IsFitWhat, same_kind}
+use Rattle.f2b_model.specs.Sound.{AreFitDefs, IsFitWhat, same_kind}
 use Rattle.f2b_model.specs.Storable.{IsBase, IsWithin, AreStorableDefs, IsStorableDef, IsStorableInput, IsStorableRule, IsStorableWhat}
 use Rattle.f2b_model.proofs.StepLemmas.{all_of-more}
 use Rattle.f2b_model.specs.Bounds.{IsBounded, IsBoundedWhat, IsTakenInput}
