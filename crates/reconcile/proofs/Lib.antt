@@ -1,0 +1,5 @@
+pub mod TakenLemmas
+pub mod ViewLemmas
+pub mod EngineLemmas
+pub mod AnswerLemmas
+pub mod StillLemmas

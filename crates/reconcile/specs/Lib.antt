@@ -1,0 +1,4 @@
+pub mod Opens
+pub mod Engines
+pub mod Answers
+pub mod Laws
