@@ -17,7 +17,7 @@ use Rattle.journal_slots.specs.Starts.{generation, start, version}
 use Rattle.journal_slots.specs.declared.head.Head.TheVariants.{Short, Ajar}
 use Rattle.record_codec.specs.Definitions.{defs as defs_codec}
 use Rattle.record_codec.specs.Inputs.{input, what, config_at}
-use Rattle.record_codec.specs.Views.{view as view_codec}
+use Rattle.record_codec.specs.Views.{jails_at, view as view_codec}
 use Rattle.record_fields.specs.Addresses.{eight, fixed_at}
 use Rattle.record_fields.specs.Lists.{list_of, list_at, items_at, each_at, each_list_at}
 use Rattle.record_fields.specs.Numbers.{digits as number_digits, digits_at, number_at}
@@ -126,17 +126,17 @@ position_after (Ok l) = Some l.position
 position_after (Err place) = None
 
 stands_behind_the_first : position_after (loaded 64 first_slots) ≡ Some (record { limit = 64; slot = 0; generation = 1; grows = true; gate = 29; head = Ajar; other = Short })
-unfolding parse_slot opened_at inputs_at input what config_at defs_codec list_of list_at items_at each_at each_list_at view_codec start generation version eight fixed_at number_digits number_at digits_at
+unfolding parse_slot opened_at inputs_at input what config_at defs_codec list_of list_at items_at each_at each_list_at view_codec jails_at start generation version eight fixed_at number_digits number_at digits_at
 stands_behind_the_first = refl
 
 -- the same configuration is no input
 takes_nothing_twice : next_call (after_all (begun 64 600 first_slots) (to_the_clock 2000)) ≡ Some (AskSay (codes "2000 INFO Server ready\n"))
-unfolding brings config_changes ready_line stamped digits parse_slot opened_at inputs_at input what config_at defs_codec list_of list_at items_at each_at each_list_at view_codec start generation version eight fixed_at number_digits number_at digits_at
+unfolding brings config_changes ready_line stamped digits parse_slot opened_at inputs_at input what config_at defs_codec list_of list_at items_at each_at each_list_at view_codec jails_at start generation version eight fixed_at number_digits number_at digits_at
 takes_nothing_twice = refl
 
 -- now begins with what was stored: a clock that went back does not take it back
 begins_no_earlier : next_call (after_all (begun 64 600 first_slots) (to_the_clock 900)) ≡ Some (AskSay (codes "1000 INFO Server ready\n"))
-unfolding brings config_changes ready_line stamped digits parse_slot opened_at inputs_at input what config_at defs_codec list_of list_at items_at each_at each_list_at view_codec start generation version eight fixed_at number_digits number_at digits_at
+unfolding brings config_changes ready_line stamped digits parse_slot opened_at inputs_at input what config_at defs_codec list_of list_at items_at each_at each_list_at view_codec jails_at start generation version eight fixed_at number_digits number_at digits_at
 begins_no_earlier = refl
 
 -- another one is added behind the first
@@ -144,7 +144,7 @@ abbrev second_input : List ℕ
 second_input = 0xe9 ∷ 7 ∷ 0 ∷ 3 ∷ 0xbc ∷ 5 ∷ 0 ∷ []
 
 is_four_calls : (after_all (begun 64 700 first_slots) (to_the_clock 1001)).writes ≡ Put 0 30 (second_input ++ 0 ∷ []) ∷ Sync 0 ∷ Put 0 29 (1 ∷ []) ∷ Sync 0 ∷ []
-unfolding brings config_changes parse_slot opened_at inputs_at input what config_at defs_codec list_of list_at items_at each_at each_list_at view_codec start generation version eight fixed_at number_digits number_at digits_at
+unfolding brings config_changes parse_slot opened_at inputs_at input what config_at defs_codec list_of list_at items_at each_at each_list_at view_codec jails_at start generation version eight fixed_at number_digits number_at digits_at
 is_four_calls = refl
 
 -- ---- a change of slots: it would end at 38
@@ -155,16 +155,16 @@ second_body = 0 ∷ 0 ∷ 0 ∷ 0 ∷ 0 ∷ 0 ∷ 0 ∷ 2 ∷ 2 ∷ 0xe8 ∷ 7 �
 
 changes_slots : (after_all (begun 37 700 first_slots) (to_the_clock 1001)).writes
     ≡ Put 1 0 (replicate 16 0) ∷ Sync 1 ∷ Put 1 1 second_body ∷ Sync 1 ∷ Put 1 0 (1 ∷ []) ∷ Sync 1 ∷ Put 1 22 (second_input ++ 0 ∷ []) ∷ Sync 1 ∷ Put 1 21 (1 ∷ []) ∷ Sync 1 ∷ []
-unfolding brings config_changes parse_slot opened_at inputs_at input what config_at defs_codec list_of list_at items_at each_at each_list_at view_codec start generation version eight fixed_at number_digits number_at digits_at
+unfolding brings config_changes parse_slot opened_at inputs_at input what config_at defs_codec list_of list_at items_at each_at each_list_at view_codec jails_at start generation version eight fixed_at number_digits number_at digits_at
 changes_slots = refl
 
 -- and a slot with both has 30 bytes
 has_no_room : (after_all (begun 29 700 first_slots) (to_the_clock 1001)).point ≡ Over (JournalFull 30 29)
-unfolding brings config_changes parse_slot opened_at inputs_at input what config_at defs_codec list_of list_at items_at each_at each_list_at view_codec start generation version eight fixed_at number_digits number_at digits_at
+unfolding brings config_changes parse_slot opened_at inputs_at input what config_at defs_codec list_of list_at items_at each_at each_list_at view_codec jails_at start generation version eight fixed_at number_digits number_at digits_at
 has_no_room = refl
 
 says_that_it_is_full : next_call (after_all (begun 29 700 first_slots) (to_the_clock 1001)) ≡ Some (AskSay (codes "1001 ERROR journal full: 30 of 29\n"))
-unfolding brings config_changes parse_slot opened_at inputs_at input what config_at defs_codec list_of list_at items_at each_at each_list_at view_codec start generation version eight fixed_at number_digits number_at digits_at status_lines error_line stamped digits
+unfolding brings config_changes parse_slot opened_at inputs_at input what config_at defs_codec list_of list_at items_at each_at each_list_at view_codec jails_at start generation version eight fixed_at number_digits number_at digits_at status_lines error_line stamped digits
 says_that_it_is_full = refl
 
 -- ---- slots that are no journal
