@@ -81,7 +81,7 @@ module _ {C : Type 0} (Keeps : Server → C → Type 0) where
       let Q : Server → Type 0 = λ t. Brought Keeps a b (brings news next s r) (next t) t after in
       let mid = owing (news.before ++ news.behind) (goes_to (next s) r) in
       subst Q there (subst P (sym (is_told news next s r is)) (record {
-        to = record mid { said = r.said ++ news.before ++ news.behind; owed = [] };
+        to = record mid { said = r.said ++ (news.before ++ news.behind); owed = [] };
         goes = says.runs mid (owes_new r (next s) (news.before ++ news.behind) is_at.still (saying s));
         at = record { point = refl; still = record { written = is_at.still.written; paid = refl } };
         keeps = keeps;
