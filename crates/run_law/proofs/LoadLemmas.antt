@@ -136,15 +136,15 @@ run_storable version (i ∷ inputs) run runs = (runs.3.0, run_storable version i
 
 -- ---- the beginning of a slot
 
-head_first : (gate : ℕ) (bytes : List ℕ) → 16 ≤ length bytes → IsHead (cond (gate == 0) Shut Ajar) (gate ∷ bytes)
-head_first zero bytes long = (omega (arith, long), (bytes, refl))
-head_first (suc n) bytes long = (omega (arith, long), (suc n, bytes, omega arith, refl))
+head_first : (closed : Bool) (gate : ℕ) (bytes : List ℕ) → (gate == 0) ≡ closed → 16 ≤ length bytes → IsHead (cond closed Shut Ajar) (gate ∷ bytes)
+head_first true gate bytes is long = (omega (arith, long), (bytes, ap (λ (n : ℕ). n ∷ bytes) (eqb-true gate 0 is)))
+head_first false gate bytes is long = (omega (arith, long), (gate, bytes, open_gate gate is, refl))
 
 head_is : (bytes : List ℕ) → IsHead (head_of bytes) bytes
 head_is [] = omega arith
 head_is (gate ∷ bytes) = by_test (nat_lt (length bytes) short_bytes) _
     (λ e. rw e (omega (arith, ltb-true (length bytes) short_bytes e)))
-    (λ e. rw e (head_first gate bytes (ltb-false (length bytes) short_bytes e)))
+    (λ e. rw e (head_first (gate == 0) gate bytes refl (ltb-false (length bytes) short_bytes e)))
 
 -- ---- the journal at rest
 

@@ -210,7 +210,7 @@ module _ (v : View) (first : History) (limit : ℕ) (l : Loaded) (is_loaded : lo
             entry_image w.before (state_of r) w.begun_at w.input w.keeps w.live storable w.behind (w.done ++ w.one ∷ w.more) w.entry (done_events w.done) (first_part w.done (w.one ∷ w.more)) image at
       ])
 
-  pub kept_by : (r : Run) (g : History) → Is r g → IsKept v r g
+  kept_by : (r : Run) (g : History) → Is r g → IsKept v r g
   kept_by r g (inl c) = kept_calm r g c
   kept_by r g (inr (inl w)) = kept_writing r g w
   kept_by r g (inr (inr c)) = c.kept
@@ -219,7 +219,7 @@ module _ (v : View) (first : History) (limit : ℕ) (l : Loaded) (is_loaded : lo
   open_not r input is none = let e : Some input ≡ None = sym is ∙ none in cc
 
   -- where all inputs are closed reads give the view
-  pub stored_by : (r : Run) (g : History) → Is r g → r.unclosed ≡ None → IsStored v r g
+  stored_by : (r : Run) (g : History) → Is r g → r.unclosed ≡ None → IsStored v r g
   stored_by r g (inl c) none = record { settled = keeps_settled c.position (state_of r) g c.keeps; comes = keeps_held c.position (state_of r) g c.keeps }
   stored_by r g (inr (inl w)) none = absurd (open_not r w.input w.unclosed none)
   stored_by r g (inr (inr c)) none = absurd (open_not r c.input c.unclosed none)
@@ -608,7 +608,7 @@ module _ (v : View) (first : History) (limit : ℕ) (l : Loaded) (is_loaded : lo
   is_none : (r : Run) (g : History) → Is r g → Is r (grown g [])
   is_none r g is = let P : History → Type 0 = λ h. Is r h in subst P (sym (grown_none g)) is
 
-  pub is_along : (r : Run) (g : History) (es : List Event) → Is r g → Along feed MayCome Free r g es → (k : ℕ) → Is (after feed MayCome Free r (take k es)) (grown g (take k es))
+  is_along : (r : Run) (g : History) (es : List Event) → Is r g → Along feed MayCome Free r g es → (k : ℕ) → Is (after feed MayCome Free r (take k es)) (grown g (take k es))
   is_along r g [] is along zero = is_none r g is
   is_along r g [] is along (suc k) = is_none r g is
   is_along r g (event ∷ es) is along zero = is_none r g is
@@ -618,7 +618,7 @@ module _ (v : View) (first : History) (limit : ℕ) (l : Loaded) (is_loaded : lo
 
   -- ---- the order of calls
 
-  pub in_order : (r : Run) (g : History) (event : Event) → Is r g → MayCome r event → ComesInOrder r event
+  in_order : (r : Run) (g : History) (event : Event) → Is r g → MayCome r event → ComesInOrder r event
   in_order r g event (inl c) may = inl c.closed
   in_order r g event (inr (inl w)) may = inr (inl (writes_so event may))
     where
@@ -637,7 +637,7 @@ module _ (v : View) (first : History) (limit : ℕ) (l : Loaded) (is_loaded : lo
   over_of TurnsSpent r regular ends = ends
   over_of status r regular ends = absurd regular
 
-  pub closes_by : (status : Status) (r : Run) (g : History) → Is r g → Ends status r → IsRegular status → r.unclosed ≡ None
+  closes_by : (status : Status) (r : Run) (g : History) → Is r g → Ends status r → IsRegular status → r.unclosed ≡ None
   closes_by status r g (inl c) ends regular = c.closed
   closes_by status r g (inr (inl w)) ends regular =
       let P : List Write → Type 0 = λ ws. call_behind ws (call_of r.plan r.point r.owed) ≡ None in
