@@ -1,15 +1,13 @@
 -- Which calls come where nothing is left to write, and what the calls that write an input lead to.
-use Rattle.std.proofs.Common.{ℕ, ◌≡◌, Bool, true, false, cond, List, [], ◌∷◌, ◌++◌, Option, Some, None, refl, sym, ap, ◌∙◌, subst}
+use Rattle.std.proofs.Common.{ℕ, ◌≡◌, List, [], ◌∷◌, Option, Some, None, refl, ap}
 use Rattle.std.specs.Prelude.{IfSome, option_map, slice_get}
-use Rattle.f2b_base.specs.declared.input.Input.{Input}
 use Rattle.f2b_world.specs.declared.event.Event.{Event}
 use Rattle.f2b_world.specs.declared.event.Event.TheVariants.{DiskLen, DiskRead, DiskWrite, DiskSync}
 use Rattle.child_table.specs.declared.child.Child.{Child}
-use Rattle.log_set.specs.Logs.{Watching}
-use Rattle.run_law.specs.Calls.{Call, AskKill, AskPoll, AskSay, AskWrite, IsNext, Makes}
+use Rattle.run_law.specs.Calls.{Call, AskKill, AskPoll, AskWrite, IsNext, Makes}
 use Rattle.run_law.specs.Law.{MayCome, call_behind, call_of, next_call, point_call, turn_call}
 use Rattle.run_law.specs.Looks.{log_call}
-use Rattle.run_law.specs.News.{closing, writing}
+use Rattle.run_law.specs.News.{writing}
 use Rattle.run_law.specs.Paths.{Path}
 use Rattle.run_law.specs.Patterns.{Pattern}
 use Rattle.run_law.specs.Points.{Place, AtClock, AtLook, AtPoll, AtKill, AtStart, AtPause, Point, AtTree, AtMakes, AtStore, AtFirst, AtNames, AtTurn, Over, Run}

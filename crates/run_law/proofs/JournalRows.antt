@@ -1,17 +1,16 @@
 -- A run and its journal, computed: the first input of an empty disk, a change of slots, faults, and what a second run loads.
-use Rattle.std.proofs.Common.{ℕ, ◌≡◌, zero, suc, true, Bool, Option, Some, None, List, [], ◌∷◌, ◌++◌, take, replicate, refl, Ok, Err, Result}
+use Rattle.std.proofs.Common.{ℕ, ◌≡◌, zero, suc, true, Option, Some, None, List, [], ◌∷◌, ◌++◌, take, replicate, refl, Ok, Err, Result}
 use Rattle.std.specs.Fmt.{digits}
-use Rattle.std.specs.Prelude.{codes, option_map}
+use Rattle.std.specs.Prelude.{codes}
 use Rattle.f2b_base.specs.declared.input.Input.{Input}
 use Rattle.f2b_base.specs.declared.input.What.TheVariants.{Config as Configured}
 use Rattle.f2b_base.specs.declared.jail.Defs.{Defs}
 use Rattle.f2b_world.specs.declared.answer.Len.TheVariants.{Failed as LenFailed}
 use Rattle.f2b_world.specs.declared.answer.Said.TheVariants.{Done as SayDone}
-use Rattle.f2b_world.specs.declared.answer.Synced.TheVariants.{Done as SyncDone, Failed as SyncFailed}
+use Rattle.f2b_world.specs.declared.answer.Synced.TheVariants.{Failed as SyncFailed}
 use Rattle.f2b_world.specs.declared.answer.Wrote.TheVariants.{Failed as WroteFailed}
 use Rattle.f2b_world.specs.declared.event.Event.{Event}
 use Rattle.f2b_world.specs.declared.event.Event.TheVariants.{DiskLen, DiskSync, DiskWrite, Say}
-use Rattle.jail_conf.specs.declared.settings.Settings.{Settings}
 use Rattle.journal_slots.specs.Grammar.{inputs_at, opened_at, parse_slot}
 use Rattle.journal_slots.specs.Starts.{generation, start, version}
 use Rattle.journal_slots.specs.declared.head.Head.TheVariants.{Short, Ajar}
@@ -21,9 +20,9 @@ use Rattle.record_codec.specs.Views.{jails_at, view as view_codec}
 use Rattle.record_fields.specs.Addresses.{eight, fixed_at}
 use Rattle.record_fields.specs.Lists.{list_of, list_at, items_at, each_at, each_list_at}
 use Rattle.record_fields.specs.Numbers.{digits as number_digits, digits_at, number_at}
-use Rattle.run_law.specs.Calls.{AskSay, AskStore, AskClock, AskWrite}
+use Rattle.run_law.specs.Calls.{AskSay, AskClock, AskWrite}
 use Rattle.run_law.specs.Changes.{config_changes}
-use Rattle.run_law.specs.Law.{MayCome, next_call, opening}
+use Rattle.run_law.specs.Law.{next_call, opening}
 use Rattle.run_law.specs.Loads.{Loaded, loaded}
 use Rattle.run_law.specs.News.{brings}
 use Rattle.run_law.specs.Points.{Run, Over}
@@ -32,7 +31,7 @@ use Rattle.run_law.specs.Said.{lines_of, ready_line, stamped}
 use Rattle.run_law.specs.Start.{defined}
 use Rattle.run_law.specs.declared.plan.Plan.{Plan}
 use Rattle.run_law.specs.declared.status.Status.TheVariants.{DiskFault, JournalFull, NotAJournal}
-use Rattle.run_law.proofs.RowJails.{added, after_all, changed, clock, named_slots, no_slots}
+use Rattle.run_law.proofs.RowJails.{after_all, clock, named_slots, no_slots}
 use Rattle.slot_writes.specs.Writes.{Write, Put, Sync, done_events}
 use Rattle.slot_writes.specs.declared.position.Position.{Position}
 

@@ -14,15 +14,14 @@ use Rattle.f2b_model.specs.Sound.{IsFit, IsRisingEnds, IsSound, IsSoundView}
 use Rattle.f2b_model.specs.Stands.{IsShown}
 use Rattle.f2b_model.specs.Steps.{is_spent, moves, moves_now}
 use Rattle.f2b_model.specs.Storable.{IsStorable, IsStorableInput}
-use Rattle.f2b_model.specs.StorableViews.{IsStorableView}
 use Rattle.f2b_model.specs.Views.{back, empty_view, gathered, jail_view, spread, view_of}
-use Rattle.f2b_model.specs.Whole.{Now, State, empty_state, is_whole_spent, now_of, step, step_now, steps}
+use Rattle.f2b_model.specs.Whole.{Now, State, is_whole_spent, now_of, step, step_now, steps}
 use Rattle.f2b_model.proofs.ApartLemmas.{stored_fits}
 use Rattle.f2b_model.proofs.ListLemmas.{by_test}
 use Rattle.f2b_model.proofs.StandLemmas.{all_shown}
 use Rattle.f2b_model.proofs.StorableWholeLemmas.{first_stored, whole_stored}
 use Rattle.f2b_model.proofs.WatchLemmas.{step_watched}
-use Rattle.f2b_model.proofs.WholeLemmas.{back_sound, gathered_spread, view_again, view_sound, whole_keeps, whole_shows}
+use Rattle.f2b_model.proofs.WholeLemmas.{back_sound, gathered_spread, view_again, whole_keeps, whole_shows}
 use Rattle.record_codec.specs.Views.{IsRecordedView}
 
 -- serials and ids are not used up

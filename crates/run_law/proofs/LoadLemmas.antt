@@ -1,20 +1,17 @@
 -- What is loaded of slots that mean something stored: the journal is at rest there.
-use Rattle.std.proofs.Common.{ℕ, zero, suc, ◌≡◌, ◌≢◌, ◌+◌, ◌-◌, ◌<◌, ◌≤◌, ◌==◌, ◌||◌, nat_lt, Bool, true, false, cond, List, [], ◌∷◌, ◌++◌, length, Option, Some, None, Result, Ok, Err, inl, inr, ◌⊎◌, refl, sym, ap, ◌∙◌, subst, append_assoc, append-nil, length-append, arith}
+use Rattle.std.proofs.Common.{ℕ, zero, suc, ◌≡◌, ◌≢◌, ◌+◌, ◌-◌, ◌<◌, ◌≤◌, ◌==◌, ◌||◌, nat_lt, Bool, true, false, cond, List, [], ◌∷◌, ◌++◌, length, Some, None, Result, Ok, Err, inl, inr, refl, sym, ap, ◌∙◌, subst, append_assoc, length-append, arith}
 use Rattle.std.proofs.lemmas.Bool.{eqb-true, eqb-false, ltb-true, ltb-false}
 use Rattle.std.proofs.lemmas.Option.{same_Some}
 use Rattle.f2b_base.specs.declared.input.Input.{Input}
-use Rattle.f2b_base.specs.declared.view.View.{View}
 use Rattle.f2b_model.specs.Lists.{AllOf}
 use Rattle.f2b_model.specs.Storable.{IsStorableInput}
 use Rattle.f2b_model.proofs.ListLemmas.{by_test}
-use Rattle.f2b_world.specs.Slots.{settled}
-use Rattle.f2b_world.specs.Told.{History, slot_of}
+use Rattle.f2b_world.specs.Told.{History}
 use Rattle.journal_slots.specs.Fronts.{IsFront, IsRun}
 use Rattle.journal_slots.specs.Grammar.{Opened, Parsed, Empty, Open, Bad, inputs_at, number_of, opened_at, parse_slot, parsed_of}
 use Rattle.journal_slots.specs.Starts.{Start, IsHead, generation, short_bytes, start}
 use Rattle.journal_slots.specs.Tops.{Stored, IsOlder, Top, NoneOpen, Newest, NoJournal, meaning, stored_in, top_of}
-use Rattle.journal_slots.specs.declared.head.Head.{Head}
-use Rattle.journal_slots.specs.declared.head.Head.TheVariants.{Short, Ajar, Shut}
+use Rattle.journal_slots.specs.declared.head.Head.TheVariants.{Ajar, Shut}
 use Rattle.journal_slots.proofs.StartLemmas.{start_codec}
 use Rattle.record_codec.specs.Inputs.{input}
 use Rattle.record_codec.specs.Views.{IsRecordedView, view}
@@ -24,9 +21,9 @@ use Rattle.record_codec.proofs.InputLemmas.{input_codec}
 use Rattle.record_fields.specs.Codec.{◌>>=◌, IsBytes, IsHeld}
 use Rattle.record_fields.proofs.CodecLemmas.{IsBytes-tail, bind_ok, ok_is, split}
 use Rattle.run_law.proofs.KeptLemmas.{empty_recorded}
-use Rattle.run_law.specs.Loads.{Loaded, head_of, is_written_now, loaded, loaded_as, loaded_from, position_in, position_unopened}
+use Rattle.run_law.specs.Loads.{head_of, is_written_now, loaded, loaded_as, loaded_from, position_in, position_unopened}
 use Rattle.run_law.specs.Stops.{IsSettled, held_in}
-use Rattle.slot_writes.specs.Rests.{IsAtRest, IsOpenAt, IsTop, nothing_stored}
+use Rattle.slot_writes.specs.Rests.{IsAtRest, IsTop, nothing_stored}
 use Rattle.slot_writes.specs.declared.position.Position.{Position}
 
 -- ---- an open slot has a front

@@ -1,5 +1,5 @@
 -- To which points a call on the disk leads, and what an event brings: whatever holds of them holds there.
-use Rattle.std.proofs.Common.{ℕ, ◌≡◌, List, [], ◌∷◌, Option, Some, None, refl, sym, subst}
+use Rattle.std.proofs.Common.{ℕ, ◌≡◌, Option, Some, None, refl, sym, subst}
 use Rattle.std.specs.Prelude.{drop}
 use Rattle.f2b_base.specs.declared.input.What.{What}
 use Rattle.f2b_world.specs.declared.answer.Len.{Len}
@@ -14,7 +14,6 @@ use Rattle.run_law.specs.Disk.{measured, piece_read, synced, wrote}
 use Rattle.run_law.specs.News.{News, after_news, brings, brings_by, entered, server_after, taking}
 use Rattle.run_law.specs.Points.{Point, Over, Run}
 use Rattle.run_law.specs.Server.{Server, entry_in, taken}
-use Rattle.run_law.specs.declared.plan.Plan.{Plan}
 use Rattle.run_law.specs.declared.status.Status.TheVariants.{DiskFault, JournalFull, NumbersSpent}
 use Rattle.run_law.proofs.DiskLemmas.{writing_plan, writing_point}
 use Rattle.slot_writes.specs.Entries.{Entry, Written, Full, Spent}

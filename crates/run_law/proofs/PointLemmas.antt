@@ -6,7 +6,7 @@ use Rattle.f2b_world.specs.declared.answer.Said.TheVariants.{Done as SayDone, Fa
 use Rattle.f2b_world.specs.Told.{History, Standing, Called}
 use Rattle.f2b_world.proofs.WalkLemmas.{walks_refl, walks_trans, walks_call}
 use Rattle.run_law.specs.Calls.{Call, AskSay, IsNext}
-use Rattle.run_law.specs.Law.{Free, Goes, Halts, Ends, IsOver, MayCome, call_behind, call_of, feed, moved, next_call, point_call, turn_call, turns}
+use Rattle.run_law.specs.Law.{Free, Goes, Halts, Ends, IsOver, MayCome, call_of, feed, moved, next_call, point_call, turn_call, turns}
 use Rattle.run_law.specs.News.{refused}
 use Rattle.run_law.specs.Points.{Place, Point, AtTree, AtMakes, AtStore, AtFirst, AtNames, AtTurn, Over, Run}
 use Rattle.run_law.specs.Refusals.{status_lines}

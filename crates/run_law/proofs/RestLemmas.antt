@@ -1,5 +1,5 @@
 -- A journal at rest over what comes to the view of a state, and what a stop leaves of it while an input is written.
-use Rattle.std.proofs.Common.{ℕ, zero, suc, ◌≡◌, ◌+◌, ◌-◌, ◌<◌, ◌≤◌, ◌^◌, ◌⊎◌, nat_le, nat_lt, Bool, true, false, inl, inr, List, [], ◌∷◌, ◌++◌, length, max, Option, Some, None, refl, sym, ap, ◌∙◌, subst, arith}
+use Rattle.std.proofs.Common.{ℕ, zero, suc, ◌≡◌, ◌-◌, ◌<◌, ◌≤◌, ◌^◌, ◌⊎◌, nat_le, nat_lt, true, inl, inr, List, [], ◌∷◌, Some, refl, sym, ap, ◌∙◌, subst, arith}
 use Rattle.std.proofs.lemmas.Bool.{leb-false, ltb-false}
 use Rattle.f2b_base.specs.declared.input.Input.{Input}
 use Rattle.f2b_base.specs.declared.view.View.{View}
@@ -18,7 +18,7 @@ use Rattle.record_fields.proofs.CodecLemmas.{split}
 use Rattle.run_law.specs.Loads.{view_by}
 use Rattle.run_law.specs.Stops.{ComesTo, IsSettled, IsWrite, held_in}
 use Rattle.run_law.proofs.KeptLemmas.{IsFine, IsLive, alike_step, fine_back, fine_recorded, fine_step, steps_more}
-use Rattle.slot_writes.specs.Entries.{Entry, Written, Full, Spent, append_writes, appended, entry_of, fits, fresh_slot, need, turn_entry, turn_writes, turned}
+use Rattle.slot_writes.specs.Entries.{Written, Full, Spent, append_writes, appended, entry_of, fits, fresh_slot, need, turn_entry, turn_writes, turned}
 use Rattle.slot_writes.specs.Rests.{IsAtRest, PermitsBoth, and_input, just_view}
 use Rattle.slot_writes.specs.Writes.{IsPart, Write, done_events}
 use Rattle.slot_writes.specs.declared.position.Position.{Position}
@@ -171,7 +171,7 @@ module _ (p : Position) (s : State) (g : History) (i : Input) (k : Keeps p s g) 
   turn_image next ws t es part image permits =
       elim (turn_means p k.stored g (view_of s) i k.limited k.rests t.room t.below (fine_recorded s k.fine live) storable es (subst (λ (vs : List Write). IsPart vs es) t.calls part) image permits) [
         | inl old ↦ old_image image old
-        | inr new ↦ elim new [ | inl only ↦ view_image image only | inr more ↦ new_image image more ]
+        | inr new ↦ elim new [ inl only ↦ view_image image only | inr more ↦ new_image image more ]
       ]
 
   -- whatever a stop leaves comes to the view before it or behind it

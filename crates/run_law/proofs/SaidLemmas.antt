@@ -36,10 +36,10 @@ use Rattle.log_set.specs.Logs.{Watching}
 use Rattle.run_law.specs.Calls.{Call, AskKill, AskPoll, AskSay, IsNext}
 use Rattle.run_law.specs.Clock.{tick_news}
 use Rattle.run_law.specs.Disk.{measured, piece_read, synced, wrote}
-use Rattle.run_law.specs.Law.{Free, Ends, IsOver, MayCome, begin, begin_with, call_behind, call_of, feed, moved, point_call, turn_call, turns}
+use Rattle.run_law.specs.Law.{Free, Ends, IsOver, MayCome, begin, begin_with, call_of, feed, moved, point_call, turn_call, turns}
 use Rattle.run_law.specs.Loads.{Loaded, loaded}
 use Rattle.run_law.specs.Looks.{log_call, look_news, look_taken, looked, looked_at, now_is, unread_news}
-use Rattle.run_law.specs.News.{News, brings, brings_by, entered, taking, writing}
+use Rattle.run_law.specs.News.{News, brings, brings_by, entered, taking}
 use Rattle.run_law.specs.Paths.{Path, Naming, first_naming, named, with_paths}
 use Rattle.run_law.specs.Patterns.{Pattern}
 use Rattle.run_law.specs.Points.{Place, AtClock, AtLook, AtPoll, AtKill, AtStart, AtPause, Point, AtTree, AtMakes, AtStore, AtFirst, AtNames, AtTurn, Over, Run}

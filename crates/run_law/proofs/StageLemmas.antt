@@ -1,13 +1,12 @@
 -- What an event brings, and how the parts of a run follow each other.
-use Rattle.std.proofs.Common.{ℕ, ◌≡◌, Bool, true, false, Option, Some, None, List, [], ◌++◌, refl, sym, ap, ◌∙◌, subst}
+use Rattle.std.proofs.Common.{ℕ, ◌≡◌, Option, Some, None, List, [], ◌++◌, refl, sym, ap, ◌∙◌, subst}
 use Rattle.f2b_base.specs.declared.input.What.{What}
 use Rattle.f2b_world.specs.Told.{Standing}
 use Rattle.f2b_model.specs.Storable.{IsStorableInput}
 use Rattle.run_law.specs.Disk.{broken}
 use Rattle.run_law.specs.Law.{Goes, Halts}
 use Rattle.run_law.specs.News.{News, after_news, brings, brings_by, closing, entered, entering, goes_to, lines_in, owing, refused, said_number, server_after, taking, writing}
-use Rattle.run_law.specs.Points.{Point, Over, Run}
-use Rattle.run_law.specs.Refusals.{status_lines}
+use Rattle.run_law.specs.Points.{Point, Run}
 use Rattle.run_law.specs.Server.{Server, entry_in, input_at, taken}
 use Rattle.run_law.specs.Stages.{IsAt, IsSaying, IsStill, Reaches, Moves, MoveFails, Brought, Brings, BringFails, Owes, Says, SayFails, Refuses}
 use Rattle.run_law.specs.declared.status.Status.{Status}

@@ -1,7 +1,6 @@
 -- From the law alone: each start is of the job that comes next, and none that may be started waits at a pause.
 use Rattle.std.proofs.Common.{ℕ, zero, suc, ◌≡◌, ◌+◌, ◌-◌, Bool, true, false, cond, nat_lt, List, [], ◌∷◌, length, take, Option, Some, None, Result, Ok, Err, refl, sym, ap, subst}
 use Rattle.std.specs.Prelude.{slice_get, option_map}
-use Rattle.f2b_base.specs.declared.input.What.{What}
 use Rattle.f2b_base.specs.declared.job.Job.{Job}
 use Rattle.f2b_base.specs.declared.job.Outcome.{Outcome}
 use Rattle.f2b_base.specs.declared.job.Outcome.TheVariants.{Status as EndedWith, NotStarted, TimedOut}
@@ -36,7 +35,7 @@ use Rattle.run_law.specs.Looks.{log_call, look_news, look_taken, looked, looked_
 use Rattle.run_law.specs.News.{News, after_news, brings}
 use Rattle.run_law.specs.Paths.{Path, Naming, first_naming, named, with_paths}
 use Rattle.run_law.specs.Patterns.{Pattern, patterns_of}
-use Rattle.run_law.specs.Pause.{paused, turned}
+use Rattle.run_law.specs.Pause.{turned}
 use Rattle.run_law.specs.Points.{Place, AtClock, AtLook, AtPoll, AtKill, AtStart, AtPause, Point, AtTree, AtMakes, AtStore, AtFirst, AtNames, AtTurn, Over, Run}
 use Rattle.run_law.specs.Polls.{end_news, ended_as, gone, gone_passed, has_succeeded, killed_at, polled_at, still_point}
 use Rattle.run_law.specs.Served.{IsAllStarted, IsStartFor, StartsAt, StartsInTurn, run_after}

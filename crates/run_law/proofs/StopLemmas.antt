@@ -1,6 +1,6 @@
 -- From the law alone: what a stop leaves at each point of a run.
-use Rattle.std.proofs.Common.{ℕ, zero, suc, ◌≡◌, ◌<◌, ◌+◌, ◌-◌, ◌^◌, ◌⊎◌, Bool, true, false, cond, inl, inr, List, [], ◌∷◌, ◌++◌, length, take, Option, Some, None, Result, Ok, Err, refl, sym, ap, ◌∙◌, subst, append-nil, append_assoc, arith}
-use Rattle.std.specs.Prelude.{IfSome, drop, option_map, option_to_list, slice_get}
+use Rattle.std.proofs.Common.{ℕ, zero, suc, ◌≡◌, ◌<◌, ◌+◌, ◌-◌, ◌^◌, ◌⊎◌, Bool, true, false, inl, inr, List, [], ◌∷◌, ◌++◌, length, take, Option, Some, None, Result, Ok, Err, refl, sym, ap, ◌∙◌, subst, append_assoc, arith}
+use Rattle.std.specs.Prelude.{IfSome, drop, option_to_list, slice_get}
 use Rattle.f2b_base.specs.declared.input.Input.{Input}
 use Rattle.f2b_base.specs.declared.input.What.{What}
 use Rattle.f2b_base.specs.declared.job.Outcome.{Outcome}
@@ -28,9 +28,7 @@ use Rattle.f2b_world.specs.declared.answer.PollAnswer.TheVariants.{Running, Ende
 use Rattle.f2b_world.specs.declared.answer.Said.TheVariants.{Done as SayDone, Failed as SayFailed}
 use Rattle.f2b_world.specs.declared.answer.StartAnswer.{StartAnswer}
 use Rattle.f2b_world.specs.declared.answer.StartAnswer.TheVariants.{Started, Failed as StartFailed, NoMemory as StartNoMemory}
-use Rattle.f2b_world.specs.declared.answer.Synced.{Synced}
 use Rattle.f2b_world.specs.declared.answer.Synced.TheVariants.{Done as SyncDone, Failed as SyncFailed}
-use Rattle.f2b_world.specs.declared.answer.Wrote.{Wrote}
 use Rattle.f2b_world.specs.declared.answer.Wrote.TheVariants.{Done as WroteDone, Failed as WroteFailed, NoMemory as WroteNoMemory}
 use Rattle.f2b_world.specs.declared.event.Event.{Event}
 use Rattle.f2b_world.specs.declared.event.Event.TheVariants.{Say, DiskLen, DiskRead, DiskWrite, DiskSync, Make, Clock, Config, StoreAt, Names, Look as LookAt, ChildStart, ChildPoll, ChildKill, Pause}
@@ -48,14 +46,14 @@ use Rattle.log_set.specs.Logs.{Watching}
 use Rattle.record_fields.proofs.CodecLemmas.{split}
 use Rattle.run_law.specs.Calls.{AskWrite, Call, IsNext, Makes}
 use Rattle.run_law.specs.Clock.{tick_news}
-use Rattle.run_law.specs.Disk.{IsLoading, broken, measured, piece_read, synced, wrote}
-use Rattle.run_law.specs.Law.{Ends, Free, IsOver, MayCome, begin, begin_with, call_behind, call_of, feed, moved, next_call, point_call, turns}
-use Rattle.run_law.specs.Loads.{Loaded, loaded, loaded_as, view_after, view_by}
+use Rattle.run_law.specs.Disk.{IsLoading, broken, measured, piece_read}
+use Rattle.run_law.specs.Law.{Ends, Free, IsOver, MayCome, begin, begin_with, call_behind, call_of, feed, moved, next_call, turns}
+use Rattle.run_law.specs.Loads.{Loaded, loaded, loaded_as, view_after}
 use Rattle.run_law.specs.Looks.{look_news, look_taken, looked, looked_at, now_is, unread_news}
-use Rattle.run_law.specs.News.{News, brings, brings_by, closing, entered, entering, goes_to, inputs_of, lines_in, owing, refused, said_number, taking, writing}
+use Rattle.run_law.specs.News.{News, brings, brings_by, entered, entering, goes_to, inputs_of, owing, refused, said_number, taking, writing}
 use Rattle.run_law.specs.Paths.{Naming, Path, first_naming, named, with_paths}
 use Rattle.run_law.specs.Patterns.{Pattern, patterns_of}
-use Rattle.run_law.specs.Pause.{next_turn, turned}
+use Rattle.run_law.specs.Pause.{turned}
 use Rattle.run_law.specs.Points.{Place, AtClock, AtLook, AtPoll, AtKill, AtStart, AtPause, Point, AtTree, AtMakes, AtStore, AtFirst, AtNames, AtTurn, Over, Run}
 use Rattle.run_law.specs.Polls.{end_news, ended_as, gone, gone_passed, has_succeeded, killed_at, polled_at, still_point}
 use Rattle.run_law.specs.Refusals.{status_lines}
@@ -68,8 +66,8 @@ use Rattle.run_law.specs.Turn.{to_logs, to_looks, to_polls, to_starts}
 use Rattle.run_law.specs.Words.{plan_of}
 use Rattle.run_law.specs.declared.plan.Plan.{Plan}
 use Rattle.run_law.specs.declared.status.Status.{Status}
-use Rattle.run_law.specs.declared.status.Status.TheVariants.{Stopped, TurnsSpent, ConfFault, ConfRefused, DiskFault, NotAJournal, JournalFull, SinkFault, ConfTooLarge, PatternRefused, NumbersSpent, NoMemory}
-use Rattle.run_law.proofs.DiskLemmas.{IsBeside, call_no_write, next_beside, next_behind, none_left, written_call}
+use Rattle.run_law.specs.declared.status.Status.TheVariants.{Stopped, TurnsSpent, ConfFault, ConfRefused, DiskFault, JournalFull, SinkFault, ConfTooLarge, PatternRefused, NumbersSpent}
+use Rattle.run_law.proofs.DiskLemmas.{IsBeside, call_no_write, next_beside, none_left, written_call}
 use Rattle.run_law.proofs.KeptLemmas.{IsFine, IsLive, fine_back, fine_stored, fine_steps, steps_more}
 use Rattle.run_law.proofs.LoadLemmas.{Loads, loads_stored}
 use Rattle.run_law.proofs.RestLemmas.{Keeps, entry_image, entry_is, entry_keeps, keeps_held, keeps_image, keeps_settled, keeps_still, slot_still}
@@ -78,7 +76,7 @@ use Rattle.run_law.proofs.TurnLemmas.{IsOfTurn, logs_of_turn, looks_of_turn, pol
 use Rattle.run_law.proofs.WordLemmas.{planned}
 use Rattle.slot_writes.specs.Entries.{Entry, Written, Full, Spent, body, entry, entry_of, fresh_slot, fresh_start, turn_calls}
 use Rattle.slot_writes.specs.Rests.{PermitsBoth}
-use Rattle.slot_writes.specs.Writes.{IsBroken, IsFirstPart, IsPart, Put, Sync, Write, done_event, done_events, failed_event}
+use Rattle.slot_writes.specs.Writes.{IsPart, Put, Sync, Write, done_event, done_events, failed_event}
 use Rattle.slot_writes.specs.declared.position.Position.{Position}
 
 -- an input that is written has calls

@@ -42,7 +42,7 @@ use Rattle.run_law.specs.Disk.{IsLoading, broken, measured, piece_read, synced, 
 use Rattle.run_law.specs.Law.{Free, Ends, IsOver, MayCome, call_behind, call_of, feed, moved, opening, point_call, turns}
 use Rattle.run_law.specs.Loads.{Loaded, loaded}
 use Rattle.run_law.specs.Looks.{log_call, look_news, look_taken, looked, looked_at, now_is, unread_news}
-use Rattle.run_law.specs.News.{News, after_news, brings, closing, goes_to, owing, refused, server_after, writing}
+use Rattle.run_law.specs.News.{News, after_news, brings, goes_to, refused, server_after, writing}
 use Rattle.run_law.specs.Patterns.{Pattern, patterns_of}
 use Rattle.run_law.specs.Paths.{Path, Naming, first_naming, named, with_paths}
 use Rattle.run_law.specs.Pause.{paused, turned}
@@ -54,7 +54,7 @@ use Rattle.run_law.specs.Server.{Server, begun, is_stopping, jobs, lanes_up, log
 use Rattle.run_law.specs.Start.{defined, first_turn, loads, made, make_call, makes_on, names_call, names_in, start_news, to_makes, to_names, tree_read, unread_by}
 use Rattle.run_law.specs.Starts.{child_started, with_child, without_child}
 use Rattle.run_law.specs.Turn.{look_point, start_place, start_point, to_accept, to_children, to_end, to_logs, to_looks, to_polls, to_starts}
-use Rattle.run_law.proofs.DiskLemmas.{next_behind, none_left, writing_plan, writing_point}
+use Rattle.run_law.proofs.DiskLemmas.{next_behind, none_left}
 use Rattle.run_law.proofs.NewsLemmas.{brings_plan, brings_point}
 use Rattle.run_law.proofs.PointLemmas.{paid_call}
 use Rattle.slot_writes.specs.Writes.{Write}

@@ -1,12 +1,12 @@
 -- What the words of the command line ask for.
-use Rattle.std.proofs.Common.{ℕ, ◌≡◌, ◌<◌, ◌≤◌, ◌^◌, ◌&&◌, nat_le, nat_lt, cond, List, [], ◌∷◌, Option, Some, None, refl, subst, arith}
+use Rattle.std.proofs.Common.{ℕ, ◌≡◌, ◌<◌, ◌≤◌, ◌^◌, ◌&&◌, nat_le, nat_lt, cond, List, [], ◌∷◌, Option, Some, None, subst, arith}
 use Rattle.std.specs.Fmt.{decimal}
 use Rattle.std.specs.Prelude.{bytes_eq, codes, option_and_then, option_map, unwrap_or, IfSome}
 use Rattle.std.specs.Str.Parse.{digits_value}
 use Rattle.std.proofs.lemmas.Bool.{leb-true, ltb-true}
 use Rattle.f2b_model.proofs.ListLemmas.{by_test}
 use Rattle.record_fields.proofs.NumberLemmas.{both_of}
-use Rattle.run_law.specs.Words.{Asked, all_turns, count_of, nothing_asked, number_of, once, plan_asked, plan_in, plan_of, usual_limit, with_limit, with_option, with_options, with_turns}
+use Rattle.run_law.specs.Words.{Asked, all_turns, nothing_asked, number_of, once, plan_asked, plan_in, plan_of, usual_limit, with_option, with_options}
 use Rattle.run_law.specs.declared.plan.Plan.{Plan}
 
 -- a number that an option may ask for

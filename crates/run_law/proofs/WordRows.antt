@@ -1,5 +1,5 @@
 -- Words of the command line, computed.
-use Rattle.std.proofs.Common.{◌≡◌, Some, None, List, [], ◌∷◌, refl}
+use Rattle.std.proofs.Common.{◌≡◌, Some, None, [], ◌∷◌, refl}
 use Rattle.std.specs.Fmt.{digits}
 use Rattle.std.specs.Prelude.{codes}
 use Rattle.run_law.specs.Words.{all_turns, plan_of, usual_limit}

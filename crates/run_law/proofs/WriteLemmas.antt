@@ -1,10 +1,8 @@
 -- How a run goes on while an input is written.
-use Rattle.std.proofs.Common.{ℕ, ◌≡◌, Option, Some, None, List, [], ◌∷◌, ◌++◌, inl, inr, refl, sym, ap, ◌∙◌, subst, append_assoc, append-nil}
-use Rattle.std.specs.Prelude.{IfSome, drop}
-use Rattle.f2b_base.specs.declared.input.Input.{Input}
+use Rattle.std.proofs.Common.{◌≡◌, Option, Some, None, List, [], ◌∷◌, ◌++◌, refl, sym, ap, ◌∙◌, subst, append-nil}
+use Rattle.std.specs.Prelude.{IfSome}
 use Rattle.f2b_model.specs.Storable.{IsStorableInput}
-use Rattle.f2b_world.specs.Bounds.{IsBounded}
-use Rattle.f2b_world.specs.Told.{History, Adds, IsHonest, grown}
+use Rattle.f2b_world.specs.Told.{History, Adds, grown}
 use Rattle.f2b_world.specs.Walks.{after, Along, Comes}
 use Rattle.f2b_world.specs.declared.event.Event.{Event}
 use Rattle.f2b_world.proofs.AddsLemmas.{adds_weaker}

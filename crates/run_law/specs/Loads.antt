@@ -1,12 +1,12 @@
 -- What the slots of a journal come to as they are loaded: the state that a run goes on from, and where the journal stands.
-use Rattle.std.specs.Prelude.{ℕ, ◌-◌, ◌==◌, nat_lt, Bool, true, false, if◌then◌else◌, List, [], ◌∷◌, length, Option, option_map, Result, Ok, Err}
+use Rattle.std.specs.Prelude.{ℕ, ◌-◌, ◌==◌, nat_lt, Bool, true, false, if◌then◌else◌, List, [], ◌∷◌, length, Result, Ok, Err}
 use Rattle.f2b_base.specs.declared.input.Input.{Input}
 use Rattle.f2b_base.specs.declared.view.View.{View}
 use Rattle.f2b_model.specs.Views.{back, view_of}
 use Rattle.f2b_model.specs.Whole.{State, steps}
 use Rattle.journal_slots.specs.Grammar.{Opened, parse_slot}
 use Rattle.journal_slots.specs.Starts.{short_bytes}
-use Rattle.journal_slots.specs.Tops.{Stored, Top, NoneOpen, Newest, NoJournal, meaning, top_of}
+use Rattle.journal_slots.specs.Tops.{Stored, Top, NoneOpen, Newest, NoJournal, top_of}
 use Rattle.journal_slots.specs.declared.head.Head.{Head}
 use Rattle.journal_slots.specs.declared.head.Head.TheVariants.{Short, Ajar, Shut}
 use Rattle.record_codec.specs.declared.version.Version.{Version}
@@ -23,10 +23,6 @@ view_after v inputs = view_of (steps (back v) inputs)
 -- what was stored comes to its view after its inputs
 abbrev pub view_by : Stored → View
 view_by stored = view_after stored.view stored.inputs
-
--- what the bytes of both slots come to, where they are a journal
-abbrev pub view_in : (ℕ → List ℕ) → Option View
-view_in image = option_map view_by (meaning image)
 
 -- ---- where the journal stands
 

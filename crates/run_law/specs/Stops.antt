@@ -3,7 +3,7 @@ use Rattle.std.specs.Prelude.{ℕ, ◌≡◌, ◌<◌, ◌⊎◌, List, Option, 
 use Rattle.f2b_base.specs.declared.view.View.{View}
 use Rattle.f2b_model.specs.Sound.{IsSoundView}
 use Rattle.f2b_world.specs.Slots.{settled}
-use Rattle.f2b_world.specs.Told.{History, grown, slot_of}
+use Rattle.f2b_world.specs.Told.{History, slot_of}
 use Rattle.f2b_world.specs.declared.event.Event.{Event}
 use Rattle.f2b_world.specs.declared.event.Event.TheVariants.{DiskWrite, DiskSync}
 use Rattle.journal_slots.specs.Tops.{Stored, meaning}
