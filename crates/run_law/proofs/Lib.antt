@@ -8,6 +8,7 @@ mod WordRows
 pub mod DiskLemmas
 pub mod PointLemmas
 pub mod NewsLemmas
+pub mod FieldLemmas
 pub mod KeptLemmas
 pub mod LoadLemmas
 pub mod RestLemmas

@@ -5,6 +5,7 @@ use Rattle.std.proofs.lemmas.Option.{same_Some}
 use Rattle.f2b_base.specs.declared.input.Input.{Input}
 use Rattle.f2b_model.specs.Lists.{AllOf}
 use Rattle.f2b_model.specs.Storable.{IsStorableInput}
+use Rattle.f2b_model.specs.Views.{back}
 use Rattle.f2b_model.proofs.ListLemmas.{by_test}
 use Rattle.f2b_world.specs.Told.{History}
 use Rattle.journal_slots.specs.Fronts.{IsFront, IsRun}
@@ -21,7 +22,7 @@ use Rattle.record_codec.proofs.InputLemmas.{input_codec}
 use Rattle.record_fields.specs.Codec.{◌>>=◌, IsBytes, IsHeld}
 use Rattle.record_fields.proofs.CodecLemmas.{IsBytes-tail, bind_ok, ok_is, split}
 use Rattle.run_law.proofs.KeptLemmas.{empty_recorded}
-use Rattle.run_law.specs.Loads.{head_of, is_written_now, loaded, loaded_as, loaded_from, position_in, position_unopened}
+use Rattle.run_law.specs.Loads.{Loaded, head_of, is_written_now, loaded, loaded_as, loaded_from, position_in, position_unopened, view_by}
 use Rattle.run_law.specs.Stops.{IsSettled, held_in}
 use Rattle.slot_writes.specs.Rests.{IsAtRest, IsTop, nothing_stored}
 use Rattle.slot_writes.specs.declared.position.Position.{Position}
@@ -260,3 +261,54 @@ module _ (limit : ℕ) (g : History) (settled : IsSettled g) (bytes : (slot : �
 
   pub loads_stored : (stored : Stored) → meaning (held_in g) ≡ Some stored → Loads stored
   loads_stored stored means = loads_by (parse_slot (held_in g 0)) (parse_slot (held_in g 1)) stored refl refl means
+
+-- ---- what is loaded of any bytes
+
+-- what is loaded comes from a view and inputs that can be stored
+pub record IsStoredFrom (l : Loaded) : Type 0 where
+  pub stored : Stored
+  pub recorded : IsRecordedView stored.view
+  pub inputs : AllOf IsStorableInput stored.inputs
+  pub state_is : l.state ≡ back (view_by stored)
+
+abbrev given : Loaded → Result Loaded (ℕ × ℕ)
+given l = Ok l
+
+given_is : (k l : Loaded) → given k ≡ given l → k ≡ l
+given_is k l is = cc
+
+module _ (limit : ℕ) (slots : ℕ → List ℕ) (bytes : (slot : ℕ) → slot < 2 → IsBytes (slots slot)) (l : Loaded) where
+  stored_open : (slot : ℕ) (o : Opened) → slot < 2 → parse_slot (slots slot) ≡ Open o → loaded_from limit slots (Newest slot o) ≡ Ok l → IsStoredFrom l
+  stored_open slot o small is loads =
+      let front = open_front (slots slot) o (bytes slot small) is in
+      let own : Stored = record { view = o.start.view; inputs = o.inputs } in
+      subst IsStoredFrom (given_is (loaded_as own (position_in limit slots slot o)) l loads) (record {
+        stored = own;
+        recorded = start_recorded o.start front.spelt.fits;
+        inputs = run_storable o.start.version o.inputs front.spelt.run front.spelt.runs;
+        state_is = refl;
+      })
+
+  stored_either : (a b : Opened) (same newer : Bool) → parse_slot (slots 0) ≡ Open a → parse_slot (slots 1) ≡ Open b
+      → loaded_from limit slots (cond same (NoJournal 1 1) (cond newer (Newest 0 a) (Newest 1 b))) ≡ Ok l → IsStoredFrom l
+  stored_either a b true newer first second loads = absurd (let e : Err (1, 1) ≡ Ok l = loads in cc)
+  stored_either a b false true first second loads = stored_open 0 a (omega arith) first loads
+  stored_either a b false false first second loads = stored_open 1 b (omega arith) second loads
+
+  stored_none : (same : Bool) (at : ℕ) → loaded_from limit slots (cond same (NoJournal 1 1) (NoJournal 1 at)) ≡ Ok l → ⊥
+  stored_none true at loads = let e : Err (1, 1) ≡ Ok l = loads in cc
+  stored_none false at loads = let e : Err (1, at) ≡ Ok l = loads in cc
+
+  stored_by : (p q : Parsed) → parse_slot (slots 0) ≡ p → parse_slot (slots 1) ≡ q → loaded_from limit slots (top_of p q) ≡ Ok l → IsStoredFrom l
+  stored_by (Bad number at) q first second loads = absurd (let e : Err (0, at) ≡ Ok l = loads in cc)
+  stored_by Empty Empty first second loads =
+      subst IsStoredFrom (given_is (loaded_as nothing_stored (position_unopened limit slots)) l loads) (record { stored = nothing_stored; recorded = empty_recorded; inputs = tt; state_is = refl })
+  stored_by Empty (Open b) first second loads = stored_open 1 b (omega arith) second loads
+  stored_by Empty (Bad number at) first second loads = absurd (let e : Err (1, at) ≡ Ok l = loads in cc)
+  stored_by (Open a) Empty first second loads = stored_open 0 a (omega arith) first loads
+  stored_by (Open a) (Open b) first second loads =
+      stored_either a b (a.start.generation == b.start.generation) (nat_lt b.start.generation a.start.generation) first second loads
+  stored_by (Open a) (Bad number at) first second loads = absurd (stored_none (a.start.generation == number) at loads)
+
+  pub loaded_stored : loaded limit slots ≡ Ok l → IsStoredFrom l
+  loaded_stored loads = stored_by (parse_slot (slots 0)) (parse_slot (slots 1)) refl refl loads
