@@ -296,8 +296,8 @@ module _ (limit : ℕ) (slots : ℕ → List ℕ) (bytes : (slot : ℕ) → slot
   stored_either a b false false first second loads = stored_open 1 b (omega arith) second loads
 
   stored_none : (same : Bool) (at : ℕ) → loaded_from limit slots (cond same (NoJournal 1 1) (NoJournal 1 at)) ≡ Ok l → ⊥
-  stored_none true at loads = let e : Err (1, 1) ≡ Ok l = loads in cc
-  stored_none false at loads = let e : Err (1, at) ≡ Ok l = loads in cc
+  stored_none true at loads = let e : Err (1, 1) ≡ given l = loads in cc
+  stored_none false at loads = let e : Err (1, at) ≡ given l = loads in cc
 
   stored_by : (p q : Parsed) → parse_slot (slots 0) ≡ p → parse_slot (slots 1) ≡ q → loaded_from limit slots (top_of p q) ≡ Ok l → IsStoredFrom l
   stored_by (Bad number at) q first second loads = absurd (let e : Err (0, at) ≡ Ok l = loads in cc)
