@@ -5,4 +5,4 @@ mod StepLemmas
 mod Rows
 mod LoadedLemmas
 mod ServerLemmas
-mod RunLemmas
+pub mod RunLemmas

@@ -20,10 +20,11 @@ start_of _ = []
 abbrev pub starts_in : List Event → List ℕ
 starts_in es = flat_map start_of es
 
--- With each event of a turn, the jobs that were tried so far stand in their order, among those that were made and voided before it: a run begins
+-- With each event of a turn, the jobs that were tried so far stand in their order, among those that were made and voided before it. A run begins
 -- with the jobs that were pending in what its slots held.
 pub record TriesJobsInOrder (words : List (List ℕ)) (slots : ℕ → List ℕ) (es : List Event) : Type 0 where
-  pub each : (k : ℕ) (place : Place) (s : Server) → (run_after words slots (take k es)).point ≡ AtTurn place s → TriesInOrder (starts_in (take (suc k) es)) s.state.lanes.jobs
+  pub each : (k : ℕ) (place : Place) (s : Server) → (run_after words slots (take k es)).point ≡ AtTurn place s
+      → TriesInOrder (starts_in (take (suc k) es)) s.state.lanes.jobs
 
 -- both slots hold bytes
 abbrev pub HoldBytes : (ℕ → List ℕ) → Type 0
@@ -31,4 +32,5 @@ HoldBytes slots = (slot : ℕ) → slot < 2 → IsBytes (slots slot)
 
 -- a run that obeys the law tries its jobs in their order, whatever its slots held
 pub record TriedLaw : Type 0 where
-  pub in_order : (words : List (List ℕ)) (slots : ℕ → List ℕ) (g : History) (es : List Event) → HoldBytes slots → Obeys (begin words slots) g es → TriesJobsInOrder words slots es
+  pub in_order : (words : List (List ℕ)) (slots : ℕ → List ℕ) (g : History) (es : List Event) → HoldBytes slots → Obeys (begin words slots) g es
+      → TriesJobsInOrder words slots es
