@@ -30,7 +30,7 @@ pub record TriesJobsInOrder (words : List (List ℕ)) (slots : ℕ → List ℕ)
 abbrev pub HoldBytes : (ℕ → List ℕ) → Type 0
 HoldBytes slots = (slot : ℕ) → slot < 2 → IsBytes (slots slot)
 
--- a run that obeys the law tries its jobs in their order, whatever its slots held
+-- a run that obeys the law tries its jobs in their order, whatever bytes its slots held
 pub record TriedLaw : Type 0 where
   pub in_order : (words : List (List ℕ)) (slots : ℕ → List ℕ) (g : History) (es : List Event) → HoldBytes slots → Obeys (begin words slots) g es
       → TriesJobsInOrder words slots es
