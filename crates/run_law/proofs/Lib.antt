@@ -4,6 +4,7 @@ mod ChildRows
 mod TreeRows
 mod TurnRows
 mod JournalRows
+mod BeginRows
 mod WordRows
 pub mod DiskLemmas
 pub mod PointLemmas
