@@ -9,3 +9,4 @@ pub mod RunLemmas
 pub mod SectionLemmas
 pub mod TargetLemmas
 pub mod TreeLemmas
+pub mod ZoneLemmas

@@ -2,6 +2,7 @@
 use Rattle.std.specs.Prelude.{ℕ, ◌++◌, Bool, List, [], codes, if◌then◌else◌}
 use Rattle.f2b_base.specs.declared.jail.JailDef.{JailDef}
 use Rattle.regex_tool.specs.Report.{report}
+use Rattle.regex_tool.specs.Warnings.{warnings}
 use Rattle.regex_tool.specs.declared.results.Results.{Results}
 use Rattle.regex_tool.specs.declared.section.Section.{Section}
 use Rattle.regex_tool.specs.declared.shows.Form.{Form}
@@ -24,3 +25,4 @@ output shows jail results =
     ++ under (codes "Matched lines:\n") shows.matched results.sections.matched
     ++ under (codes "Ignored lines:\n") shows.ignored results.sections.ignored
     ++ under (codes "Missed lines:\n") shows.missed results.sections.missed
+    ++ warnings shows.detail jail

@@ -1,11 +1,13 @@
 //! All that is said of a test that is made.
 ghost use Rattle.std.specs.Prelude.{◌≡◌, ◌++◌, length, IfOk, OnOk};
+ghost use Rattle.regex_tool.specs.Checks.{IsFew};
 ghost use Rattle.regex_tool.specs.Outputs.{first_part, output, under};
 
 use crate::report::report;
 use crate::results::Results;
 use crate::section::Section;
 use crate::shows::{Form, Shows};
+use crate::warnings::push_warnings;
 use f2b_base::{Bytes, JailDef, NoMemory, Plain};
 use std::alloc::Global;
 
@@ -55,6 +57,7 @@ pub(crate) fn output(
 ) -> Result<Bytes, NoMemory>
     requires fail { length results.now.counts.fail ≡ length jail.now.fail }
     requires ignore_lines { length results.now.counts.ignore_lines ≡ length jail.now.ignore_lines }
+    requires few { IsFew jail.now }
     ensures { IfOk result (λ text. text ≡ output shows jail.now results.now) }
 {
     let mut text = first_part(alloc, shows.form, jail, results)?;
@@ -77,5 +80,6 @@ pub(crate) fn output(
         shows.missed,
         &sections.missed,
     )?;
+    push_warnings(alloc, &mut text, shows.detail, jail)?;
     Ok(text)
 }

@@ -121,12 +121,13 @@ fn form_of(given: Option<&str>) -> Option<Form>
     }
 }
 
-fn shows_of(matches: &ArgMatches<'_>, form: Form) -> Shows
-    ensures { result ≡ shows_of (first_value (found_of matches.now)) form }
+fn shows_of(matches: &ArgMatches<'_>, form: Form, zone: Zone) -> Shows
+    ensures { result ≡ shows_of (first_value (found_of matches.now)) form zone }
 {
     let detail = is_set(matches.get_str("detail"));
     Shows {
         form,
+        zone,
         detail,
         matched: detail || is_set(matches.get_str("print-all-matched")),
         ignored: is_set(matches.get_str("print-all-ignored")),
@@ -149,7 +150,7 @@ fn asked_by<'w>(matches: &ArgMatches<'w>) -> Option<Asked<'w>>
         ignore: matches.get_str("ignore"),
         zone,
         dir: matches.get_str("conf"),
-        shows: shows_of(matches, form),
+        shows: shows_of(matches, form, zone),
     })
 }
 
