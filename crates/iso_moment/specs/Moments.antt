@@ -45,6 +45,10 @@ sign_text zone = if int_lt zone (pos 0) then codes "-" else codes "+"
 abbrev pub zone_text : ℤ → List ℕ
 zone_text zone = sign_text zone ++ minutes_text (unsigned_abs zone)
 
+-- `+0230`, the same without a colon
+abbrev pub offset_text : ℤ → List ℕ
+offset_text zone = sign_text zone ++ two (unsigned_abs zone / 3_600) ++ two (unsigned_abs zone / 60 % 60)
+
 -- how many seconds have gone there since 1969-12-31 began: no zone is a day away from UTC
 abbrev pub local_seconds : (zone : ℤ) → ℕ → ℕ
 local_seconds zone time = unsigned_abs (pos (time + 86_400) +ℤ zone)

@@ -2,7 +2,7 @@
 ghost use Rattle.std.specs.Prelude.{◌≡◌, ◌<◌, ◌≤◌, ◌+◌, ◌++◌, pos, neg_ℤ, OnOk};
 ghost use Rattle.jiff_core.specs.Calendar.{IsBetween, IsWithin};
 ghost use Rattle.f2b_base.specs.Limits.{latest_reading};
-ghost use Rattle.iso_moment.specs.Moments.{clock_text, date_text, day_text, local_seconds, local_text, minutes_text, moment_text, sign_text, two, zone_text};
+ghost use Rattle.iso_moment.specs.Moments.{clock_text, date_text, day_text, local_seconds, local_text, minutes_text, moment_text, offset_text, sign_text, two, zone_text};
 
 use f2b_base::{Bytes, LATEST_READING, NoMemory};
 use jiff_core::civil::Date;
@@ -78,6 +78,17 @@ fn push_zone(text: &mut Bytes, zone: i64) -> Result<(), NoMemory>
 {
     text.push_slice(sign_text(zone).as_bytes())?;
     push_minutes(text, zone.unsigned_abs() as u32)
+}
+
+/// Adds how far a zone is ahead of UTC, in hours and minutes without a colon: `+0230`.
+pub fn push_offset(text: &mut Bytes, zone: i64) -> Result<(), NoMemory>
+    requires { IsWithin 86_399 zone }
+    ensures { OnOk result (text.new ≡ text.old ++ offset_text zone) }
+{
+    let seconds = zone.unsigned_abs() as u32;
+    text.push_slice(sign_text(zone).as_bytes())?;
+    push_two(text, seconds / 3_600)?;
+    push_two(text, seconds / 60 % 60)
 }
 
 /// The day and the time of day behind so many seconds from 1969-12-31 on.
