@@ -4,6 +4,7 @@ pub mod CountsLemmas
 pub mod DefinitionLemmas
 pub mod FileLemmas
 pub mod RaisedLemmas
+pub mod NoteLemmas
 pub mod ReadLemmas
 pub mod RunLemmas
 pub mod SectionLemmas

@@ -4,6 +4,7 @@ pub mod Checks
 pub mod Counts
 pub mod Definitions
 pub mod Logs
+pub mod Notes
 pub mod Outputs
 pub mod Readings
 pub mod Refusals

@@ -1,12 +1,18 @@
--- The lines of a log, and what a filter finds in them.
-use Rattle.std.specs.Prelude.{ℕ, List, [], ◌∷◌, ◌++◌, map}
+-- The lines of a log, what a filter finds in them, and where their dates stand.
+use Rattle.std.specs.Prelude.{ℕ, ℤ, Bool, List, [], ◌∷◌, ◌++◌, map, Option, None, if◌then◌else◌}
+use Rattle.date_detect.specs.Dates.{date_in}
+use Rattle.date_detect.specs.Forms.{Rule}
+use Rattle.date_detect.specs.declared.search.Found.{Found}
+use Rattle.f2b_base.specs.declared.jail.JailDef.{JailDef}
 use Rattle.filter_regex.specs.Findings.{finding}
-use Rattle.filter_regex.specs.Rules.{Rules}
+use Rattle.filter_regex.specs.Rules.{Rules, rules_of}
 use Rattle.filter_regex.specs.declared.finding.Finding.{Finding}
 use Rattle.filter_regex.specs.declared.finding.Finding.TheVariants.{Missed}
 use Rattle.log_follow.specs.Lines.{line_of, lines_of, rest_of}
 use Rattle.log_follow.specs.declared.line.Line.{Line}
 use Rattle.log_follow.specs.declared.line.Line.TheVariants.{Whole, Long}
+use Rattle.regex_tool.specs.declared.seen.Seen.{Seen}
+use Rattle.regex_tool.specs.declared.shows.Shows.{Shows}
 
 -- how many seconds back a failure counts: a hundred years
 abbrev pub tested_time : ℕ
@@ -19,6 +25,27 @@ finding_of rules now (Whole text) = finding rules [] now tested_time text
 
 unfoldable pub findings_of : Rules → ℕ → List Line → List Finding
 findings_of rules now lines = map (finding_of rules now) lines
+
+-- what is looked for in lines: what these rules find, and perhaps where the dates stand
+pub record Looks : Type 0 where
+  pub rules : Rules
+  pub dated : Bool
+
+-- in a test of a jail dates are looked for where the words want details
+abbrev pub looks_of : JailDef → Shows → Looks
+looks_of jail shows = record { rules = rules_of jail; dated = shows.detail }
+
+-- the date of a line; one that is too long has none
+abbrev pub date_of : Rule → ℕ → (zone : ℤ) → Line → Option Found
+date_of dates now zone Long = None
+date_of dates now zone (Whole text) = date_in dates now zone text
+
+-- the date of a line, where it is looked for
+abbrev pub date_if : Looks → ℕ → Line → Option Found
+date_if looks now line = if looks.dated then date_of looks.rules.dates now looks.rules.zone line else None
+
+abbrev pub seen_of : Looks → ℕ → Line → Seen
+seen_of looks now line = record { finding = finding_of looks.rules now line; date = date_if looks now line }
 
 -- the line of a rest, if there is one
 abbrev pub last_line : List ℕ → List Line

@@ -19,10 +19,10 @@ abbrev pub under : (heading : List ℕ) → (holds : Bool) → Section → List 
 under heading holds section = if holds then heading ++ section.text else []
 
 -- what is said of a test, by what the words want to be shown
-unfoldable pub output : Shows → JailDef → Results → List ℕ
-output shows jail results =
+unfoldable pub output : Shows → (now : ℕ) → JailDef → Results → List ℕ
+output shows now jail results =
     first_part shows.form jail results
     ++ under (codes "Matched lines:\n") shows.matched results.sections.matched
     ++ under (codes "Ignored lines:\n") shows.ignored results.sections.ignored
     ++ under (codes "Missed lines:\n") shows.missed results.sections.missed
-    ++ warnings shows.detail jail
+    ++ warnings shows now jail results.notes

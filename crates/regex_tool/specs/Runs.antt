@@ -72,7 +72,7 @@ pub record IsOutput (shelf : Option Shelf) (asks : Asks) (now : ℕ) (text : Lis
   pub none : first_fault jail ≡ None
   pub results : Results
   pub of_log : IsOfLog shelf jail asks (min now latest_reading) results
-  pub is : text ≡ output asks.shows jail results
+  pub is : text ≡ output asks.shows (min now latest_reading) jail results
 
 -- the jail that is asked for has a pattern that is refused
 pub record IsPatternRefused (asks : Asks) (old new : Standing) (place : PatternPlace) (kind : ToolKind) : Type 0 where

@@ -47,18 +47,19 @@ fn push_under(
     text.push_slice(section.text.as_slice())
 }
 
-/// What is said of a test, by what the words want to be shown.
+/// What is said of a test at `now`, in seconds since 1970, by what the words want to be shown.
 #[tactic(auto, unfolding(crate::specs::Outputs::output))]
 pub(crate) fn output(
     alloc: Global,
     shows: Shows,
+    now: u64,
     jail: &JailDef,
     results: &Results,
 ) -> Result<Bytes, NoMemory>
     requires fail { length results.now.counts.fail ≡ length jail.now.fail }
     requires ignore_lines { length results.now.counts.ignore_lines ≡ length jail.now.ignore_lines }
     requires few { IsFew jail.now }
-    ensures { IfOk result (λ text. text ≡ output shows jail.now results.now) }
+    ensures { IfOk result (λ text. text ≡ output shows now jail.now results.now) }
 {
     let mut text = first_part(alloc, shows.form, jail, results)?;
     let sections = &results.sections;
@@ -80,6 +81,6 @@ pub(crate) fn output(
         shows.missed,
         &sections.missed,
     )?;
-    push_warnings(alloc, &mut text, shows.detail, jail)?;
+    push_warnings(alloc, &mut text, shows, now, jail, results.notes)?;
     Ok(text)
 }

@@ -1,0 +1,94 @@
+//! `LineSearch`, which looks into the lines of a log.
+ghost use Rattle.std.specs.Prelude.{◌≡◌, ◌<◌, ◌^◌, [], option_and_then, IfOk};
+ghost use Rattle.date_detect.specs.Dates.{date_in};
+ghost use Rattle.regex_tool.specs.Logs.{date_if, date_of, finding_of, seen_of};
+
+use crate::seen::Seen;
+use date_detect::{Found, Searcher as DateSearcher};
+use f2b_base::NoMemory;
+use filter_regex::{Finding, Searcher};
+use ignore_set::IgnoreSet;
+use log_follow::Line;
+use std::marker::Model;
+
+/// Failures count for so many seconds: a hundred years.
+const TESTED_TIME: u64 = 3_153_600_000;
+
+/// What looks into the lines of a log, which contracts see as what is looked for.
+#[derive(Drop)]
+pub(crate) struct LineSearch<'f> {
+    pub finds: Searcher<'f>,
+    pub dates: Option<DateSearcher<'f>>,
+    /// How many seconds a date without a zone is ahead of UTC.
+    pub zone: i32,
+}
+
+impl<'f> Model for LineSearch<'f> {
+    ghost use Rattle.std.specs.Prelude.{◌≡◌, is_some, IfSome};
+    ghost use Rattle.regex_tool.specs.Logs.{Looks};
+
+    ghost Value = { Looks };
+
+    ghost view = { λ s. record { rules = s.finds; dated = is_some s.dates } };
+
+    ghost invariant = { λ s. IfSome s.dates (λ dates. dates ≡ s.finds.dates) × (s.zone ≡ s.finds.zone) };
+}
+
+/// What the filter finds in a line. A line that is too long is missed.
+fn found(
+    searcher: &mut Searcher<'_>,
+    nobody: &IgnoreSet,
+    line: &Line,
+    now: u64,
+) -> Result<Finding, NoMemory>
+    requires nobody { nobody.now ≡ [] }
+    requires now { now < 2 ^ 40 }
+    ensures found { IfOk result (λ found. found ≡ finding_of searcher.old now line.now) }
+    ensures same { searcher.new ≡ searcher.old }
+{
+    match line {
+        Line::Whole(text) => searcher.found(nobody, text.as_str(), now, TESTED_TIME),
+        Line::Long => Ok(Finding::Missed),
+    }
+}
+
+/// The date of a line. One that is too long has none.
+fn dated(searcher: &mut DateSearcher<'_>, line: &Line, now: u64, zone: i32) -> Option<Found>
+    ensures found { result ≡ date_of searcher.old now zone line.now }
+    ensures same { searcher.new ≡ searcher.old }
+{
+    match line {
+        Line::Whole(text) => searcher.found(text.as_str(), now, zone),
+        Line::Long => None,
+    }
+}
+
+impl<'f> LineSearch<'f> {
+    /// The date of a line, where it is looked for.
+    fn date(&mut self, line: &Line, now: u64) -> Option<Found>
+        ensures found { result ≡ date_if self.old now line.now }
+        ensures same { self.new ≡ self.old }
+    {
+        match &mut self.dates {
+            Some(searcher) => dated(searcher, line, now, self.zone),
+            None => None,
+        }
+    }
+
+    /// What is seen in a line at `now`, in seconds since 1970.
+    pub(crate) fn seen(
+        &mut self,
+        nobody: &IgnoreSet,
+        line: &Line,
+        now: u64,
+    ) -> Result<Seen, NoMemory>
+        requires nobody { nobody.now ≡ [] }
+        requires now { now < 2 ^ 40 }
+        ensures seen { IfOk result (λ seen. seen ≡ seen_of self.old now line.now) }
+        ensures same { self.new ≡ self.old }
+    {
+        let date = self.date(line, now);
+        let finding = found(&mut self.finds, nobody, line, now)?;
+        Ok(Seen { finding, date })
+    }
+}
