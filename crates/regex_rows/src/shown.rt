@@ -64,17 +64,17 @@ fn shows_lines(rt: HostRuntime) -> Result<(), Fail> {
 }
 
 const DETAILS: [Row; 4] = [
-    // With the number of the pattern, and the address and the time where it is a failure.
+    // With the number of the pattern, and the address and the time, in seconds and as a clock shows it, where it is a failure.
     Row {
         words: &["-v", "/hosts", "from <HOST>$"],
         status: 0,
-        said: "Failregex: 4 total\n   1) [4] from <HOST>$\nIgnoreregex: 0 total\nLines: 4 lines, 0 ignored, 4 matched, 0 missed\nMatched lines:\n   1) 2001:db8::9 1709287200 1709287200 from 2001:db8::9\n   1) - - 1709287201 from mx.example.org\n   1) 192.0.2.7 1709287210 1709287300 from 192.0.2.7\n   1) - - 1969-12-31T10:00:00Z from 192.0.2.7\nWARNING failregex 1 may match in the middle of a line: begin it with ^ and what stands before\n",
+        said: "Failregex: 4 total\n   1) [4] from <HOST>$\nIgnoreregex: 0 total\nLines: 4 lines, 0 ignored, 4 matched, 0 missed\nMatched lines:\n   1) 2001:db8::9 1709287200 2024-03-01T10:00:00+00:00 1709287200 from 2001:db8::9\n   1) - - - 1709287201 from mx.example.org\n   1) 192.0.2.7 1709287210 2024-03-01T10:00:10+00:00 1709287300 from 192.0.2.7\n   1) - - - 1969-12-31T10:00:00Z from 192.0.2.7\nWARNING failregex 1 may match in the middle of a line: begin it with ^ and what stands before\n",
     },
     // A pattern with both ends is not warned of.
     Row {
         words: &["-v", "1709287200 from 192.0.2.7", "^ from <HOST>$"],
         status: 0,
-        said: "Failregex: 1 total\n   1) [1] ^ from <HOST>$\nIgnoreregex: 0 total\nLines: 1 lines, 0 ignored, 1 matched, 0 missed\nMatched lines:\n   1) 192.0.2.7 1709287200 1709287200 from 192.0.2.7\n",
+        said: "Failregex: 1 total\n   1) [1] ^ from <HOST>$\nIgnoreregex: 0 total\nLines: 1 lines, 0 ignored, 1 matched, 0 missed\nMatched lines:\n   1) 192.0.2.7 1709287200 2024-03-01T10:00:00+00:00 1709287200 from 192.0.2.7\n",
     },
     // An escaped `$` is no end, and one behind an escaped backslash is.
     Row {
@@ -88,6 +88,38 @@ const DETAILS: [Row; 4] = [
         said: "Failregex: 0 total\nIgnoreregex: 0 total\nLines: 1 lines, 0 ignored, 0 matched, 1 missed\nMatched lines:\nWARNING prefregex may match in the middle of a line: end it with what follows and $\nWARNING failregex 2 may match in the middle of a line: begin it with ^ and what stands before\nWARNING failregex 2 may match in the middle of a line: end it with what follows and $\n",
     },
 ];
+
+/// Moments are shown in the zone of the words.
+const MOMENTS: [Row; 2] = [
+    Row {
+        words: &[
+            "-v",
+            "--timezone",
+            "UTC+0230",
+            "1709287200 from 192.0.2.7",
+            "^ from <HOST>$",
+        ],
+        status: 0,
+        said: "Failregex: 1 total\n   1) [1] ^ from <HOST>$\nIgnoreregex: 0 total\nLines: 1 lines, 0 ignored, 1 matched, 0 missed\nMatched lines:\n   1) 192.0.2.7 1709287200 2024-03-01T12:30:00+02:30 1709287200 from 192.0.2.7\n",
+    },
+    // There it is still the day before.
+    Row {
+        words: &[
+            "-v",
+            "--timezone",
+            "GMT-1030",
+            "2024-02-29 23:30:00 from 192.0.2.7",
+            "^ from <HOST>$",
+        ],
+        status: 0,
+        said: "Failregex: 1 total\n   1) [1] ^ from <HOST>$\nIgnoreregex: 0 total\nLines: 1 lines, 0 ignored, 1 matched, 0 missed\nMatched lines:\n   1) 192.0.2.7 1709287200 2024-02-29T23:30:00-10:30 2024-02-29 23:30:00 from 192.0.2.7\n",
+    },
+];
+
+#[test]
+fn shows_moments_in_a_zone(rt: HostRuntime) -> Result<(), Fail> {
+    hold(&rt, rt.alloc(), FILES, &MOMENTS)
+}
 
 #[test]
 fn shows_what_was_found(rt: HostRuntime) -> Result<(), Fail> {

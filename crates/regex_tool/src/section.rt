@@ -72,6 +72,7 @@ fn push_addr(text: &mut Bytes, addr: Addr) -> Result<(), NoMemory>
 }
 
 /// Whose failure it is, and when.
+#[tactic(auto, using(crate::proofs::ZoneLemmas::near_is_within))]
 fn push_who(alloc: Global, text: &mut Bytes, zone: Zone, finding: Finding) -> Result<(), NoMemory>
     ensures { OnOk result (text.new ≡ text.old ++ who_of zone finding) }
 {
