@@ -12,6 +12,10 @@ const FILES: &[File<'static>] = &[
         b"1709287200 from 2001:db8::9\n1709287201 from mx.example.org\n1709287300 from 192.0.2.7\n1969-12-31T10:00:00Z from 192.0.2.7\n",
     ),
     (
+        "/access",
+        b"192.0.2.7 - - [01/Mar/2024:10:00:00 +0000] GET / 401\n[2024-03-01T10:00:00Z] from 192.0.2.8\n",
+    ),
+    (
         "/c/filter.d/mode.conf",
         b"[Definition]\nfailregex = <mode> from <ADDR>\n",
     ),
@@ -64,17 +68,18 @@ fn shows_lines(rt: HostRuntime) -> Result<(), Fail> {
 }
 
 const DETAILS: [Row; 4] = [
-    // With the number of the pattern, and the address and the time, in seconds and as a clock shows it, where it is a failure.
+    // With the number of the pattern, the address and the time, in seconds and as a clock shows it, where it is a failure, and the
+    // place of the date.
     Row {
         words: &["-v", "/hosts", "from <HOST>$"],
         status: 0,
-        said: "Failregex: 4 total\n   1) [4] from <HOST>$\nIgnoreregex: 0 total\nLines: 4 lines, 0 ignored, 4 matched, 0 missed\nMatched lines:\n   1) 2001:db8::9 1709287200 2024-03-01T10:00:00+00:00 1709287200 from 2001:db8::9\n   1) - - - 1709287201 from mx.example.org\n   1) 192.0.2.7 1709287210 2024-03-01T10:00:10+00:00 1709287300 from 192.0.2.7\n   1) - - - 1969-12-31T10:00:00Z from 192.0.2.7\nWARNING failregex 1 may match in the middle of a line: begin it with ^ and what stands before\n",
+        said: "Failregex: 4 total\n   1) [4] from <HOST>$\nIgnoreregex: 0 total\nLines: 4 lines, 0 ignored, 4 matched, 0 missed\nMatched lines:\n   1) 2001:db8::9 1709287200 2024-03-01T10:00:00+00:00 1-10 1709287200 from 2001:db8::9\n   1) - - - 1-10 1709287201 from mx.example.org\n   1) 192.0.2.7 1709287210 2024-03-01T10:00:10+00:00 1-10 1709287300 from 192.0.2.7\n   1) - - - 1-20 1969-12-31T10:00:00Z from 192.0.2.7\nWARNING failregex 1 may match in the middle of a line: begin it with ^ and what stands before\n",
     },
     // A pattern with both ends is not warned of.
     Row {
         words: &["-v", "1709287200 from 192.0.2.7", "^ from <HOST>$"],
         status: 0,
-        said: "Failregex: 1 total\n   1) [1] ^ from <HOST>$\nIgnoreregex: 0 total\nLines: 1 lines, 0 ignored, 1 matched, 0 missed\nMatched lines:\n   1) 192.0.2.7 1709287200 2024-03-01T10:00:00+00:00 1709287200 from 192.0.2.7\n",
+        said: "Failregex: 1 total\n   1) [1] ^ from <HOST>$\nIgnoreregex: 0 total\nLines: 1 lines, 0 ignored, 1 matched, 0 missed\nMatched lines:\n   1) 192.0.2.7 1709287200 2024-03-01T10:00:00+00:00 1-10 1709287200 from 192.0.2.7\n",
     },
     // An escaped `$` is no end, and one behind an escaped backslash is.
     Row {
@@ -100,7 +105,7 @@ const MOMENTS: [Row; 2] = [
             "^ from <HOST>$",
         ],
         status: 0,
-        said: "Failregex: 1 total\n   1) [1] ^ from <HOST>$\nIgnoreregex: 0 total\nLines: 1 lines, 0 ignored, 1 matched, 0 missed\nMatched lines:\n   1) 192.0.2.7 1709287200 2024-03-01T12:30:00+02:30 1709287200 from 192.0.2.7\n",
+        said: "Failregex: 1 total\n   1) [1] ^ from <HOST>$\nIgnoreregex: 0 total\nLines: 1 lines, 0 ignored, 1 matched, 0 missed\nMatched lines:\n   1) 192.0.2.7 1709287200 2024-03-01T12:30:00+02:30 1-10 1709287200 from 192.0.2.7\n",
     },
     // There it is still the day before.
     Row {
@@ -112,7 +117,7 @@ const MOMENTS: [Row; 2] = [
             "^ from <HOST>$",
         ],
         status: 0,
-        said: "Failregex: 1 total\n   1) [1] ^ from <HOST>$\nIgnoreregex: 0 total\nLines: 1 lines, 0 ignored, 1 matched, 0 missed\nMatched lines:\n   1) 192.0.2.7 1709287200 2024-02-29T23:30:00-10:30 2024-02-29 23:30:00 from 192.0.2.7\n",
+        said: "Failregex: 1 total\n   1) [1] ^ from <HOST>$\nIgnoreregex: 0 total\nLines: 1 lines, 0 ignored, 1 matched, 0 missed\nMatched lines:\n   1) 192.0.2.7 1709287200 2024-02-29T23:30:00-10:30 1-19 2024-02-29 23:30:00 from 192.0.2.7\n",
     },
 ];
 
@@ -124,6 +129,45 @@ fn shows_moments_in_a_zone(rt: HostRuntime) -> Result<(), Fail> {
 #[test]
 fn shows_what_was_found(rt: HostRuntime) -> Result<(), Fail> {
     hold(&rt, rt.alloc(), FILES, &DETAILS)
+}
+
+/// What is told of dates.
+const DATES: [Row; 5] = [
+    // A date behind a `[` at the beginning stands at the beginning.
+    Row {
+        words: &["-v", "/access", r"^<ADDR> - - \[\] .* 401$"],
+        status: 0,
+        said: "Failregex: 1 total\n   1) [1] ^<ADDR> - - \\[\\] .* 401$\nIgnoreregex: 0 total\nLines: 2 lines, 0 ignored, 1 matched, 1 missed\nMatched lines:\n   1) 192.0.2.7 1709287200 2024-03-01T10:00:00+00:00 16-41 192.0.2.7 - - [01/Mar/2024:10:00:00 +0000] GET / 401\nWARNING datepattern finds a date elsewhere than at the beginning in 1 lines: where lines begin with theirs, begin it with {^LN-BEG}\n",
+    },
+    // Two hours to come.
+    Row {
+        words: &["-v", "2024-03-01 12:00:00 from 192.0.2.7", "^ from <HOST>$"],
+        status: 0,
+        said: "Failregex: 1 total\n   1) [1] ^ from <HOST>$\nIgnoreregex: 0 total\nLines: 1 lines, 0 ignored, 1 matched, 0 missed\nMatched lines:\n   1) 192.0.2.7 1709287210 2024-03-01T10:00:10+00:00 1-19 2024-03-01 12:00:00 from 192.0.2.7\nWARNING the last date would be of this minute in the zone UTC+0200: where dates have no zone, write logtimezone = UTC+0200\n",
+    },
+    // Five and a half hours and 40 seconds ago.
+    Row {
+        words: &["-v", "2024-03-01 04:29:30 from 192.0.2.7", "^ from <HOST>$"],
+        status: 0,
+        said: "Failregex: 1 total\n   1) [1] ^ from <HOST>$\nIgnoreregex: 0 total\nLines: 1 lines, 0 ignored, 1 matched, 0 missed\nMatched lines:\n   1) 192.0.2.7 1709267370 2024-03-01T04:29:30+00:00 1-19 2024-03-01 04:29:30 from 192.0.2.7\nWARNING the last date would be of this minute in the zone UTC-0530: where dates have no zone, write logtimezone = UTC-0530\n",
+    },
+    // An hour and a quarter ago.
+    Row {
+        words: &["-v", "2024-03-01 08:45:10 from 192.0.2.7", "^ from <HOST>$"],
+        status: 0,
+        said: "Failregex: 1 total\n   1) [1] ^ from <HOST>$\nIgnoreregex: 0 total\nLines: 1 lines, 0 ignored, 1 matched, 0 missed\nMatched lines:\n   1) 192.0.2.7 1709282710 2024-03-01T08:45:10+00:00 1-19 2024-03-01 08:45:10 from 192.0.2.7\n",
+    },
+    // No date is looked for.
+    Row {
+        words: &["-v", "-d", "{NONE}", "from 192.0.2.7", "^from <HOST>$"],
+        status: 0,
+        said: "Failregex: 1 total\n   1) [1] ^from <HOST>$\nIgnoreregex: 0 total\nLines: 1 lines, 0 ignored, 1 matched, 0 missed\nMatched lines:\n   1) 192.0.2.7 1709287210 2024-03-01T10:00:10+00:00 - from 192.0.2.7\n",
+    },
+];
+
+#[test]
+fn tells_of_dates(rt: HostRuntime) -> Result<(), Fail> {
+    hold(&rt, rt.alloc(), FILES, &DATES)
 }
 
 const FAILURES: [Row; 4] = [

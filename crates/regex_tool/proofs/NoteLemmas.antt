@@ -54,5 +54,6 @@ module _ (looks : Looks) (now : ℕ) where
     counted =
         let all = sum_by-append (λ (line : Line). cond (stands_elsewhere line (date_if looks now line)) 1 0) some more in
         omega (arith, all)
+
     last : option_or (last_date looks now more) (option_or (last_date looks now some) notes.last) ≡ option_or (last_date looks now (some ++ more)) notes.last
     last = option_or-assoc (last_date looks now more) (last_date looks now some) notes.last ∙ ap (λ (date : Option ℤ). option_or date notes.last) (sym (last_date-append some more))

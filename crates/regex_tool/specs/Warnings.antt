@@ -60,7 +60,7 @@ fail_warnings n (text ∷ texts) = pattern_warnings (Fail n) text ++ fail_warnin
 abbrev pub elsewhere_warning : (lines : ℕ) → List ℕ
 elsewhere_warning lines =
     if lines == 0 then []
-    else codes "WARNING datepattern finds a date elsewhere than at the beginning of " ++ decimal lines ++ codes " lines: where it has to stand there, begin with {^LN-BEG}\n"
+    else codes "WARNING datepattern finds a date elsewhere than at the beginning in " ++ decimal lines ++ codes " lines: where lines begin with theirs, begin it with {^LN-BEG}\n"
 
 -- from 12 hours west of UTC on, in half hours
 abbrev pub half_hours : ℕ → ℤ

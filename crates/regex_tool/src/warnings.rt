@@ -123,9 +123,9 @@ fn push_elsewhere(alloc: Global, text: &mut Bytes, lines: u64) -> Result<(), NoM
     if lines == 0 {
         return Ok(());
     }
-    text.push_slice(b"WARNING datepattern finds a date elsewhere than at the beginning of ")?;
+    text.push_slice(b"WARNING datepattern finds a date elsewhere than at the beginning in ")?;
     push_number(alloc, text, lines)?;
-    text.push_slice(b" lines: where it has to stand there, begin with {^LN-BEG}\n")
+    text.push_slice(b" lines: where lines begin with theirs, begin it with {^LN-BEG}\n")
 }
 
 /// A zone by its number among those of whole half hours, from 12 hours west of UTC on.
