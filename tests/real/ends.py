@@ -3,8 +3,9 @@
 import os
 import resource
 import signal
+import subprocess
 
-from room import as_nobody, failures, same, write
+from room import PATIENCE, as_nobody, failures, same, write
 
 USAGE = ["ERROR usage"]
 
@@ -64,6 +65,23 @@ def configuration_is_refused(room):
     room.ends(4, said, "--conf", room.conf)
 
 
+def who_sits_at_a_terminal_is_helped(room):
+    """where standard error is a terminal, wrong words and a refused configuration have a sentence of help there, and elsewhere none"""
+    room.configure(bantime="soon")
+    for words, wanted in [
+        (["--turns"], "fail2ban-server --help lists the words\r\n"),
+        (["--conf", room.conf], "seconds, or terms as 1d 12h 30m"),
+    ]:
+        controller, terminal = os.openpty()
+        try:
+            subprocess.run([*room.starter, room.program, *words], stdout=subprocess.DEVNULL, stderr=terminal, timeout=PATIENCE)
+            os.close(terminal)
+            same(os.read(controller, 4096).decode()[: len(wanted)], wanted, words)
+        finally:
+            os.close(controller)
+        same(room.run(*words)[2], "", words)
+
+
 def pattern_is_refused(room):
     """a pattern that is none, or is too big, is status 11"""
     room.configure(more="    (<ADDR>\n")
@@ -116,6 +134,7 @@ CHECKS = [
     turns_are_made,
     configuration_is_not_read,
     configuration_is_refused,
+    who_sits_at_a_terminal_is_helped,
     pattern_is_refused,
     memory_runs_out,
     a_signal_ends,

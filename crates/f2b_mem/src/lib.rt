@@ -46,6 +46,3 @@ pub use files::MemFiles;
 pub use link::MemLink;
 pub use script::{ChildPlan, ClientPlan, FileChange, Image, Script};
 pub use world::MemWorld;
-
-#[cfg(test)]
-mod tests;

@@ -2,7 +2,8 @@
 //!
 //! What the server does is in the crates below, over traits of the outside. Here stand these traits over the operating system,
 //! and the words that the program is called with. Nothing here is told as a history: that files, the clock and standard output
-//! are what the system says they are is trusted. Nothing here knows what a call is made for, but for the words of help.
+//! are what the system says they are is trusted. Nothing here knows what a call is made for, but for the words of help and the sentence
+//! for whoever sits at a terminal.
 //!
 //! ```text
 //! let mut world = RealWorld::new(rt, errors);
@@ -11,6 +12,7 @@
 //! ```
 #![tactic(auto)]
 
+mod advice;
 mod clock;
 mod commands;
 mod fault;
@@ -27,6 +29,7 @@ mod wait;
 mod watched;
 mod words;
 
+use advice::advice;
 use output::write_whole;
 use real::RealWorld;
 use server_top::server;
@@ -53,9 +56,12 @@ fn main(rt: HostRuntime) -> ExitCode {
             let alloc = rt.alloc();
             let errors = standard_error(&rt);
             let mut world = RealWorld::new(rt, errors);
-            let status = server(alloc, words.as_slice(), &mut world).number();
+            let status = server(alloc, words.as_slice(), &mut world);
             world.end_commands();
-            status
+            if let Some(sentence) = advice(&status) {
+                world.advise(sentence);
+            }
+            status.number()
         }
         Err(_) => NO_MEMORY,
     })

@@ -18,7 +18,7 @@ use f2b_world::{
 };
 use std::alloc::AllocGlobal;
 use std::env::Env;
-use std::io::Print;
+use std::io::{IsTerminal, Print, Write};
 use std::process::Processes;
 use std::rt::{Files, Stderr};
 use std::time::Clock;
@@ -69,6 +69,17 @@ where
                 return;
             }
             clock::sleep(&self.rt, 1);
+        }
+    }
+
+    /// Writes a line to standard error where that is a terminal. Nothing follows where it cannot be written.
+    pub fn advise(&self, sentence: &str) {
+        let Some(mut errors) = self.errors.as_ref() else {
+            return;
+        };
+        if errors.is_terminal() {
+            let _ = errors.write_all(sentence.as_bytes());
+            let _ = errors.write_all(b"\n");
         }
     }
 }

@@ -26,6 +26,3 @@ pub use build::Filter;
 pub use error::{BuildKind, PatternError, PatternPlace};
 pub use finding::Finding;
 pub use search::Searcher;
-
-#[cfg(test)]
-mod tests;

@@ -19,10 +19,6 @@ mod fills;
 mod lane_book;
 mod orders;
 mod tells;
-#[cfg(test)]
-mod tests;
-#[cfg(test)]
-mod tests_checks;
 mod texts;
 mod up;
 

@@ -6,6 +6,7 @@ pub mod Definitions
 pub mod Logs
 pub mod Notes
 pub mod Outputs
+pub mod Patterns
 pub mod Readings
 pub mod Refusals
 pub mod Report

@@ -21,6 +21,7 @@ mod log_file;
 mod log_test;
 mod notes;
 mod output;
+mod pattern;
 mod refusal;
 mod report;
 mod results;
@@ -38,5 +39,6 @@ mod words;
 mod zone;
 
 pub use kind::ToolKind;
+pub use pattern::{pattern_at, wants_detail};
 pub use status::ToolStatus;
 pub use tool::regex_tool;

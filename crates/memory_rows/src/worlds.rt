@@ -1,7 +1,7 @@
 ghost use Rattle.std.specs.Prelude.{◌≡◌, [], length, IfOk};
 
-use super::*;
 use f2b_base::{Bytes, NoMemory, Reading, Seq, Text, TreeAnswer, TreeFile};
+use f2b_mem::{ChildPlan, ClientPlan, FileChange, Image, MemFiles, MemLink, MemWorld, Script};
 use f2b_world::{
     Accept, Children, Configuration, Directories, Disk, FileAnswer, FilePiece, Files, Gate,
     GateRead, GateWrite, Len, Link, LinkRead, Linked, Logs, Look, Made, NamesAnswer, Patterns,

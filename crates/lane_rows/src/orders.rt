@@ -1,11 +1,11 @@
 //! What bans, configurations and stops order, as the jobs with their commands, by the rules for actions.
 
-use crate::LaneBook;
 use f2b_base::{
     ActionDef, Addr, Ban, BanRule, DateSpec, Defs, Family, JailDef, NoMemory, Outcome, Seq, Text,
     Until,
 };
 use f2b_model::{Happening, JailBans, LaneHappening};
+use lane_moves::LaneBook;
 use std::alloc::Global;
 use std::process::Abort;
 use std::test::Fail;

@@ -9,10 +9,10 @@ mod dates;
 mod hosts;
 mod lines;
 
-use super::*;
 use date_detect::is_date_pattern;
 use f2b_base::{Addr, BanRule, Cidr, DateSpec, JailDef, LAST_MOMENT, NoMemory, Seq, Text};
 use f2b_world::{Made, Outside, Patterns, build_pattern};
+use filter_regex::{BuildKind, Filter, Finding, PatternError, PatternPlace, Searcher};
 use ignore_set::IgnoreSet;
 use std::alloc::Global;
 use std::process::Abort;

@@ -1,6 +1,6 @@
 //! Checks: which jobs have one, and what is left and ordered where one fails.
 
-use crate::tests::{ENDLESS, Held, SHORT, Step, Telling, play_up};
+use crate::orders::{ENDLESS, Held, SHORT, Step, Telling, play_up};
 use f2b_base::{Family, Outcome};
 use std::test::Fail;
 

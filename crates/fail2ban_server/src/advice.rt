@@ -1,0 +1,12 @@
+//! What helps whoever sits at the terminal, beside what the run says.
+
+use run_law::Status;
+
+/// A sentence for whoever can mend what ended the run, where there is one.
+pub fn advice(status: &Status) -> Option<&'static str> {
+    match status {
+        Status::Usage => Some("fail2ban-server --help lists the words"),
+        Status::ConfRefused(error) => Some(error.kind.help()),
+        _ => None,
+    }
+}
