@@ -5,10 +5,11 @@ ghost use Rattle.std.specs.Prelude.{IfOk, ◌≤◌, length};
 
 use crate::fault::Fault;
 use crate::regular::open_regular;
+use crate::terminal::Progress;
 use crate::tree::{TreeFault, read_tree};
 use f2b_base::{Bytes, TreeAnswer};
 use f2b_world::{FileAnswer, FilePiece, Files, Made, Outside, Patterns, build_pattern, raised};
-use std::alloc::AllocGlobal;
+use std::alloc::{AllocGlobal, Global};
 use std::rt;
 
 /// A file that is read whole has at most so many bytes.
@@ -25,6 +26,15 @@ where
     files: u64,
     /// How often a pattern was too big.
     patterns: u64,
+    /// Shows how far a file was read that is read piece by piece.
+    progress: Option<Progress>,
+}
+
+/// A piece of a file.
+struct Piece {
+    bytes: Bytes,
+    /// The bytes of the file when it was opened for this piece.
+    size: u64,
 }
 
 /// Why a file is not given whole.
@@ -39,11 +49,12 @@ where
     R: rt::Files + AllocGlobal + Clone + Drop,
 {
     /// Files without a fault so far.
-    pub fn new(rt: R) -> RealFiles<R> {
+    pub fn new(rt: R, progress: Option<Progress>) -> RealFiles<R> {
         RealFiles {
             rt,
             files: 0,
             patterns: 0,
+            progress,
         }
     }
 }
@@ -71,12 +82,30 @@ fn read_piece<R: rt::Files + AllocGlobal>(
     path: &str,
     at: u64,
     max: u32,
-) -> Result<Bytes, Fault>
-    ensures { IfOk result (λ bytes. length bytes ≤ max) }
+) -> Result<Piece, Fault>
+    ensures { IfOk result (λ piece. length piece.bytes ≤ max) }
 {
     let mut file = open_regular(rt, path)?;
-    let left = file.size.saturating_sub(at);
-    file.read_range(rt.alloc(), at, u64::from(max).min(left))
+    let size = file.size;
+    let left = size.saturating_sub(at);
+    let bytes = file.read_range(rt.alloc(), at, u64::from(max).min(left))?;
+    Ok(Piece { bytes, size })
+}
+
+/// Shows how far a file was read, up to this piece, and nothing more at its end.
+fn show(progress: &mut Option<Progress>, alloc: Global, at: u64, piece: &Piece) {
+    let Some(progress) = progress else {
+        return;
+    };
+    if piece.bytes.is_empty() {
+        progress.end();
+    } else {
+        progress.show(
+            alloc,
+            at.saturating_add(piece.bytes.len() as u64),
+            piece.size,
+        );
+    }
 }
 
 impl<R> Outside for RealFiles<R>
@@ -121,7 +150,10 @@ where
 
     fn piece(&mut self, path: &str, at: u64, max: u32) -> FilePiece {
         match read_piece(&self.rt, path, at, max) {
-            Ok(bytes) => FilePiece::Bytes(bytes),
+            Ok(piece) => {
+                show(&mut self.progress, self.rt.alloc(), at, &piece);
+                FilePiece::Bytes(piece.bytes)
+            }
             Err(Fault::Absent) => FilePiece::Absent,
             Err(Fault::NoMemory) => FilePiece::NoMemory,
             Err(Fault::Failed) => {

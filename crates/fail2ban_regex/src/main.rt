@@ -2,29 +2,34 @@
 //!
 //! What a test is, is in the crates below, over traits of the outside. Here stand these traits over the operating system, and the
 //! words that the program is called with. That files, the clock and standard output are what the system says they are is trusted.
-//! Nothing here knows what a test is.
+//! Nothing here knows what a test is, but for what helps whoever sits at a terminal: why a pattern is refused, and how far a log was
+//! read.
 //!
 //! ```text
 //! let mut output = Output::new(rt.clone()?);
-//! let mut files = RealFiles::new(rt);
+//! let mut files = RealFiles::new(rt, None);
 //! Ok(regex_tool(alloc, words, now, &mut files, &mut output).number())
 //! ```
 #![tactic(auto)]
 
+mod advice;
 mod fault;
 mod files;
 mod output;
 mod regular;
+mod terminal;
 mod tree;
 mod words;
 
+use advice::advice;
 use files::RealFiles;
 use output::Output;
-use regex_tool::regex_tool;
+use regex_tool::{regex_tool, wants_detail};
 use std::alloc::{AllocError, AllocGlobal};
 use std::io::Print;
 use std::process::ExitCode;
 use std::time::{Clock, SystemTime, UNIX_EPOCH};
+use terminal::{Progress, Terminal};
 use words::Call;
 
 /// The status where standard output cannot be written.
@@ -49,9 +54,20 @@ fn main(rt: HostRuntime) -> ExitCode {
 fn test(rt: HostRuntime, words: &[String]) -> Result<u8, AllocError> {
     let now = seconds(&rt);
     let alloc = rt.alloc();
+    let terminal = Terminal::of(rt.stderr());
+    let progress = match Terminal::of(rt.stderr()) {
+        Some(terminal) if wants_detail(alloc, words) => Some(Progress::new(terminal)),
+        _ => None,
+    };
     let mut output = Output::new(rt.clone()?);
-    let mut files = RealFiles::new(rt);
-    Ok(regex_tool(alloc, words, now, &mut files, &mut output).number())
+    let mut files = RealFiles::new(rt, progress);
+    let status = regex_tool(alloc, words, now, &mut files, &mut output);
+    if let Some(terminal) = terminal {
+        if let Ok(Some(line)) = advice(alloc, words, &status, &mut files) {
+            terminal.write(line.as_str());
+        }
+    }
+    Ok(status.number())
 }
 
 /// Seconds since 1970, or 0 where the clock cannot be read.
