@@ -31,6 +31,7 @@ where
 }
 
 /// A piece of a file.
+#[derive(Drop)]
 struct Piece {
     bytes: Bytes,
     /// The bytes of the file when it was opened for this piece.
@@ -92,19 +93,17 @@ fn read_piece<R: rt::Files + AllocGlobal>(
     Ok(Piece { bytes, size })
 }
 
-/// Shows how far a file was read, up to this piece, and nothing more at its end.
-fn show(progress: &mut Option<Progress>, alloc: Global, at: u64, piece: &Piece) {
+/// Shows how far a file was read, up to this piece. It is taken off behind the last one.
+fn show(progress: &mut Option<Progress>, alloc: Global, at: u64, piece: &Result<Piece, Fault>) {
     let Some(progress) = progress else {
         return;
     };
-    if piece.bytes.is_empty() {
-        progress.end();
-    } else {
-        progress.show(
-            alloc,
-            at.saturating_add(piece.bytes.len() as u64),
-            piece.size,
-        );
+    match piece {
+        Ok(piece) if !piece.bytes.is_empty() => {
+            let read = at.saturating_add(piece.bytes.len() as u64);
+            progress.show(alloc, read, piece.size);
+        }
+        _ => progress.end(),
     }
 }
 
@@ -149,11 +148,10 @@ where
     }
 
     fn piece(&mut self, path: &str, at: u64, max: u32) -> FilePiece {
-        match read_piece(&self.rt, path, at, max) {
-            Ok(piece) => {
-                show(&mut self.progress, self.rt.alloc(), at, &piece);
-                FilePiece::Bytes(piece.bytes)
-            }
+        let piece = read_piece(&self.rt, path, at, max);
+        show(&mut self.progress, self.rt.alloc(), at, &piece);
+        match piece {
+            Ok(piece) => FilePiece::Bytes(piece.bytes),
             Err(Fault::Absent) => FilePiece::Absent,
             Err(Fault::NoMemory) => FilePiece::NoMemory,
             Err(Fault::Failed) => {
