@@ -11,3 +11,9 @@ pub record IsBefore (text : List ℕ) (offset place : ℕ) : Type 0 where
 pub record IsPlaceOf (text : List ℕ) (offset place : ℕ) : Type 0 where
   pub before : IsBefore text offset place
   pub last : (next : ℕ) → place < next → next ≤ length text → IsBefore text offset next → ⊥
+
+-- the place of some offset
+pub record IsPlaceIn (text : List ℕ) (place : ℕ) : Type 0 where
+  pub offset : ℕ
+  pub within : offset ≤ length (expanded text)
+  pub is : IsPlaceOf text offset place

@@ -1,7 +1,8 @@
 //! Faults of patterns.
-ghost use Rattle.std.specs.Prelude.{◌≡◌, None, IfNone, IfOk, IfSome, IsSome, IsCharBoundary, OnSome};
+ghost use Rattle.std.specs.Prelude.{◌≡◌, ◌≤◌, None, IfNone, IfOk, IfSome, IsSome, OnSome, length};
 ghost use Rattle.f2b_world.specs.Reading.{reading};
 ghost use Rattle.host_ident.specs.Expanded.{expanded};
+ghost use Rattle.pattern_fault.specs.Places.{IsPlaceIn};
 
 use crate::place::place_in;
 use f2b_base::NoMemory;
@@ -21,6 +22,7 @@ pub struct PatternFault {
 fn fault_of(alloc: Global, text: &str) -> Result<Option<Error>, NoMemory>
     ensures none { IfOk result (λ fault. IfNone fault (IsSome (reading text.now))) }
     ensures some { IfOk result (λ fault. OnSome fault (reading text.now ≡ None)) }
+    ensures within { IfOk result (λ fault. IfSome fault (λ f. f.span.start ≤ length text.now)) }
 {
     match parse(alloc, text, &Config::default()) {
         Ok(_) => Ok(None),
@@ -35,7 +37,7 @@ fn fault_of(alloc: Global, text: &str) -> Result<Option<Error>, NoMemory>
 pub fn pattern_fault(alloc: Global, pattern: &str) -> Result<Option<PatternFault>, NoMemory>
     ensures none { IfOk result (λ fault. IfNone fault (IsSome (reading (expanded pattern.now)))) }
     ensures some { IfOk result (λ fault. OnSome fault (reading (expanded pattern.now) ≡ None)) }
-    ensures place { IfOk result (λ fault. IfSome fault (λ f. IsCharBoundary pattern.now f.place)) }
+    ensures place { IfOk result (λ fault. IfSome fault (λ f. IsPlaceIn pattern.now f.place)) }
 {
     let text = expand(alloc, pattern)?;
     let Some(error) = fault_of(alloc, text.as_str())? else {

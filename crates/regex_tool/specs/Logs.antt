@@ -1,8 +1,9 @@
 -- The lines of a log, what a filter finds in them, and where their dates stand.
-use Rattle.std.specs.Prelude.{ℕ, ℤ, Bool, List, [], ◌∷◌, ◌++◌, map, Option, None, if◌then◌else◌}
+use Rattle.std.specs.Prelude.{ℕ, ℤ, Bool, List, [], ◌∷◌, ◌++◌, map, Option, None, Some, if◌then◌else◌}
 use Rattle.date_detect.specs.Dates.{date_in}
-use Rattle.date_detect.specs.Forms.{Rule}
+use Rattle.date_detect.specs.Forms.{Rule, rule_of}
 use Rattle.date_detect.specs.declared.search.Found.{Found}
+use Rattle.f2b_base.specs.declared.jail.DateSpec.{DateSpec}
 use Rattle.f2b_base.specs.declared.jail.JailDef.{JailDef}
 use Rattle.filter_regex.specs.Findings.{finding}
 use Rattle.filter_regex.specs.Rules.{Rules, rules_of}
@@ -26,23 +27,32 @@ finding_of rules now (Whole text) = finding rules [] now tested_time text
 unfoldable pub findings_of : Rules → ℕ → List Line → List Finding
 findings_of rules now lines = map (finding_of rules now) lines
 
--- what is looked for in lines: what these rules find, and perhaps where the dates stand
+-- what is looked for in lines: what these rules find, and once more the dates where they are to be shown
 pub record Looks : Type 0 where
   pub rules : Rules
-  pub dated : Bool
+  pub dates : Option Rule
+  -- how many seconds a date without a zone is ahead of UTC
+  pub zone : ℤ
 
--- in a test of a jail dates are looked for where the words want details
+abbrev pub dates_if : (wanted : Bool) → DateSpec → Option Rule
+dates_if wanted date = if wanted then Some (rule_of date) else None
+
+-- in a test of a jail dates are shown where the words want details
 abbrev pub looks_of : JailDef → Shows → Looks
-looks_of jail shows = record { rules = rules_of jail; dated = shows.detail }
+looks_of jail shows = record { rules = rules_of jail; dates = dates_if shows.detail jail.date; zone = jail.zone }
 
 -- the date of a line; one that is too long has none
 abbrev pub date_of : Rule → ℕ → (zone : ℤ) → Line → Option Found
 date_of dates now zone Long = None
 date_of dates now zone (Whole text) = date_in dates now zone text
 
--- the date of a line, where it is looked for
+-- the date of a line, where dates are looked for
+abbrev pub date_by : Option Rule → ℕ → (zone : ℤ) → Line → Option Found
+date_by None now zone line = None
+date_by (Some dates) now zone line = date_of dates now zone line
+
 abbrev pub date_if : Looks → ℕ → Line → Option Found
-date_if looks now line = if looks.dated then date_of looks.rules.dates now looks.rules.zone line else None
+date_if looks now line = date_by looks.dates now looks.zone line
 
 abbrev pub seen_of : Looks → ℕ → Line → Seen
 seen_of looks now line = record { finding = finding_of looks.rules now line; date = date_if looks now line }

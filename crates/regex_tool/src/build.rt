@@ -1,10 +1,10 @@
 //! What is tried on the lines of a log, by the jail that is tested.
-ghost use Rattle.std.specs.Prelude.{◌≡◌, None, is_some, IfErr, IfOk, IfSome, OnOk};
-ghost use Rattle.date_detect.specs.Forms.{HasDatePattern, rule_of};
+ghost use Rattle.std.specs.Prelude.{◌≡◌, None, IfErr, IfOk, OnOk};
+ghost use Rattle.date_detect.specs.Forms.{HasDatePattern};
 ghost use Rattle.filter_regex.specs.Rules.{rules_of};
 ghost use Rattle.regex_tool.specs.Builds.{HasBuildCause, IsBuilt, not_dated, tool_kind};
 ghost use Rattle.regex_tool.specs.Checks.{first_fault, IsTestable};
-ghost use Rattle.regex_tool.specs.Logs.{looks_of};
+ghost use Rattle.regex_tool.specs.Logs.{dates_if, looks_of};
 
 use crate::checks::first_fault;
 use crate::kind::ToolKind;
@@ -79,8 +79,7 @@ fn dates_if<P: Patterns>(
 ) -> Result<Option<Dates>, ToolStatus>
     requires date { HasDatePattern jail.now.date }
     requires none { first_fault jail.now ≡ None }
-    ensures wanted { IfOk result (λ dates. is_some dates ≡ wanted) }
-    ensures value { IfOk result (λ dates. IfSome dates (λ own. own ≡ rule_of jail.now.date)) }
+    ensures value { IfOk result (λ dates. dates ≡ dates_if wanted jail.now.date) }
     ensures cause { IfErr result (HasBuildCause jail.now (P.stands patterns.old) (P.stands patterns.new)) }
     ensures built { IsBuilt (P.stands patterns.old) (P.stands patterns.new) }
 {

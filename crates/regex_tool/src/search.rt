@@ -1,7 +1,6 @@
 //! `LineSearch`, which looks into the lines of a log.
-ghost use Rattle.std.specs.Prelude.{◌≡◌, ◌<◌, ◌^◌, [], option_and_then, IfOk};
-ghost use Rattle.date_detect.specs.Dates.{date_in};
-ghost use Rattle.regex_tool.specs.Logs.{date_if, date_of, finding_of, seen_of};
+ghost use Rattle.std.specs.Prelude.{◌≡◌, ◌<◌, ◌^◌, [], IfOk};
+ghost use Rattle.regex_tool.specs.Logs.{date_by, date_of, finding_of, seen_of};
 
 use crate::seen::Seen;
 use date_detect::{Found, Searcher as DateSearcher};
@@ -24,14 +23,11 @@ pub(crate) struct LineSearch<'f> {
 }
 
 impl<'f> Model for LineSearch<'f> {
-    ghost use Rattle.std.specs.Prelude.{◌≡◌, is_some, IfSome};
     ghost use Rattle.regex_tool.specs.Logs.{Looks};
 
     ghost Value = { Looks };
 
-    ghost view = { λ s. record { rules = s.finds; dated = is_some s.dates } };
-
-    ghost invariant = { λ s. IfSome s.dates (λ dates. dates ≡ s.finds.dates) × (s.zone ≡ s.finds.zone) };
+    ghost view = { λ s. record { rules = s.finds; dates = s.dates; zone = s.zone } };
 }
 
 /// What the filter finds in a line. A line that is too long is missed.
@@ -53,7 +49,7 @@ fn found(
 }
 
 /// The date of a line. One that is too long has none.
-fn dated(searcher: &mut DateSearcher<'_>, line: &Line, now: u64, zone: i32) -> Option<Found>
+fn date_of(searcher: &mut DateSearcher<'_>, line: &Line, now: u64, zone: i32) -> Option<Found>
     ensures found { result ≡ date_of searcher.old now zone line.now }
     ensures same { searcher.new ≡ searcher.old }
 {
@@ -63,18 +59,18 @@ fn dated(searcher: &mut DateSearcher<'_>, line: &Line, now: u64, zone: i32) -> O
     }
 }
 
-impl<'f> LineSearch<'f> {
-    /// The date of a line, where it is looked for.
-    fn date(&mut self, line: &Line, now: u64) -> Option<Found>
-        ensures found { result ≡ date_if self.old now line.now }
-        ensures same { self.new ≡ self.old }
-    {
-        match &mut self.dates {
-            Some(searcher) => dated(searcher, line, now, self.zone),
-            None => None,
-        }
-    }
+/// The date of a line, where dates are looked for.
+fn date_by(dates: &mut Option<DateSearcher<'_>>, line: &Line, now: u64, zone: i32) -> Option<Found>
+    ensures found { result ≡ date_by dates.old now zone line.now }
+    ensures same { dates.new ≡ dates.old }
+{
+    let Some(searcher) = dates else {
+        return None;
+    };
+    date_of(searcher, line, now, zone)
+}
 
+impl<'f> LineSearch<'f> {
     /// What is seen in a line at `now`, in seconds since 1970.
     pub(crate) fn seen(
         &mut self,
@@ -87,7 +83,7 @@ impl<'f> LineSearch<'f> {
         ensures seen { IfOk result (λ seen. seen ≡ seen_of self.old now line.now) }
         ensures same { self.new ≡ self.old }
     {
-        let date = self.date(line, now);
+        let date = date_by(&mut self.dates, line, now, self.zone);
         let finding = found(&mut self.finds, nobody, line, now)?;
         Ok(Seen { finding, date })
     }

@@ -19,14 +19,11 @@ pub(crate) struct Trial {
 }
 
 impl Model for Trial {
-    ghost use Rattle.std.specs.Prelude.{◌≡◌, is_some, IfSome};
     ghost use Rattle.regex_tool.specs.Logs.{Looks};
 
     ghost Value = { Looks };
 
-    ghost view = { λ t. record { rules = t.filter; dated = is_some t.dates } };
-
-    ghost invariant = { λ t. IfSome t.dates (λ dates. dates ≡ t.filter.dates) × (t.zone ≡ t.filter.zone) };
+    ghost view = { λ t. record { rules = t.filter; dates = t.dates; zone = t.zone } };
 }
 
 impl Trial {
