@@ -1,5 +1,5 @@
 //! Configurations of a few files, and what they come to.
-use f2b_base::{Bytes, JailDef, NoMemory, Seq, Text, Tree, TreeFile};
+use f2b_base::{Bytes, JailDef, NoMemory, Plain, Seq, Text, Tree, TreeFile};
 use jail_conf::{ConfKind, Fail as Refusal, conf};
 use std::alloc::Global;
 use std::test::Fail;
@@ -37,13 +37,10 @@ pub(crate) type Read = Result<JailDef, Refusal<ConfKind>>;
 /// What the one jail of a configuration comes to.
 pub(crate) fn only_jail(alloc: Global, files: &[(&str, &str)]) -> Result<Read, Fail> {
     match conf(alloc, &tree(alloc, files)?) {
-        Ok(settings) => {
-            let mut jails = settings.defs.jails;
-            if jails.len() != 1 {
-                return Err(Fail::from("not one jail"));
-            }
-            Ok(Ok(jails.remove(0)))
-        }
+        Ok(settings) => match settings.defs.jails.as_slice() {
+            [jail] => Ok(Ok(jail.copy()?)),
+            _ => Err(Fail::from("not one jail")),
+        },
         Err(Refusal::Refused(error)) => Ok(Err(Refusal::Refused(error.kind))),
         Err(Refusal::NoMemory) => Ok(Err(Refusal::NoMemory)),
     }
