@@ -4,4 +4,4 @@ mod LedgerLemmas
 mod StepLemmas
 mod Rows
 mod ServerLemmas
-mod RunLemmas
+pub mod RunLemmas

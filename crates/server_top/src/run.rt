@@ -1,5 +1,7 @@
 //! The run of the server.
 ghost use Rattle.std.specs.Prelude.{◌≡◌, ◌≤◌, IfErr, IfOk, IsSome, None, OnOk, map, string_bytes};
+ghost use Rattle.f2b_world.specs.Told.{Adds};
+ghost use Rattle.run_jobs.specs.Runs.{TriesJobsInOrder};
 ghost use Rattle.run_law.specs.Law.{Halts, opening};
 ghost use Rattle.run_law.specs.Served.{IsCaused, IsRun};
 ghost use Rattle.run_law.specs.Stages.{HasCause, IsSteady};
@@ -88,13 +90,16 @@ fn run<W: World + Directories + Children>(
 /// end, and `--turns N` behind it ends the run after N turns.
 ///
 /// Each call on the outside is the one that the law gives after the calls before it, and the run ends where the law gives none. Lines
-/// are said in the order of what happened, all that an event tells in one call, before any other call.
+/// are said in the order of what happened, all that an event tells in one call, before any other call. In each lane the jobs that the run
+/// has tried are the first of those that were made for it, in order.
+#[tactic(auto, using(crate::proofs::TriedLemmas::tries))]
 pub fn server<W: World + Directories + Children>(
     alloc: Global,
     words: &[String],
     world: &mut W,
 ) -> Status
     ensures law { IsRun (W.stands world.old).told (W.stands world.new).told (map string_bytes words.now) result }
+    ensures tried { Adds (W.stands world.old).told (W.stands world.new).told (λ g es. TriesJobsInOrder (map string_bytes words.now) es) }
 
     // In every world, told or not.
     ensures cause { IsCaused (map string_bytes words.now) (W.stands world.old) (W.stands world.new) result }

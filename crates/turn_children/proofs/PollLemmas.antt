@@ -5,6 +5,7 @@ use Rattle.std.proofs.lemmas.Bool.{lt-ltb}
 use Rattle.std.proofs.lemmas.List.Edits.{length-remove}
 use Rattle.f2b_base.specs.declared.job.Outcome.{Outcome}
 use Rattle.f2b_base.specs.declared.job.Outcome.TheVariants.{Status as EndedWith, TimedOut}
+use Rattle.f2b_model.proofs.ListLemmas.{by_test}
 use Rattle.f2b_world.specs.Told.{Standing, Called}
 use Rattle.f2b_world.specs.declared.answer.PollAnswer.{PollAnswer}
 use Rattle.f2b_world.specs.declared.answer.PollAnswer.TheVariants.{Running as StillRuns, Ended as PollEnded, Failed}
@@ -27,7 +28,7 @@ use Rattle.run_law.proofs.PointLemmas.{goes_refl, goes_trans, halts_after, halts
 use Rattle.run_law.proofs.StageLemmas.{move_fails_on, moves_trans}
 use Rattle.run_steps.specs.Keeping.{KeepsRunning, news_of}
 use Rattle.run_steps.specs.declared.running.Running.{Running}
-use Rattle.turn_children.specs.Polling.{EndBrings, EndFails, HasPassed, IsGone, at_kill, outcome_of}
+use Rattle.turn_children.specs.Polling.{EndBrings, EndFails, HasPassed, IsGone, at_kill, outcome_of, place_behind}
 
 -- ---- what the end of a child brings
 
@@ -113,6 +114,19 @@ pub gone_left : (before mid after : Running) (place : ℕ) → IsGone place befo
 gone_left before mid after place gone_is same = same ∙ gone_is.left
 
 pub ruleset child_ends = (end_passed, end_brought, end_unbrought, end_lost, passed_fewer, ended_fewer, passed_left, gone_left)
+
+-- the place behind a child is the next one, where it is not late
+goes_behind : (now place : ℕ) (c : Child) (behind : ℕ) → place_behind now place c ≡ Some behind → (is_late now c ≡ false) × (place + 1 ≡ behind)
+goes_behind now place c behind is =
+    by_test (is_late now c) _
+    (λ late. absurd (let e : None ≡ Some behind = rw late at is in cc))
+    (λ on. (on, (let e : Some (place + 1) ≡ Some behind = rw on at is in cc)))
+
+stays_behind : (now place : ℕ) (c : Child) → place_behind now place c ≡ None → is_late now c ≡ true
+stays_behind now place c is =
+    by_test (is_late now c) _
+    (λ late. late)
+    (λ on. absurd (let e : Some (place + 1) ≡ None = rw on at is in cc))
 
 -- ---- a child by its place
 
@@ -214,12 +228,13 @@ module _ (before : Running) (place : ℕ) (child : Child) (there : slice_get bef
                 (fails.runs r s (AtTurn (AtPoll place) s) at_poll keeps);
           }
 
-        module _ (none : o ≡ None) (late : Bool) (late_is : late ≡ is_late before.clocked.now child) where
-          still_moves : (to : Server → Point) → ((s : Server) → still_point late place s ≡ to s) → Moves KeepsRunning a b (to_polls place) to before before
-          still_moves to point = record {
+        module _ (none : o ≡ None) (next : Option ℕ) (next_is : next ≡ place_behind before.clocked.now place child) where
+          still_moves : (late : Bool) → is_late before.clocked.now child ≡ late → (to : Server → Point) → ((s : Server) → still_point late place s ≡ to s)
+              → Moves KeepsRunning a b (to_polls place) to before before
+          still_moves late is to point = record {
             runs = λ r s at keeps.
                 let at_poll = here r s at keeps in
-                let lates : is_late s.now child ≡ late = ap (λ now. is_late now child) (sym keeps.clocked.now) ∙ sym late_is in
+                let lates : is_late s.now child ≡ late = ap (λ now. is_late now child) (sym keeps.clocked.now) ∙ is in
                 record {
                   to = polled StillRuns child place s r;
                   server = s;
@@ -230,18 +245,21 @@ module _ (before : Running) (place : ℕ) (child : Child) (there : slice_get bef
           }
 
           -- it is not late
-          pub poll_on : late ≡ false → Moves KeepsRunning a b (to_polls place) (to_polls (place + 1)) before before
-          poll_on is = still_moves (to_polls (place + 1)) (λ s. ap (λ (l : Bool). still_point l place s) is)
+          pub poll_on : (behind : ℕ) → next ≡ Some behind → Moves KeepsRunning a b (to_polls place) (to_polls behind) before before
+          poll_on behind is =
+              let on = goes_behind before.clocked.now place child behind (sym next_is ∙ is) in
+              let P : ℕ → Type 0 = λ n. Moves KeepsRunning a b (to_polls place) (to_polls n) before before in
+              subst P on.1 (still_moves false on.0 (to_polls (place + 1)) (λ s. refl))
 
-          poll_late : late ≡ true → Moves KeepsRunning a b (to_polls place) (at_kill place) before before
-          poll_late is = still_moves (at_kill place) (λ s. ap (λ (l : Bool). still_point l place s) is)
+          poll_late : next ≡ None → Moves KeepsRunning a b (to_polls place) (at_kill place) before before
+          poll_late is = still_moves true (stays_behind before.clocked.now place child (sym next_is ∙ is)) (at_kill place) (λ s. refl)
 
           -- it is late, and ended
-          pub poll_killed : (c : Standing) (after : Running) → late ≡ true → Moves KeepsRunning b c (at_kill place) (to_polls place) before after
+          pub poll_killed : (c : Standing) (after : Running) → next ≡ None → Moves KeepsRunning b c (at_kill place) (to_polls place) before after
               → Moves KeepsRunning a c (to_polls place) (to_polls place) before after
           poll_killed c after is moves = moves_trans KeepsRunning a b c (to_polls place) (at_kill place) (to_polls place) before before after (poll_late is) moves
 
-          pub poll_kill_fails : (c : Standing) (status : Status) → late ≡ true → MoveFails KeepsRunning b c (at_kill place) before status → MoveFails KeepsRunning a c (to_polls place) before status
+          pub poll_kill_fails : (c : Standing) (status : Status) → next ≡ None → MoveFails KeepsRunning b c (at_kill place) before status → MoveFails KeepsRunning a c (to_polls place) before status
           poll_kill_fails c status is fails = move_fails_on KeepsRunning a b c (to_polls place) (at_kill place) before before status (poll_late is) fails
 
 -- the walk comes nearer to its end: a child is gone, or it is behind
@@ -249,8 +267,11 @@ pub fewer_gone : (before after : Running) (place : ℕ) → place < length befor
     → length after.children.running - place < length before.children.running - place
 fewer_gone before after place within one = omega (arith, within, one)
 
-pub fewer_behind : (before : Running) (place : ℕ) → place < length before.children.running → length before.children.running - (place + 1) < length before.children.running - place
-fewer_behind before place within = omega (arith, within)
+pub fewer_behind : (before : Running) (place : ℕ) (child : Child) (next : Option ℕ) (behind : ℕ) → place < length before.children.running → next ≡ place_behind before.clocked.now place child → next ≡ Some behind
+    → length before.children.running - behind < length before.children.running - place
+fewer_behind before place child next behind within next_is is =
+    let one : place + 1 ≡ behind = (goes_behind before.clocked.now place child behind (sym next_is ∙ is)).1 in
+    omega (arith, within, one)
 
 pub ruleset killing = (kill_moves, kill_fails)
 

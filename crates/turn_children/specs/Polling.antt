@@ -1,11 +1,12 @@
 -- How a command that runs is asked and ended.
-use Rattle.std.specs.Prelude.{ℕ, ◌≡◌, Option, Some, None}
+use Rattle.std.specs.Prelude.{ℕ, ◌+◌, ◌≡◌, if◌then◌else◌, Option, Some, None}
 use Rattle.f2b_base.specs.declared.job.Outcome.{Outcome}
 use Rattle.f2b_base.specs.declared.job.Outcome.TheVariants.{Status as EndedWith}
 use Rattle.f2b_world.specs.Told.{Standing}
 use Rattle.f2b_world.specs.declared.answer.PollAnswer.{PollAnswer}
 use Rattle.f2b_world.specs.declared.answer.PollAnswer.TheVariants.{Ended as PollEnded}
 use Rattle.child_table.specs.Children.{ended, passed_by}
+use Rattle.child_table.specs.Late.{is_late}
 use Rattle.child_table.specs.declared.child.Child.{Child}
 use Rattle.run_law.specs.Law.{Halts}
 use Rattle.run_law.specs.Points.{Point, AtTurn, AtKill, Run}
@@ -25,6 +26,10 @@ at_kill place s = AtTurn (AtKill place) s
 abbrev pub outcome_of : PollAnswer → Option Outcome
 outcome_of (PollEnded status) = Some (EndedWith status)
 outcome_of _ = None
+
+-- the place behind a child that still runs, unless it is late
+abbrev pub place_behind : ℕ → ℕ → Child → Option ℕ
+place_behind now place c = if is_late now c then None else Some (place + 1)
 
 -- the child of a place is gone, and all else is as before
 pub record IsGone (place : ℕ) (before after : Running) : Type 0 where

@@ -4,6 +4,7 @@ ghost use Rattle.run_law.specs.Polls.{end_of, has_succeeded};
 ghost use Rattle.run_law.specs.Stages.{Brings, BringFails, HasCause, IsSteady};
 ghost use Rattle.run_steps.specs.Keeping.{IsTimedAlike, KeepsRunning, Makes, news_of};
 
+use action_queue::is_success;
 use child_table::{Child, Task};
 use f2b_base::{Outcome, What};
 use f2b_world::World;
@@ -16,10 +17,7 @@ pub(crate) fn has_succeeded(task: Task, outcome: Outcome) -> bool
     ensures { result ≡ has_succeeded task outcome }
 {
     match task {
-        Task::Check => match outcome {
-            Outcome::Status(status) => status == 0,
-            Outcome::NotStarted | Outcome::TimedOut => false,
-        },
+        Task::Check => is_success(outcome),
         Task::Command => false,
     }
 }

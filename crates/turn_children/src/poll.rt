@@ -4,7 +4,7 @@ ghost use Rattle.child_table.specs.Children.{most_children};
 ghost use Rattle.run_law.specs.Stages.{HasCause, IsSteady, Moves, MoveFails};
 ghost use Rattle.run_law.specs.Turn.{to_polls};
 ghost use Rattle.run_steps.specs.Keeping.{KeepsRunning};
-ghost use Rattle.turn_children.specs.Polling.{EndBrings, EndFails, IsGone, HasPassed, at_kill, outcome_of};
+ghost use Rattle.turn_children.specs.Polling.{EndBrings, EndFails, IsGone, HasPassed, at_kill, outcome_of, place_behind};
 
 use crate::end::{has_succeeded, take_end};
 use child_table::Child;
@@ -21,6 +21,18 @@ fn outcome_of(answer: PollAnswer) -> Option<Outcome>
     match answer {
         PollAnswer::Ended(status) => Some(Outcome::Status(i64::from(status))),
         PollAnswer::Running | PollAnswer::Failed => None,
+    }
+}
+
+// The place behind a child that still runs, unless it is late.
+fn place_behind(now: u64, place: usize, child: Child) -> Option<usize>
+    requires { place < most_children }
+    ensures { result ≡ place_behind now place child }
+{
+    if child.is_late(now) {
+        None
+    } else {
+        Some(place + 1)
     }
 }
 
@@ -119,13 +131,12 @@ pub(crate) fn poll<'f, W: World + Children>(
             // The next one stands at this place now.
             Ok((running, place))
         }
-        None => {
-            if child.is_late(running.clocked.now) {
+        None => match place_behind(running.clocked.now, place, child) {
+            Some(next) => Ok((running, next)),
+            None => {
                 let running = kill(alloc, world, running, place, child)?;
                 Ok((running, place))
-            } else {
-                Ok((running, place + 1))
             }
-        }
+        },
     }
 }
