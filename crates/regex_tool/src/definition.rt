@@ -6,6 +6,7 @@ ghost use Rattle.regex_tool.specs.Checks.{IsFew, IsTestable};
 ghost use Rattle.regex_tool.specs.Readings.{IsOpened};
 ghost use Rattle.regex_tool.specs.Runs.{HasTreeCause, IsConfFail, IsJailFail};
 ghost use Rattle.regex_tool.specs.Targets.{shown as shown_target};
+ghost use Rattle.regex_tool.specs.Zones.{IsNear};
 
 use crate::status::ToolStatus;
 use crate::target::{Target, target_in};
@@ -159,7 +160,8 @@ fn lines_or(alloc: Global, given: Option<&str>, lines: Seq<Text>) -> Result<Seq<
 /// The jail with patterns of the words in place of its own. Dates without a zone are those of the words' zone, and no address is left
 /// out.
 fn with_words(alloc: Global, asked: &Asked<'_>, jail: JailDef) -> Result<JailDef, NoMemory>
-    ensures { IfOk result (λ own. own ≡ with_words (shown asked.now) jail) }
+    ensures words { IfOk result (λ own. own ≡ with_words (shown asked.now) jail) }
+    ensures near { IsNear asked.now.zone }
 {
     Ok(JailDef {
         name: jail.name,
