@@ -50,8 +50,8 @@ fn push_under(
 
 /// The lines of each kind that is shown.
 #[tactic(auto, unfolding(crate::specs::Outputs::shown_lines))]
-fn push_lines(text: &mut Bytes, shows: Shows, sections: &Sections) -> Result<(), NoMemory>
-    ensures { OnOk result (text.new ≡ text.old ++ shown_lines shows sections.now) }
+fn push_lines(text: &mut Bytes, shows: &Shows, sections: &Sections) -> Result<(), NoMemory>
+    ensures { OnOk result (text.new ≡ text.old ++ shown_lines shows.now sections.now) }
 {
     push_under(text, b"Matched lines:\n", shows.matched, &sections.matched)?;
     push_under(text, b"Ignored lines:\n", shows.ignored, &sections.ignored)?;
@@ -72,7 +72,7 @@ pub(crate) fn output(
     ensures { IfOk result (λ text. text ≡ output shows jail.now results.now) }
 {
     let mut text = first_part(alloc, shows.form, jail, results)?;
-    push_lines(&mut text, shows, &results.sections)?;
+    push_lines(&mut text, &shows, &results.sections)?;
     push_warnings(alloc, &mut text, shows.detail, jail)?;
     Ok(text)
 }
