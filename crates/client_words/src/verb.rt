@@ -118,13 +118,11 @@ fn set_verb(words: &[Text]) -> Result<Verb, CommandError>
     let [_, _, word, values @ ..] = words else {
         return Err(CommandError::WrongCount);
     };
-    let Some(setting) = setting_named(word.as_str()) else {
-        return Err(CommandError::Unknown);
-    };
-    if has_unknown_switch(setting, values) {
-        return Err(CommandError::Unknown);
+    match setting_named(word.as_str()) {
+        None => Err(CommandError::Unknown),
+        Some(setting) if has_unknown_switch(setting, values) => Err(CommandError::Unknown),
+        Some(setting) => Ok(Verb::Set(setting)),
     }
-    Ok(Verb::Set(setting))
 }
 
 fn get_verb(words: &[Text]) -> Result<Verb, CommandError>
