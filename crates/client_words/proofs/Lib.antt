@@ -1,3 +1,2 @@
-pub mod AddressLemmas
 pub mod TableLemmas
 pub mod VerbLemmas

@@ -1,5 +1,5 @@
 -- The table of verbs: which words name one, and how many words a command with it has.
-use Rattle.std.specs.Prelude.{ℕ, Bool, true, false, ◌==◌, nat_le, List, [], ◌∷◌, find, Option, Some, None, option_map, is_none, Result, Ok, Err, bytes_eq, codes, if◌then◌else◌}
+use Rattle.std.specs.Prelude.{ℕ, Bool, true, false, ◌==◌, nat_le, List, [], ◌∷◌, find, Option, option_map, is_none, Result, Ok, Err, bytes_eq, codes, if◌then◌else◌}
 use Rattle.jail_conf.specs.Then.{◌>>=◌, ◌>>◌, or_refuse, refuse_if}
 use Rattle.client_words.specs.declared.error.CommandError.{CommandError}
 use Rattle.client_words.specs.declared.error.CommandError.TheVariants.{Unknown, WrongCount}
