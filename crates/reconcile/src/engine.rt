@@ -21,8 +21,8 @@ use std::marker::Model;
 /// A journal, and the state that what it has stored comes to. It is seen as where the journal stands, and the state.
 #[derive(Drop)]
 pub struct Engine {
-    journal: Journal,
-    core: Core,
+    pub(crate) journal: Journal,
+    pub(crate) core: Core,
 }
 
 impl Model for Engine {
@@ -65,6 +65,13 @@ impl Engine {
         ensures storable { IsStorable result.now }
     {
         &self.core
+    }
+
+    /// Forgets of at most so many addresses what no longer matters, as `Core::sweep` does. The state stays as it is.
+    pub fn sweep(&mut self, most: u64) -> u64
+        ensures { self.new ≡ self.old }
+    {
+        self.core.sweep(most)
     }
 
     /// Writes an input and takes its step, where the numbers of the state are not used up.
