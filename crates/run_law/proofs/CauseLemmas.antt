@@ -1,7 +1,7 @@
 -- Counts of faults, and causes, over several calls.
 use Rattle.std.proofs.Common.{ℕ, ◌≡◌, ◌≤◌, inl, inr, refl, sym, ◌∙◌, subst, arith}
 use Rattle.std.proofs.lemmas.Bool.{cases_lt}
-use Rattle.f2b_world.specs.Faults.{OfSink, OfConfiguration, OfPatterns, Rose}
+use Rattle.f2b_world.specs.Faults.{OfSink, OfDisk, OfConfiguration, OfPatterns, Rose}
 use Rattle.f2b_world.specs.Told.{Standing, Called}
 use Rattle.f2b_world.specs.declared.event.Event.{Event}
 use Rattle.filter_regex.specs.declared.error.BuildKind.TheVariants.{Syntax, TooBig}
@@ -33,7 +33,7 @@ cause_later old mid new WorkloadDone steady cause = cause
 cause_later old mid new Usage steady cause = cause
 cause_later old mid new ConfFault steady cause = rose_later _ _ _ (steady.counts OfConfiguration) cause
 cause_later old mid new (ConfRefused error) steady cause = cause
-cause_later old mid new DiskFault steady cause = tt
+cause_later old mid new DiskFault steady cause = rose_later _ _ _ (steady.counts OfDisk) cause
 cause_later old mid new (NotAJournal slot at) steady cause = tt
 cause_later old mid new (JournalFull need limit) steady cause = tt
 cause_later old mid new GateFault steady cause = tt
@@ -56,7 +56,7 @@ cause_by_then old mid new WorkloadDone before after cause = cause
 cause_by_then old mid new Usage before after cause = cause
 cause_by_then old mid new ConfFault before after cause = rose_by_then _ _ _ (before.counts OfConfiguration) (after.counts OfConfiguration) cause
 cause_by_then old mid new (ConfRefused error) before after cause = cause
-cause_by_then old mid new DiskFault before after cause = tt
+cause_by_then old mid new DiskFault before after cause = rose_by_then _ _ _ (before.counts OfDisk) (after.counts OfDisk) cause
 cause_by_then old mid new (NotAJournal slot at) before after cause = tt
 cause_by_then old mid new (JournalFull need limit) before after cause = tt
 cause_by_then old mid new GateFault before after cause = tt
@@ -112,6 +112,13 @@ spent_cause old new status (inl is) =
     subst P (sym is) tt
 spent_cause old new status (inr is) = unsaid_cause old new status is
 
-pub ruleset counting = (steady_refl, steady_on, steady_call, cause_later, unsaid_cause, spent_cause)
+-- so is that there is no room
+pub full_cause : (old new : Standing) (need limit : ℕ) (status : Status) → IsRefusedAs old new (JournalFull need limit) status → HasCause old new status
+full_cause old new need limit status (inl is) =
+    let P : Status → Type 0 = λ s. HasCause old new s in
+    subst P (sym is) tt
+full_cause old new need limit status (inr is) = unsaid_cause old new status is
+
+pub ruleset counting = (steady_refl, steady_on, steady_call, cause_later, unsaid_cause, spent_cause, full_cause)
 
 pub ruleset refused = (refused_said, refused_unsaid, refused_early)

@@ -7,10 +7,12 @@ pub mod Paths
 pub mod Changes
 pub mod Logs
 pub mod Children
+pub mod Loads
 pub mod Server
 pub mod Points
 pub mod Calls
 pub mod News
+pub mod Disk
 pub mod Turn
 pub mod Clock
 pub mod Looks
@@ -20,4 +22,5 @@ pub mod Pause
 pub mod Start
 pub mod Law
 pub mod Stages
+pub mod Stops
 pub mod Served
