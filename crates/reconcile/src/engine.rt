@@ -67,6 +67,13 @@ impl Engine {
         &self.core
     }
 
+    /// Forgets of at most so many addresses what no longer matters, as `Core::sweep` does. The state stays as it is.
+    pub fn sweep(&mut self, most: u64) -> u64
+        ensures { self.new ≡ self.old }
+    {
+        self.core.sweep(most)
+    }
+
     /// Writes an input and takes its step, where the numbers of the state are not used up.
     #[tactic(auto, using(crate::proofs::AnswerLemmas::taken_exits))]
     fn taken<D: Disk>(

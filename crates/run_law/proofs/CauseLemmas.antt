@@ -1,25 +1,32 @@
 -- Counts of faults, and causes, over several calls.
-use Rattle.std.proofs.Common.{ℕ, ◌≡◌, ◌≤◌, inl, inr, refl, sym, ◌∙◌, subst, arith}
+use Rattle.std.proofs.Common.{ℕ, ◌≡◌, ◌≤◌, List, [], ◌∷◌, inl, inr, refl, sym, ◌∙◌, subst, arith}
 use Rattle.std.proofs.lemmas.Bool.{cases_lt}
 use Rattle.f2b_world.specs.Faults.{OfSink, OfDisk, OfConfiguration, OfPatterns, Rose}
-use Rattle.f2b_world.specs.Told.{Standing, Called}
+use Rattle.f2b_world.specs.Told.{Called, History, IsHonest, Standing}
 use Rattle.f2b_world.specs.declared.event.Event.{Event}
+use Rattle.slot_writes.specs.declared.position.Position.{Position}
+use Rattle.ban_journal.specs.Places.{IsPlaced}
 use Rattle.filter_regex.specs.declared.error.BuildKind.TheVariants.{Syntax, TooBig}
 use Rattle.run_law.specs.Stages.{HasCause, IsRefusedAs, IsSteady, IsUnsaid}
 use Rattle.run_law.specs.declared.status.Status.{Status}
+use Rattle.run_law.proofs.LongLemmas.{longer_on, longer_refl, longer_trans, placed_on}
 use Rattle.run_law.specs.declared.status.Status.TheVariants.{Stopped, TurnsSpent, WorkloadDone, Usage, ConfFault, ConfRefused, DiskFault, NotAJournal, JournalFull, GateFault, SinkFault, ConfTooLarge, PatternRefused, NumbersSpent, NoMemory}
 
--- where nothing was called no count fell
+-- where nothing was called no count fell, and no slot got shorter
 pub steady_refl : (s : Standing) → IsSteady s s
-steady_refl s = record { counts = λ kind. omega arith }
+steady_refl s = record { counts = λ kind. omega arith; longer = longer_refl s.told }
 
 -- nor over two steady parts
 pub steady_on : (old mid new : Standing) → IsSteady old mid → IsSteady mid new → IsSteady old new
-steady_on old mid new p q = record { counts = λ kind. omega (arith, p.counts kind, q.counts kind) }
+steady_on old mid new p q = record { counts = λ kind. omega (arith, p.counts kind, q.counts kind); longer = longer_trans old.told mid.told new.told p.longer q.longer }
 
 -- nor over one call
 pub steady_call : (old new : Standing) (event : Event) → Called old event new → IsSteady old new
-steady_call old new event call = record { counts = call.counts.steady }
+steady_call old new event call = record { counts = call.counts.steady; longer = longer_on (λ (g : History) (es : List Event). (es ≡ event ∷ []) × IsHonest g event) old.told new.told call.adds }
+
+-- over a steady part a journal's places stay where they are
+pub steady_placed : (p : Position) (old new : Standing) → IsSteady old new → IsPlaced p old.told → IsPlaced p new.told
+steady_placed p old new steady is = placed_on p old.told new.told steady.longer is
 
 rose_later : (a b c : ℕ) → a ≤ b → Rose b c → Rose a c
 rose_later a b c le (inl lt) = inl (omega arith)
@@ -119,6 +126,6 @@ full_cause old new need limit status (inl is) =
     subst P (sym is) tt
 full_cause old new need limit status (inr is) = unsaid_cause old new status is
 
-pub ruleset counting = (steady_refl, steady_on, steady_call, cause_later, unsaid_cause, spent_cause, full_cause)
+pub ruleset counting = (steady_refl, steady_on, steady_call, steady_placed, cause_later, unsaid_cause, spent_cause, full_cause)
 
 pub ruleset refused = (refused_said, refused_unsaid, refused_early)

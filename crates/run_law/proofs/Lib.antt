@@ -19,6 +19,7 @@ pub mod StageLemmas
 pub mod SaidLemmas
 pub mod StartedLemmas
 pub mod PolledLemmas
+pub mod LongLemmas
 pub mod CauseLemmas
 pub mod TurnLemmas
 pub mod WordLemmas

@@ -4,6 +4,7 @@ use Rattle.f2b_base.specs.declared.outside.Tree.{Tree}
 use Rattle.f2b_world.specs.Faults.{Fault, OfSink, OfDisk, OfConfiguration, OfPatterns, Rose}
 use Rattle.f2b_world.specs.Reading.{reading}
 use Rattle.f2b_world.specs.Told.{Standing}
+use Rattle.ban_journal.specs.Places.{IsNoShorter}
 use Rattle.filter_regex.specs.declared.error.BuildKind.TheVariants.{Syntax, TooBig}
 use Rattle.filter_regex.specs.declared.error.PatternPlace.{PatternPlace}
 use Rattle.jail_conf.specs.Conf.{conf}
@@ -63,9 +64,10 @@ pub record Refuses (old new : Standing) (now : ℕ) (refusal status : Status) : 
 
 -- ---- causes
 
--- no count of faults fell
+-- no count of faults fell, and no slot got shorter
 pub record IsSteady (old new : Standing) : Type 0 where
   pub counts : (kind : Fault) → old.faults kind ≤ new.faults kind
+  pub longer : IsNoShorter old.told new.told
 
 -- a tree defines a jail with this pattern at this place, and its text has no reading
 pub record IsNoPattern (jail : List ℕ) (place : PatternPlace) : Type 0 where

@@ -41,7 +41,7 @@ use Rattle.run_steps.specs.declared.clocked.Clocked.{Clocked}
 
 -- ---- the first reading
 
-pub is_read : (reading : Reading) (kept : Clocked) → kept.core ≡ gathered empty_view → kept.now ≡ min reading.secs latest_reading → kept.word ≡ reading.word → IsRead reading kept
+pub is_read : (reading : Reading) (kept : Clocked) → kept.engine.core ≡ gathered empty_view → kept.now ≡ min reading.secs latest_reading → kept.word ≡ reading.word → IsRead reading kept
 is_read reading kept core now word =
     let same : gathered empty_view ≡ now_of empty_state = refl in
     record { core = core ∙ same; now = now; word = word }
@@ -107,12 +107,12 @@ first_run plan settings = standing plan (AtFirst settings)
 pub begun_rules : (a b : Standing) (plan : Plan) (settings : Settings) (kept : Clocked) → Begins a b plan settings kept → rules_in kept ≡ map rules_of settings.defs.jails
 begun_rules a b plan settings kept begun =
     let one = begun.runs (standing plan (AtFirst settings)) refl (record { point = refl; paid = refl }) in
-    rules_first settings.defs one.keeps.found kept one.server one.keeps.clocked.core one.keeps.jails
+    rules_first settings.defs one.keeps.found kept one.server one.keeps.clocked.engine.core one.keeps.jails
 
 pub begun_places : (a b : Standing) (plan : Plan) (settings : Settings) (kept : Clocked) → Begins a b plan settings kept → ArePlaces kept
 begun_places a b plan settings kept begun =
     let one = begun.runs (standing plan (AtFirst settings)) refl (record { point = refl; paid = refl }) in
-    places_first settings.defs one.keeps.found kept one.server one.keeps.clocked.core one.keeps.jails
+    places_first settings.defs one.keeps.found kept one.server one.keeps.clocked.engine.core one.keeps.jails
 
 pub ruleset beginning = (begins, begin_fails, begin_memory, walk_fails_on, begun_rules, begun_places)
 

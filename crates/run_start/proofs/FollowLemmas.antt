@@ -63,17 +63,17 @@ rules_of_jails [] = refl
 rules_of_jails (n ∷ ns) = ap (λ (rs : List Rules). rules_of n.definition ∷ rs) (rules_of_jails ns)
 
 -- the definitions of the view have the same rules
-pub rules_shown : (kept : Clocked) (view : View) (rules : List Rules) (ds : List JailDef) → rules ≡ rules_in kept → view ≡ spread kept.core → ds ≡ view.defs.jails → rules ≡ map rules_of ds
+pub rules_shown : (kept : Clocked) (view : View) (rules : List Rules) (ds : List JailDef) → rules ≡ rules_in kept → view ≡ spread kept.engine.core → ds ≡ view.defs.jails → rules ≡ map rules_of ds
 rules_shown kept view rules ds is shown same =
-    is ∙ rules_of_jails kept.core.jails.jails ∙ ap (λ (v : View). map rules_of v.defs.jails) (sym shown) ∙ ap (map rules_of) (sym same)
+    is ∙ rules_of_jails kept.engine.core.jails.jails ∙ ap (λ (v : View). map rules_of v.defs.jails) (sym shown) ∙ ap (map rules_of) (sym same)
 
 places_of_views : (ns : List JailNow) → AllOf HasPlaces ns → AreViewsOfPlaces (map jail_view ns)
 places_of_views [] all = tt
 places_of_views (n ∷ ns) all = (all.0, places_of_views ns all.1)
 
-pub places_shown : (kept : Clocked) (view : View) (vs : List JailView) → ArePlaces kept → view ≡ spread kept.core → vs ≡ view.jails → AreViewsOfPlaces vs
+pub places_shown : (kept : Clocked) (view : View) (vs : List JailView) → ArePlaces kept → view ≡ spread kept.engine.core → vs ≡ view.jails → AreViewsOfPlaces vs
 places_shown kept view vs all shown same =
-    subst AreViewsOfPlaces (ap (λ (v : View). v.jails) (sym shown) ∙ sym same) (places_of_views kept.core.jails.jails all)
+    subst AreViewsOfPlaces (ap (λ (v : View). v.jails) (sym shown) ∙ sym same) (places_of_views kept.engine.core.jails.jails all)
 
 all_awake : (js : List Jail) → AreAwake js → map awake (map (λ (j : JailNow). j.definition) (map jail_now js)) ≡ map log_jail js
 all_awake [] are = refl
@@ -85,12 +85,12 @@ all_begun [] = refl
 all_begun (j ∷ js) = ap (λ (ls : List Watching). map (log_begun j.definition.name) j.watches ++ ls) (all_begun js)
 
 -- the set of the view follows the logs of the jails
-pub follows_all : (kept : Clocked) (view : View) (first set : Logs) (ds : List JailDef) (vs : List JailView) → view ≡ spread kept.core → ds ≡ view.defs.jails → vs ≡ view.jails
+pub follows_all : (kept : Clocked) (view : View) (first set : Logs) (ds : List JailDef) (vs : List JailView) → view ≡ spread kept.engine.core → ds ≡ view.defs.jails → vs ≡ view.jails
     → IsSetOf first (map awake ds) [] → AddsLogs first set (flat_map logs_at vs) → FollowsAll kept set
 follows_all kept view first set ds vs shown defs_are views_are begins adds = record {
   sets = λ s keeps awake_are.
       let P : List LogJail → List Watching → Type 0 = λ js ws. IsSetOf set js ws in
-      let core : kept.core.jails.jails ≡ map jail_now (jails s) = ap (λ (n : Now). n.jails.jails) keeps.core in
+      let core : kept.engine.core.jails.jails ≡ map jail_now (jails s) = ap (λ (n : Now). n.jails.jails) keeps.core in
       let js : map awake ds ≡ log_jails s =
       ap (map awake) (defs_are ∙ ap (λ (v : View). v.defs.jails) shown ∙ ap (map (λ (j : JailNow). j.definition)) core) ∙ all_awake (jails s) awake_are in
       let ws : flat_map logs_at vs ≡ logs_of [] (jails s) =

@@ -107,8 +107,8 @@ places_with : (ds : List JailDef) → AllOf HasPlaces (map jail_now (map fresh d
 places_with [] = tt
 places_with (d ∷ ds) = (places_of d.watches, places_with ds)
 
-module _ (defs : Defs) (found : List Path) (kept : Clocked) (s : Server) (core : kept.core ≡ now_of s.state) (fresh_are : jails s ≡ map fresh (with_paths defs found).jails) where
-  jails_are : kept.core.jails.jails ≡ map jail_now (map fresh (map (with_watches found) defs.jails))
+module _ (defs : Defs) (found : List Path) (kept : Clocked) (s : Server) (core : kept.engine.core ≡ now_of s.state) (fresh_are : jails s ≡ map fresh (with_paths defs found).jails) where
+  jails_are : kept.engine.core.jails.jails ≡ map jail_now (map fresh (map (with_watches found) defs.jails))
   jails_are = ap (λ (n : Now). n.jails.jails) core ∙ ap (map jail_now) fresh_are
 
   pub rules_first : rules_in kept ≡ map rules_of defs.jails

@@ -15,7 +15,7 @@ use Rattle.run_steps.specs.declared.clocked.Clocked.{Clocked}
 
 -- what is searched by, jail by jail
 abbrev pub rules_in : Clocked → List Rules
-rules_in kept = map (λ (j : JailNow). rules_of j.definition) kept.core.jails.jails
+rules_in kept = map (λ (j : JailNow). rules_of j.definition) kept.engine.core.jails.jails
 
 -- what is kept of each of these logs is a place
 abbrev pub AreWatchesOfPlaces : List WatchView → Type 0
@@ -28,7 +28,7 @@ abbrev pub HasPlaces : JailNow → Type 0
 HasPlaces j = AreWatchesOfPlaces j.watches
 
 abbrev pub ArePlaces : Clocked → Type 0
-ArePlaces kept = AllOf HasPlaces kept.core.jails.jails
+ArePlaces kept = AllOf HasPlaces kept.engine.core.jails.jails
 
 -- the logs of no jail rest
 abbrev pub AreAwake : List Jail → Type 0

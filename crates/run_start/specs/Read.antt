@@ -11,7 +11,7 @@ use Rattle.run_steps.specs.declared.clocked.Clocked.{Clocked}
 
 -- what the code keeps of a server that has read the clock once
 pub record IsRead (reading : Reading) (kept : Clocked) : Type 0 where
-  pub core : kept.core ≡ now_of empty_state
+  pub core : kept.engine.core ≡ now_of empty_state
   pub now : kept.now ≡ moment_of reading
   pub word : kept.word ≡ reading.word
 

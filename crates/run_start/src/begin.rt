@@ -28,7 +28,7 @@ use run_steps::{Clocked, bring, ready_line};
 use std::alloc::Global;
 
 // What takes inputs at the first reading of the clock.
-#[tactic(auto, using(crate::proofs::BeginLemmas::reading, run_steps::proofs::NumberLemmas::first_numbered))]
+#[tactic(auto, using(crate::proofs::BeginLemmas::reading))]
 fn read(alloc: Global, reading: Reading) -> Clocked
     ensures { IsRead reading result }
 {

@@ -50,7 +50,7 @@ pub fn follow<'f>(
     ensures { IfOk result (FollowsAll clocked.entry.now) }
 {
     // By the state and not by the configuration: a start over what was stored begins its logs in the same way.
-    let view = clocked.core.view()?;
+    let view = clocked.engine.core().view()?;
     let mut set = LogSet::new(alloc, filters, view.defs.jails.as_slice())?;
     add_jails(alloc, &mut set, view.jails.as_slice())?;
     Ok(set)

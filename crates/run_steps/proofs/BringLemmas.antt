@@ -21,7 +21,7 @@ use Rattle.run_steps.specs.Keeping.{IsUnbrought, KeepsClocked, StepsTo, input_of
 use Rattle.run_steps.specs.declared.clocked.Clocked.{Clocked}
 
 -- numbers are used up in the code's state exactly where they are in the server's
-spent_is : (kept : Clocked) (s : Server) → KeepsClocked s kept → is_whole_spent moves_now books_now kept.core ≡ is_spent s
+spent_is : (kept : Clocked) (s : Server) → KeepsClocked s kept → is_whole_spent moves_now books_now kept.engine.core ≡ is_spent s
 spent_is kept s keeps = ap (is_whole_spent moves_now books_now) keeps.core
 
 module _ (before after : Clocked) (what : What) (tells : Told) (steps : StepsTo before what after tells) (is : IsFitWhat what) (early : before.now ≤ latest_reading) where
@@ -50,7 +50,7 @@ module _ (before after : Clocked) (what : What) (tells : Told) (steps : StepsTo 
       }
 
   -- an input was taken, and its lines were said
-  pub bring_done : (a b : Standing) (pre post : List (List ℕ)) → is_whole_spent moves_now books_now before.core ≡ false → Says a b (pre ++ lines_of after.now tells ++ post)
+  pub bring_done : (a b : Standing) (pre post : List (List ℕ)) → is_whole_spent moves_now books_now before.engine.core ≡ false → Says a b (pre ++ lines_of after.now tells ++ post)
       → Brings KeepsClocked a b (news_of pre (Some what) post) before after
   bring_done a b pre post live says = record {
     runs = λ r at next s saying is_at keeps.
@@ -59,7 +59,7 @@ module _ (before after : Clocked) (what : What) (tells : Told) (steps : StepsTo 
   }
 
   -- its lines could not be said
-  pub bring_unsaid : (a b : Standing) (pre post : List (List ℕ)) (status : Status) → is_whole_spent moves_now books_now before.core ≡ false
+  pub bring_unsaid : (a b : Standing) (pre post : List (List ℕ)) (status : Status) → is_whole_spent moves_now books_now before.engine.core ≡ false
       → SayFails a b (pre ++ lines_of after.now tells ++ post) status → BringFails KeepsClocked a b (news_of pre (Some what) post) before status
   bring_unsaid a b pre post status live fails = record {
     runs = λ r at next s saying is_at keeps.
@@ -68,7 +68,7 @@ module _ (before after : Clocked) (what : What) (tells : Told) (steps : StepsTo 
   }
 
 -- no number was left for the input
-pub bring_spent : (a b : Standing) (before : Clocked) (what : What) (pre post : List (List ℕ)) (status : Status) → is_whole_spent moves_now books_now before.core ≡ true
+pub bring_spent : (a b : Standing) (before : Clocked) (what : What) (pre post : List (List ℕ)) (status : Status) → is_whole_spent moves_now books_now before.engine.core ≡ true
     → Refuses a b before.now NumbersSpent status → BringFails KeepsClocked a b (news_of pre (Some what) post) before status
 bring_spent a b before what pre post status over refuses = record {
   runs = λ r at next s saying is_at keeps.
@@ -114,7 +114,7 @@ unsaid_unbrought before (Some what) a b NumbersSpent is = absurd is
 unsaid_unbrought before (Some what) a b NoMemory is = is
 
 -- no number was left
-pub spent_unbrought : (before : Clocked) (what : What) (a b : Standing) (status : Status) → is_whole_spent moves_now books_now before.core ≡ true → IsRefusedAs a b NumbersSpent status
+pub spent_unbrought : (before : Clocked) (what : What) (a b : Standing) (status : Status) → is_whole_spent moves_now books_now before.engine.core ≡ true → IsRefusedAs a b NumbersSpent status
     → IsUnbrought before (Some what) a b status
 spent_unbrought before what a b status over (inl is) =
     let P : Status → Type 0 = λ s. IsUnbrought before (Some what) a b s in

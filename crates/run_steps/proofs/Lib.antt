@@ -3,4 +3,3 @@ pub mod BringLemmas
 pub mod ConfigLemmas
 pub mod StartLemmas
 pub mod RunningLemmas
-pub mod NumberLemmas

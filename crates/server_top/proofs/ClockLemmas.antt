@@ -48,9 +48,9 @@ either_news false s = refl
 -- the law's news are a tick where the code finds one
 news_are : (kept : Clocked) (s : Server) → KeepsClocked s kept → tick_news s ≡ news_of [] (tick_of kept) [] s
 news_are kept s keeps =
-    let due : is_ban_due moves s.now s.state.jails ≡ is_ban_due moves_now kept.now kept.core.jails =
+    let due : is_ban_due moves s.now s.state.jails ≡ is_ban_due moves_now kept.now kept.engine.core.jails =
     due_now s.now s.state ∙ sym (ap₂ (λ at (n : Now). is_ban_due moves_now at n.jails) keeps.now keeps.core) in
-    ap (λ (b : Bool). cond b (only Tick) nothing) due ∙ either_news (is_ban_due moves_now kept.now kept.core.jails) s
+    ap (λ (b : Bool). cond b (only Tick) nothing) due ∙ either_news (is_ban_due moves_now kept.now kept.engine.core.jails) s
 
 -- a tick is taken beside the logs
 pub tick_beside : (a b : Standing) (kept : Running) (after : Clocked) → Brings KeepsClocked a b (news_of [] (Some Tick) []) kept.clocked after → Brings KeepsRunning a b (news_of [] (Some Tick) []) kept (clocked_as kept after)
@@ -63,7 +63,7 @@ module _ (kept : Running) where
   news_if : (what : Option What) → tick_of kept.clocked ≡ what → (s : Server) → KeepsRunning s kept → news_of [] (tick_of kept.clocked) [] s ≡ news_of [] what [] s
   news_if what is s keeps = ap (λ (o : Option What). news_of [] o [] s) is
 
-  module _ (due : is_ban_due moves_now kept.clocked.now kept.clocked.core.jails ≡ true) where
+  module _ (due : is_ban_due moves_now kept.clocked.now kept.clocked.engine.core.jails ≡ true) where
     pub due_ticks : tick_of kept.clocked ≡ Some Tick
     due_ticks = ap (λ (b : Bool). cond b (Some Tick) None) due
 
@@ -73,7 +73,7 @@ module _ (kept : Running) where
     pub due_fails : (a b : Standing) (status : Status) → BringFails KeepsRunning a b (news_of [] (Some Tick) []) kept status → BringFails KeepsRunning a b (news_of [] (tick_of kept.clocked) []) kept status
     due_fails a b status fails = fails_same KeepsRunning a b (news_of [] (tick_of kept.clocked) []) (news_of [] (Some Tick) []) kept status (news_if (Some Tick) due_ticks) fails
 
-  pub none_brings : (a : Standing) → is_ban_due moves_now kept.clocked.now kept.clocked.core.jails ≡ false → Brings KeepsRunning a a (news_of [] (tick_of kept.clocked) []) kept kept
+  pub none_brings : (a : Standing) → is_ban_due moves_now kept.clocked.now kept.clocked.engine.core.jails ≡ false → Brings KeepsRunning a a (news_of [] (tick_of kept.clocked) []) kept kept
   none_brings a none =
       brings_same KeepsRunning a a (news_of [] (tick_of kept.clocked) []) (news_of [] None []) kept kept (news_if None (ap (λ (b : Bool). cond b (Some Tick) None) none))
       (record { runs = λ r at next s saying is_at keeps. brings_told KeepsRunning a a (news_of [] None [] s) r at next s kept saying is_at refl (says_none a) keeps })

@@ -34,7 +34,7 @@ pause_moves a b before after some call clocked logs children left = record {
       let kept : Running = record { clocked = before.clocked; logs = before.logs; children = before.children; left = n } in
       let same : kept ≡ after = λ i. record { clocked = sym clocked i; logs = sym logs i; children = sym children i; left = sym left_is i } in
       let t : Server = record s { left = n } in
-      let keeps_next : KeepsRunning t kept = record { clocked = record { core = keeps.clocked.core; sound = keeps.clocked.sound; now = keeps.clocked.now; word = keeps.clocked.word }; logs = keeps.logs; children = keeps.children; left = refl } in
+      let keeps_next : KeepsRunning t kept = record { clocked = record { core = keeps.clocked.engine.core; sound = keeps.clocked.sound; now = keeps.clocked.now; word = keeps.clocked.word }; logs = keeps.logs; children = keeps.children; left = refl } in
       let P : Running → Type 0 = λ k. KeepsRunning t k in
       record {
         to = paused s r;

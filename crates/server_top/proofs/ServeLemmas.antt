@@ -81,7 +81,7 @@ running_first : (plan : Plan) (settings : Settings) (s : Server) (kept : Clocked
 running_first plan settings s kept logs t none keeps follows =
     let P : List Watching → Type 0 = λ old. IsSetOf logs (log_jails s) (logs_of old (jails s)) in
     record {
-      clocked = record { core = keeps.clocked.core; sound = keeps.clocked.sound; now = keeps.clocked.now; word = keeps.clocked.word };
+      clocked = record { core = keeps.clocked.engine.core; sound = keeps.clocked.sound; now = keeps.clocked.now; word = keeps.clocked.word };
       logs = subst P (sym keeps.logs) (follows.sets s keeps.clocked (are_awake plan settings s kept keeps));
       children = none ∙ sym keeps.children;
       left = sym keeps.left;

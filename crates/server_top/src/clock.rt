@@ -93,7 +93,7 @@ fn end_due<'f, W: World>(
     ensures steady { IsSteady (W.stands world.old) (W.stands world.new) }
     ensures left { IfOk result (λ after. after.left ≡ running.entry.left) }
 {
-    if running.clocked.core.ban_due(running.clocked.now) {
+    if running.clocked.engine.core().ban_due(running.clocked.now) {
         return tick(alloc, world, running);
     }
     Ok(running)

@@ -46,7 +46,7 @@ no_place now job (Some lane) o is none = absurd (let e : None ≡ Some (start_pl
 
 -- what is started for a job, by whether a check has passed for this try
 abbrev place_if : Running → Job → Bool → Place
-place_if kept job passed = start_place kept.clocked.now job (cond passed None (check_of kept.clocked.core.lanes.up job.id kept.clocked.core.lanes.jobs))
+place_if kept job passed = start_place kept.clocked.now job (cond passed None (check_of kept.clocked.engine.core.lanes.up job.id kept.clocked.engine.core.lanes.jobs))
 
 module _ (kept : Running) (job : Job) (passed : Bool) (passed_is : passed ≡ has_passed job.id kept.children) where
   -- a check has passed for this try
@@ -54,14 +54,14 @@ module _ (kept : Running) (job : Job) (passed : Bool) (passed_is : passed ≡ ha
   launch_passed p holds is = is ∙ ap (place_if kept job) (sym holds ∙ passed_is)
 
   module _ (no : passed ≡ false) (o : Option Launch)
-      (is : option_map place_of o ≡ option_map (λ (u : UpLane). start_place kept.clocked.now job (Some u)) (check_of kept.clocked.core.lanes.up job.id kept.clocked.core.lanes.jobs)) where
+      (is : option_map place_of o ≡ option_map (λ (u : UpLane). start_place kept.clocked.now job (Some u)) (check_of kept.clocked.engine.core.lanes.up job.id kept.clocked.engine.core.lanes.jobs)) where
     pub launch_checked : (l : Launch) → o ≡ Some l → place_of l ≡ place_for kept job
     launch_checked l some =
-        same_place kept.clocked.now job (check_of kept.clocked.core.lanes.up job.id kept.clocked.core.lanes.jobs) o l is some ∙ ap (place_if kept job) (sym no ∙ passed_is)
+        same_place kept.clocked.now job (check_of kept.clocked.engine.core.lanes.up job.id kept.clocked.engine.core.lanes.jobs) o l is some ∙ ap (place_if kept job) (sym no ∙ passed_is)
 
     pub launch_unchecked : (p : Place) → o ≡ None → p ≡ start_place kept.clocked.now job None → p ≡ place_for kept job
     launch_unchecked p none at =
-        at ∙ no_place kept.clocked.now job (check_of kept.clocked.core.lanes.up job.id kept.clocked.core.lanes.jobs) o is none ∙ ap (place_if kept job) (sym no ∙ passed_is)
+        at ∙ no_place kept.clocked.now job (check_of kept.clocked.engine.core.lanes.up job.id kept.clocked.engine.core.lanes.jobs) o is none ∙ ap (place_if kept job) (sym no ∙ passed_is)
 
 pub ruleset launching = (launch_passed, launch_checked, launch_unchecked)
 
@@ -69,7 +69,7 @@ pub ruleset launching = (launch_passed, launch_checked, launch_unchecked)
 
 -- the job that comes next, by whether there is room
 abbrev job_if : Running → Bool → Option Job
-job_if kept room = cond room (next_due kept.clocked.now (jobs_of kept.children.running) kept.clocked.core.lanes.jobs) None
+job_if kept room = cond room (next_due kept.clocked.now (jobs_of kept.children.running) kept.clocked.engine.core.lanes.jobs) None
 
 module _ (kept : Running) where
   -- there is no room
@@ -77,15 +77,15 @@ module _ (kept : Running) where
   next_full full = ap (λ (b : Bool). option_map (place_for kept) (job_if kept b)) (sym (le-ltb (length kept.children.running) most_children full))
 
   module _ (room : length kept.children.running < most_children) (jobs : List ℕ) (jobs_are : jobs ≡ jobs_of kept.children.running) where
-    due_is : next_job kept ≡ next_due kept.clocked.now jobs kept.clocked.core.lanes.jobs
+    due_is : next_job kept ≡ next_due kept.clocked.now jobs kept.clocked.engine.core.lanes.jobs
     due_is =
         ap (job_if kept) (lt-ltb (length kept.children.running) most_children room)
-        ∙ ap (λ (js : List ℕ). next_due kept.clocked.now js kept.clocked.core.lanes.jobs) (sym jobs_are)
+        ∙ ap (λ (js : List ℕ). next_due kept.clocked.now js kept.clocked.engine.core.lanes.jobs) (sym jobs_are)
 
-    pub next_found : (job : Job) (p : Place) → next_due kept.clocked.now jobs kept.clocked.core.lanes.jobs ≡ Some job → p ≡ place_for kept job → Some p ≡ next_start kept
+    pub next_found : (job : Job) (p : Place) → next_due kept.clocked.now jobs kept.clocked.engine.core.lanes.jobs ≡ Some job → p ≡ place_for kept job → Some p ≡ next_start kept
     next_found job p due is = ap (λ (q : Place). Some q) is ∙ ap (option_map (place_for kept)) (sym (due_is ∙ due))
 
-    pub next_none : next_due kept.clocked.now jobs kept.clocked.core.lanes.jobs ≡ None → None ≡ next_start kept
+    pub next_none : next_due kept.clocked.now jobs kept.clocked.engine.core.lanes.jobs ≡ None → None ≡ next_start kept
     next_none due = ap (option_map (place_for kept)) (sym (due_is ∙ due))
 
 pub ruleset nexts = (next_full, next_found, next_none)

@@ -41,7 +41,7 @@ keeps_children before after s t keeps clocked logs left children =
     let same : mid ≡ after = λ i. record { clocked = sym clocked i; logs = sym logs i; children = sym children i; left = sym left i } in
     let P : Running → Type 0 = λ k. KeepsRunning u k in
     subst P same (record {
-      clocked = record { core = keeps.clocked.core; sound = keeps.clocked.sound; now = keeps.clocked.now; word = keeps.clocked.word };
+      clocked = record { core = keeps.clocked.engine.core; sound = keeps.clocked.sound; now = keeps.clocked.now; word = keeps.clocked.word };
       logs = keeps.logs;
       children = refl;
       left = keeps.left;

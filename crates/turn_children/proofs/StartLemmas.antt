@@ -108,16 +108,16 @@ checks_of t up jobs id lane is =
 pub start_room : (kept : Running) (child : Child) (text : List ℕ) → next_start kept ≡ Some (AtStart child text) → length kept.children.running < most_children
 start_room kept child text is =
     let of = start_of kept child text is in
-    (due_of kept.clocked.now kept.children kept.clocked.core.lanes.jobs of.job of.next).0
+    (due_of kept.clocked.now kept.children kept.clocked.engine.core.lanes.jobs of.job of.next).0
 
 pub start_apart : (kept : Running) (child : Child) (text : List ℕ) → next_start kept ≡ Some (AtStart child text) → runs child.job kept.children ≡ false
 start_apart kept child text is =
     let of = start_of kept child text is in
-    let due = (due_of kept.clocked.now kept.children kept.clocked.core.lanes.jobs of.job of.next).1 in
-    let first = checked_first kept.children kept.clocked.core.lanes.up kept.clocked.core.lanes.jobs of.job.id in
+    let due = (due_of kept.clocked.now kept.children kept.clocked.engine.core.lanes.jobs of.job of.next).1 in
+    let first = checked_first kept.children kept.clocked.engine.core.lanes.up kept.clocked.engine.core.lanes.jobs of.job.id in
     let same = child_is kept.clocked.now of.job first child text of.place in
     let P : ℕ → Type 0 = λ id. has id (jobs_of kept.children.running) ≡ false in
-    subst P (sym same) (not_running kept.clocked.now (jobs_of kept.children.running) kept.clocked.core.lanes.jobs of.job due)
+    subst P (sym same) (not_running kept.clocked.now (jobs_of kept.children.running) kept.clocked.engine.core.lanes.jobs of.job due)
 
 -- ---- where a run stands that may start a child
 
@@ -136,8 +136,8 @@ same_next : (kept : Running) (s : Server) → KeepsRunning s kept → next_in s.
 same_next kept s keeps =
     let now = keeps.clocked.now in
     let children = keeps.children in
-    let up : kept.clocked.core.lanes.up ≡ lanes_up s = ap (λ (n : Now). n.lanes.up) keeps.clocked.core in
-    let js : kept.clocked.core.lanes.jobs ≡ jobs s = ap (λ (n : Now). n.lanes.jobs) keeps.clocked.core in
+    let up : kept.clocked.engine.core.lanes.up ≡ lanes_up s = ap (λ (n : Now). n.lanes.up) keeps.clocked.engine.core in
+    let js : kept.clocked.engine.core.lanes.jobs ≡ jobs s = ap (λ (n : Now). n.lanes.jobs) keeps.clocked.engine.core in
     sym (λ i. next_in (now i) (children i) (up i) (js i))
 
 pub starts_at : (kept : Running) (o : Option Place) → next_start kept ≡ o → (s : Server) → KeepsRunning s kept → to_starts s ≡ point_in o s
@@ -244,7 +244,7 @@ started_nearer before after launch next is =
     let one : length after.children.running ≡ length before.children.running + 1 =
     ap (λ (t : Children). length t.running) is.children ∙ length-placed launch.child before.children.running in
     let checks : checks_then after ≡ checks_then before = ap (λ (k : Clocked). checks_left (jobs_then k.now k.core)) is.clocked in
-    let tries : tries_left (jobs_then after.clocked.now after.clocked.core) ≡ tries_left (jobs_then before.clocked.now before.clocked.core) =
+    let tries : tries_left (jobs_then after.clocked.now after.clocked.engine.core) ≡ tries_left (jobs_then before.clocked.now before.clocked.engine.core) =
     ap (λ (k : Clocked). tries_left (jobs_then k.now k.core)) is.clocked in
     record {
       checks = omega (arith, checks);
@@ -253,7 +253,7 @@ started_nearer before after launch next is =
     }
 
 module _ (before mid after : Running) (launch : Launch) (next : next_start before ≡ Some (place_of launch)) (not_now : HasNotStarted launch.child before mid) (time : IsTimedAlike mid.clocked after.clocked)
-    (children : after.children ≡ mid.children) (by_id : AreById 0 before.clocked.core.lanes.jobs before.clocked.core.lanes.next_job) where
+    (children : after.children ≡ mid.children) (by_id : AreById 0 before.clocked.engine.core.lanes.jobs before.clocked.engine.core.lanes.next_job) where
   as_many : length after.children.running ≡ length before.children.running
   as_many = ap (λ (t : Children). length t.running) (children ∙ not_now.children)
 
@@ -267,22 +267,22 @@ module _ (before mid after : Running) (launch : Launch) (next : next_start befor
   of : IsStartOf before launch.child launch.text
   of = start_of before launch.child launch.text next
 
-  due : next_due before.clocked.now (jobs_of before.children.running) before.clocked.core.lanes.jobs ≡ Some of.job
-  due = (due_of before.clocked.now before.children before.clocked.core.lanes.jobs of.job of.next).1
+  due : next_due before.clocked.now (jobs_of before.children.running) before.clocked.engine.core.lanes.jobs ≡ Some of.job
+  due = (due_of before.clocked.now before.children before.clocked.engine.core.lanes.jobs of.job of.next).1
 
   command_nearer : Makes before.clocked (Some (end_of Command launch.child.job NotStarted)) after.clocked → ComesNearer before after false
   command_nearer makes =
-      let same : launch.child.job ≡ of.job.id = child_is before.clocked.now of.job (checked_first before.children before.clocked.core.lanes.up before.clocked.core.lanes.jobs of.job.id) launch.child launch.text of.place in
+      let same : launch.child.job ≡ of.job.id = child_is before.clocked.now of.job (checked_first before.children before.clocked.engine.core.lanes.up before.clocked.engine.core.lanes.jobs of.job.id) launch.child launch.text of.place in
       let P : ℕ → Type 0 = λ id. Makes before.clocked (Some (end_of Command id NotStarted)) after.clocked in
       let made = subst P same makes in
-      let law = starts_end.tried before.clocked.core before.clocked.now before.clocked.word (jobs_of before.children.running) of.job made.1 by_id due in
-      let stepped : Now = step_now before.clocked.core (unstarted before.clocked.now before.clocked.word of.job.id) in
-      let core : after.clocked.core ≡ stepped = made.0 in
+      let law = starts_end.tried before.clocked.engine.core before.clocked.now before.clocked.word (jobs_of before.children.running) of.job made.1 by_id due in
+      let stepped : Now = step_now before.clocked.engine.core (unstarted before.clocked.now before.clocked.word of.job.id) in
+      let core : after.clocked.engine.core ≡ stepped = made.0 in
       let checks : checks_then after ≡ checks_left (jobs_then before.clocked.now stepped) = λ i. checks_left (jobs_then (now_is i) (core i)) in
-      let tries : tries_left (jobs_then after.clocked.now after.clocked.core) ≡ tries_left (jobs_then before.clocked.now stepped) = λ i. tries_left (jobs_then (now_is i) (core i)) in
+      let tries : tries_left (jobs_then after.clocked.now after.clocked.engine.core) ≡ tries_left (jobs_then before.clocked.now stepped) = λ i. tries_left (jobs_then (now_is i) (core i)) in
       let Q : ℕ → Type 0 = λ n. n ≤ checks_then before in
-      let R : ℕ → Type 0 = λ n. n < tries_left (jobs_then before.clocked.now before.clocked.core) in
-      let fewer_tries : tries_left (jobs_then after.clocked.now after.clocked.core) < tries_left (jobs_then before.clocked.now before.clocked.core) = subst R (sym tries) law.1 in
+      let R : ℕ → Type 0 = λ n. n < tries_left (jobs_then before.clocked.now before.clocked.engine.core) in
+      let fewer_tries : tries_left (jobs_then after.clocked.now after.clocked.engine.core) < tries_left (jobs_then before.clocked.now before.clocked.engine.core) = subst R (sym tries) law.1 in
       record {
         checks = subst Q (sym checks) law.0;
         steps = λ no. omega (arith, as_many, fewer_tries);
@@ -291,15 +291,15 @@ module _ (before mid after : Running) (launch : Launch) (next : next_start befor
 
   check_nearer : Check ≡ launch.child.task → Makes before.clocked (Some (end_of Check launch.child.job NotStarted)) after.clocked → ComesNearer before after true
   check_nearer is makes =
-      let first = checked_first before.children before.clocked.core.lanes.up before.clocked.core.lanes.jobs of.job.id in
+      let first = checked_first before.children before.clocked.engine.core.lanes.up before.clocked.engine.core.lanes.jobs of.job.id in
       let same : launch.child.job ≡ of.job.id = child_is before.clocked.now of.job first launch.child launch.text of.place in
       let lane = lane_of_check before.clocked.now of.job first launch.child launch.text of.place (sym is) in
-      let checked : check_of before.clocked.core.lanes.up of.job.id before.clocked.core.lanes.jobs ≡ Some lane.0 = checks_of before.children before.clocked.core.lanes.up before.clocked.core.lanes.jobs of.job.id lane.0 lane.1 in
+      let checked : check_of before.clocked.engine.core.lanes.up of.job.id before.clocked.engine.core.lanes.jobs ≡ Some lane.0 = checks_of before.children before.clocked.engine.core.lanes.up before.clocked.engine.core.lanes.jobs of.job.id lane.0 lane.1 in
       let P : ℕ → Type 0 = λ id. Makes before.clocked (Some (end_of Check id NotStarted)) after.clocked in
       let made = subst P same makes in
-      let law = starts_end.checked before.clocked.core before.clocked.now before.clocked.word of.job.id lane.0 made.1 by_id checked in
-      let stepped : Now = step_now before.clocked.core (unchecked before.clocked.now before.clocked.word of.job.id) in
-      let core : after.clocked.core ≡ stepped = made.0 in
+      let law = starts_end.checked before.clocked.engine.core before.clocked.now before.clocked.word of.job.id lane.0 made.1 by_id checked in
+      let stepped : Now = step_now before.clocked.engine.core (unchecked before.clocked.now before.clocked.word of.job.id) in
+      let core : after.clocked.engine.core ≡ stepped = made.0 in
       let checks : checks_then after ≡ checks_left (jobs_then before.clocked.now stepped) = λ i. checks_left (jobs_then (now_is i) (core i)) in
       let Q : ℕ → Type 0 = λ n. n < checks_then before in
       let fewer : checks_then after < checks_then before = subst Q (sym checks) law in

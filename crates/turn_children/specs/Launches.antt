@@ -12,11 +12,11 @@ place_of l = AtStart l.child l.text
 
 -- the job that comes next
 abbrev pub next_job : Running → Option Job
-next_job kept = startable kept.clocked.now kept.children kept.clocked.core.lanes.jobs
+next_job kept = startable kept.clocked.now kept.children kept.clocked.engine.core.lanes.jobs
 
 -- what is started for a job
 abbrev pub place_for : Running → Job → Place
-place_for kept job = start_place kept.clocked.now job (checked_first kept.children kept.clocked.core.lanes.up kept.clocked.core.lanes.jobs job.id)
+place_for kept job = start_place kept.clocked.now job (checked_first kept.children kept.clocked.engine.core.lanes.up kept.clocked.engine.core.lanes.jobs job.id)
 
 -- what is started next
 abbrev pub next_start : Running → Option Place

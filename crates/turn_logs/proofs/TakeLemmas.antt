@@ -58,7 +58,7 @@ unfolding look_taken
 took_look before after i file t clocked children left moves takes = record {
   keeps = λ s l l_is keeps. record {
     clocked = (let P : Clocked → Type 0 = λ c. KeepsClocked (now_is i l file s) c in
-        subst P (sym clocked) (record { core = keeps.clocked.core; sound = keeps.clocked.sound; now = keeps.clocked.now; word = keeps.clocked.word }));
+        subst P (sym clocked) (record { core = keeps.clocked.engine.core; sound = keeps.clocked.sound; now = keeps.clocked.now; word = keeps.clocked.word }));
     logs = moves (log_jails s) s.logs l keeps.logs l_is;
     children = children ∙ keeps.children;
     left = left ∙ keeps.left;

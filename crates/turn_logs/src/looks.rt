@@ -45,7 +45,7 @@ pub fn look_at_logs<'f, W: World>(
     ensures steady { IsSteady (W.stands world.old) (W.stands world.new) }
     ensures left { IfOk result (λ after. after.left ≡ running.entry.left) }
 {
-    if running.clocked.core.is_stopping() {
+    if running.clocked.engine.core().is_stopping() {
         return Ok(running);
     }
     let running = look_at_each(alloc, world, running)?;
