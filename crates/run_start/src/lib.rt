@@ -17,6 +17,7 @@ mod logs;
 mod naming;
 mod path;
 mod paths;
+mod walk;
 
 pub use begin::first_turn;
 pub use logs::follow;
