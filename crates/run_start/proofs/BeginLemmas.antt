@@ -1,5 +1,6 @@
 -- From the first reading of the clock to the first turn.
 use Rattle.std.proofs.Common.{ℕ, ◌≡◌, ◌≢◌, ◌↔◌, ◌≤◌, ◌<◌, ◌^◌, max, Bool, true, false, IsTrue, List, [], ◌∷◌, Option, Some, None, map, refl, sym, ap, ◌∙◌, subst, arith}
+use Rattle.ban_journal.specs.Places.{IsPlaced}
 use Rattle.f2b_base.specs.Limits.{last_moment}
 use Rattle.f2b_base.specs.declared.input.What.{What}
 use Rattle.f2b_base.specs.declared.input.What.TheVariants.{Config}
@@ -32,6 +33,7 @@ use Rattle.run_law.specs.Start.{config_news, first_read, first_turn, naming_on, 
 use Rattle.run_law.specs.declared.plan.Plan.{Plan}
 use Rattle.run_law.specs.declared.status.Status.{Status}
 use Rattle.run_law.specs.declared.status.Status.TheVariants.{NoMemory}
+use Rattle.run_law.proofs.CauseLemmas.{steady_call, steady_placed}
 use Rattle.run_law.proofs.PointLemmas.{goes_trans, halts_after, halts_here, point_goes}
 use Rattle.run_start.specs.Configured.{Configures, HasJails, IsConfiguring, TellsInput, input_if}
 use Rattle.run_start.specs.First.{BeginFails, Begins, Begun}
@@ -43,7 +45,7 @@ use Rattle.run_start.proofs.JailLemmas.{awake_kept, definitions_kept, places_sto
 use Rattle.run_start.proofs.WalkLemmas.{walk_fails_on, walk_memory}
 use Rattle.run_steps.proofs.BringLemmas.{unbrought_cause}
 use Rattle.run_steps.proofs.ConfigLemmas.{change_told}
-use Rattle.run_steps.specs.Keeping.{IsStorableAt, KeepsClocked, Makes, TellsChange, input_of, news_of}
+use Rattle.run_steps.specs.Keeping.{IsPlacedIn, IsStorableAt, KeepsClocked, Makes, TellsChange, input_of, news_of}
 use Rattle.run_steps.specs.Starting.{KeepsLoaded}
 use Rattle.run_steps.specs.declared.clocked.Clocked.{Clocked}
 
@@ -73,6 +75,13 @@ module _ (a b : Standing) (settings : Settings) (engine : EngineNow) (reading : 
         children = refl;
         left = refl;
       }
+
+  -- the journal's places are where they were
+  pub placed_first : IsPlaced engine.journal a.told → IsPlacedIn b.told walk.clocked
+  placed_first placed =
+      let P : EngineNow → Type 0 = λ e. IsPlaced e.journal b.told in
+      let same : walk.clocked.engine ≡ engine = ap (λ (k : Clocked). k.engine) first.clocked ∙ read.engine in
+      subst P (sym same) (steady_placed engine.journal a b (steady_call a b (ClockRead reading) call) placed)
 
   -- the configuration was taken behind the last listing
   pub begins : (c d : Standing) (plan : Plan) (last : PathWalk) (after : Clocked) → WalksTo b c settings walk last → Configures c d settings last after → Begins a d plan settings engine after
@@ -114,7 +123,7 @@ begin_memory a b settings engine reading plan call = record {
 pub first_rules : (defs : Defs) (found : List Path) (kept : Clocked) → HasJails (with_paths defs found) kept.engine.core → rules_in kept ≡ map rules_of defs.jails
 first_rules defs found kept has = rules_has defs found kept.engine.core has
 
-pub ruleset beginning = (begins, begin_fails, begin_ends, begin_memory, walk_fails_on, first_rules)
+pub ruleset beginning = (placed_first, begins, begin_fails, begin_ends, begin_memory, walk_fails_on, first_rules)
 
 -- ---- the configuration
 
@@ -188,8 +197,8 @@ module _ (a b : Standing) (settings : Settings) (walk : PathWalk) (defs : Defs) 
   }
 
 -- what can be stored of the logs are places
-pub first_places : (kept : Clocked) → IsStorable kept.engine.core → ArePlaces kept
-first_places kept s = places_stored kept.engine.core s
+pub first_places : (kept : Clocked) (core : Now) → core ≡ kept.engine.core → IsStorable core → ArePlaces kept
+first_places kept core same s = places_stored kept.engine.core (subst IsStorable same s)
 
 pub ruleset configuring = (configures, config_fails, configured_has, first_places, walk_memory, unbrought_cause)
 

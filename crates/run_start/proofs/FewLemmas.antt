@@ -99,10 +99,16 @@ settled_few found (p ∷ ps) few =
     (λ plain. rw plain (settled_few (found ++ p ∷ []) ps (one_found found ps p few)))
 
 -- behind those that are settled
-pub few_settled : (found ps next left : List Path) → AreFew found ps → settled found ps ≡ record { found = next; left = left } → AreFew next left
+few_settled : (found ps next left : List Path) → AreFew found ps → settled found ps ≡ record { found = next; left = left } → AreFew next left
 few_settled found ps next left few is =
     let P : Naming → Type 0 = λ n. AreFew n.found n.left in
     subst P is (settled_few found ps few)
+
+-- the first were settled
+pub few_first : (none ps next left : List Path) → none ≡ [] → AreFew [] ps → settled none ps ≡ record { found = next; left = left } → AreFew next left
+few_first none ps next left is few rest =
+    let P : List Path → Type 0 = λ f. AreFew f ps in
+    few_settled none ps next left (subst P (sym is) few) rest
 
 few_expanded : (w : WatchDef) (names : List (List ℕ)) → length (expanded w names) ≤ 64
 unfolding expanded
@@ -139,4 +145,4 @@ few_named found whole ps listed next left p names few is more rest =
     let Q : List Path → Type 0 = λ f. AreFew f ps in
     few_settled listed ps next left (subst Q (sym more) (expanded_found found ps p names (subst P is few))) rest
 
-pub ruleset beginning_few = (few_settled)
+pub ruleset counting_paths = (few_paths, few_first, few_named)

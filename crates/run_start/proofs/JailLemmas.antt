@@ -14,10 +14,10 @@ use Rattle.f2b_model.specs.Lanes.{are_just, books_now, lanes_of}
 use Rattle.f2b_model.specs.Laws.{AreWatched}
 use Rattle.f2b_model.specs.Lists.{AllOf}
 use Rattle.f2b_model.specs.NowMoves.{dropped_now}
-use Rattle.f2b_model.specs.Nows.{jail_now}
+use Rattle.f2b_model.specs.Nows.{JailsNow, jail_now}
 use Rattle.f2b_model.specs.Sound.{AreFitDefs}
 use Rattle.f2b_model.specs.State.{Jail}
-use Rattle.f2b_model.specs.Steps.{configured, find_jail, is_spent, kept_or_fresh, moves_now}
+use Rattle.f2b_model.specs.Steps.{at_reading, configured, find_jail, is_spent, kept_or_fresh, moves_now}
 use Rattle.f2b_model.specs.Storable.{IsStorable, IsStorableJail, IsStorablePlace, IsStorableWatch}
 use Rattle.f2b_model.specs.Whole.{Now, is_whole_spent, step_now}
 use Rattle.f2b_model.specs.declared.jail_now.JailNow.{JailNow}
@@ -57,7 +57,8 @@ module _ (at purge : ℕ) (js : List JailNow) where
 pub step_has : (n : Now) (secs word : ℕ) (defs : Defs) → is_whole_spent moves_now books_now n ≡ false → HasJails defs (step_now n (record { secs = secs; word = word; what = Config defs }))
 step_has n secs word defs live =
     let jails_live : is_spent n.jails ≡ false = (or_parts (is_spent n.jails) (nat_lt (2 ^ 62) n.lanes.next_job) live).0 in
-    rw live (rw jails_live (record { definitions = definitions_of _ _ _ defs.jails; awake = busy_all _ _ _ defs.jails }))
+    let w : JailsNow = at_reading moves_now secs n.jails in
+    rw live (rw jails_live (record { definitions = definitions_of w.at defs.purge w.jails defs.jails; awake = busy_all w.at defs.purge w.jails defs.jails }))
 
 -- ---- a configuration that changes nothing
 

@@ -41,6 +41,7 @@ fn read(engine: Engine, reading: Reading) -> Clocked
 }
 
 // The walk at its beginning: the first paths stand for themselves.
+#[tactic(auto, using(crate::proofs::FewLemmas::counting_paths))]
 fn first_walk<'p>(
     alloc: Global,
     settings: &Settings,
@@ -128,7 +129,7 @@ fn configure<W: World + Disk>(
 
 /// Goes on from what was loaded: reads the clock for the first time, lists the directories of paths with wildcards, and takes the
 /// configuration as an input, where it changes something.
-#[tactic(auto, using(crate::proofs::BeginLemmas::beginning, run_law::proofs::CauseLemmas::counting))]
+#[tactic(auto, using(crate::proofs::BeginLemmas::beginning, crate::proofs::FewLemmas::counting_paths, run_law::proofs::CauseLemmas::counting))]
 pub fn first_turn<W: World + Directories + Disk>(
     alloc: Global,
     world: &mut W,

@@ -44,7 +44,7 @@ fn first_of(left: &[JailPath]) -> (&JailPath, &[JailPath])
 }
 
 // Says the lines of the last listing, and lists the directory of the first path that is left.
-#[tactic(auto, using(crate::proofs::WalkLemmas::naming, run_law::proofs::CauseLemmas::counting))]
+#[tactic(auto, using(crate::proofs::WalkLemmas::naming, crate::proofs::FewLemmas::counting_paths, run_law::proofs::CauseLemmas::counting))]
 fn name_next<'p, W: World + Directories + Disk>(
     alloc: Global,
     world: &mut W,
