@@ -2,6 +2,7 @@
 use Rattle.std.specs.Prelude.{ℕ, ◌≡◌, List, Result, Ok, Err}
 use Rattle.f2b_base.specs.declared.input.Input.{Input}
 use Rattle.f2b_model.specs.Lists.{AllOf}
+use Rattle.f2b_model.specs.Sound.{IsSound}
 use Rattle.f2b_model.specs.Storable.{IsStorableInput}
 use Rattle.f2b_model.specs.Whole.{Now, now_of, steps_now}
 use Rattle.f2b_world.specs.Told.{History}
@@ -12,12 +13,13 @@ use Rattle.slot_reader.specs.Reads.{content}
 use Rattle.reconcile.specs.Engines.{EngineNow}
 use Rattle.reconcile.specs.Loads.{Loaded, loaded, AreSound}
 
--- Its journal is where the slots have it, and where they are sound its core is that of the state that they come to.
+-- Its journal is where the slots have it, and where they are sound its core is that of the state that they come to, which is sound too.
 pub record IsLoadedEngine (limit : ℕ) (slots : ℕ → List ℕ) (e : EngineNow) : Type 0 where
   pub comes : Loaded
   pub loads : loaded limit slots ≡ Ok comes
   pub journal : e.journal ≡ comes.position
   pub core : AreSound slots → e.core ≡ now_of comes.state
+  pub sound : AreSound slots → IsSound comes.state
 
 -- an engine was loaded, or this slot is no journal, at that place
 abbrev pub IsEngineLoaded : ℕ → (ℕ → List ℕ) → Result EngineNow LoadError → Type 0

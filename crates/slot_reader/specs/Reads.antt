@@ -5,8 +5,9 @@ use Rattle.f2b_world.specs.declared.answer.Len.TheVariants.{Bytes as LenBytes, F
 use Rattle.f2b_world.specs.declared.answer.Piece.TheVariants.{Bytes as PieceBytes, Failed as PieceFailed}
 use Rattle.f2b_world.specs.declared.event.Event.{Event}
 use Rattle.f2b_world.specs.declared.event.Event.TheVariants.{DiskLen, DiskRead}
+use Rattle.f2b_world.specs.Bounds.{IsBounded}
 use Rattle.f2b_world.specs.Faults.{Fault as Kind, OfDisk, Rose}
-use Rattle.f2b_world.specs.Told.{History, Standing, Adds, Leaves, slot_of}
+use Rattle.f2b_world.specs.Told.{History, Standing, Adds, IsHonest, Leaves, grown, slot_of}
 use Rattle.slot_reader.specs.declared.fault.Fault.{Fault}
 use Rattle.slot_reader.specs.declared.fault.Fault.TheVariants.{Disk}
 
@@ -43,6 +44,11 @@ abbrev pub AreReads : Bool → List Event → Type 0
 AreReads false es = AreDone es
 AreReads true es = AreBroken es
 
+-- the answer of each is true of what was before it, and its numbers and bytes fit their types
+abbrev pub AreTrue : History → List Event → Type 0
+AreTrue g [] = Unit {0}
+AreTrue g (event ∷ events) = IsHonest g event × IsBounded event × AreTrue (grown g (event ∷ [])) events
+
 -- whether a fault of the disk was counted
 abbrev pub CountsFault : Bool → Standing → Standing → Type 0
 CountsFault false old new = new.faults OfDisk ≡ old.faults OfDisk
@@ -51,6 +57,7 @@ CountsFault true old new = Rose (old.faults OfDisk) (new.faults OfDisk)
 -- The disk was read, up to a call that failed or to the end, and nothing but that was done; where one failed it was counted.
 pub record OnlyReads (failed : Bool) (old new : Standing) : Type 0 where
   pub events : Adds old.told new.told (λ g es. AreReads failed es)
+  pub answers : Adds old.told new.told AreTrue
   pub leaves : Leaves old new
   pub steady : (kind : Kind) → old.faults kind ≤ new.faults kind
   pub still : (kind : Kind) → kind ≢ OfDisk → new.faults kind ≡ old.faults kind
