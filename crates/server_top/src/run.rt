@@ -105,6 +105,7 @@ fn serve<W: World + Directories + Children + Store + Disk>(
     ensures ok { OnOk result (PlanHalts (W.stands world.old) (W.stands world.new) plan.now AllTurns) }
     ensures err { IfErr result (PlanHalts (W.stands world.old) (W.stands world.new) plan.now) }
     ensures cause { IfErr result (HasCause (W.stands world.old) (W.stands world.new)) }
+    ensures steady { IsSteady (W.stands world.old) (W.stands world.new) }
 {
     // The logs borrow the filters, which so stand here until the run is over.
     let (filters, clocked) = prepare(alloc, world, plan)?;
