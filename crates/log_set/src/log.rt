@@ -1,5 +1,6 @@
 //! One log, and what a look brings of it.
 ghost use Rattle.std.specs.Prelude.{◌≡◌, IfOk, OnOk};
+ghost use Rattle.f2b_model.specs.Storable.{IsJailName};
 ghost use Rattle.log_set.specs.Places.{looked_of, moved_to, same_place};
 
 use f2b_base::{FileLook, NoMemory, Place, Text};
@@ -12,6 +13,7 @@ pub struct Log {
     pub jail: Text,
     pub path: Text,
     pub follower: Follower,
+    ghost named: { IsJailName jail },
 }
 
 /// What a look brought of a log.
