@@ -1,7 +1,7 @@
 -- From the first reading of the clock to the first turn.
-use Rattle.std.proofs.Common.{ℕ, ◌≡◌, ◌≢◌, ◌↔◌, ◌≤◌, ◌<◌, ◌^◌, max, Bool, true, false, IsTrue, List, [], ◌∷◌, Option, Some, None, map, refl, sym, ap, ◌∙◌, subst, arith}
+use Rattle.std.proofs.Common.{ℕ, ◌≡◌, ◌≢◌, ◌↔◌, ◌≤◌, ◌<◌, ◌^◌, max, min, Bool, true, false, IsTrue, List, [], ◌∷◌, Option, Some, None, map, refl, sym, ap, ◌∙◌, subst, arith}
 use Rattle.ban_journal.specs.Places.{IsPlaced}
-use Rattle.f2b_base.specs.Limits.{last_moment}
+use Rattle.f2b_base.specs.Limits.{last_moment, latest_reading}
 use Rattle.f2b_base.specs.declared.input.What.{What}
 use Rattle.f2b_base.specs.declared.input.What.TheVariants.{Config}
 use Rattle.f2b_base.specs.declared.jail.Defs.{Defs}
@@ -50,6 +50,20 @@ use Rattle.run_steps.specs.Starting.{KeepsLoaded}
 use Rattle.run_steps.specs.declared.clocked.Clocked.{Clocked}
 
 -- ---- the first reading
+
+pub is_read : (engine : EngineNow) (reading : Reading) (kept : Clocked) (core : Now) (at : ℕ) → core ≡ engine.core → at ≡ core.jails.at → kept.engine ≡ engine
+    → kept.now ≡ max at (min reading.secs latest_reading) → kept.word ≡ reading.word → IsRead engine reading kept
+is_read engine reading kept core at same moment own now word = record {
+  engine = own;
+  now = now ∙ ap (λ (n : ℕ). max n (min reading.secs latest_reading)) (moment ∙ ap (λ (n : Now). n.jails.at) same);
+  word = word;
+}
+
+-- no moment is later than the last one
+pub is_timely : (core : Now) (at secs : ℕ) → IsStorable core → at ≡ core.jails.at → max at (min secs latest_reading) ≤ last_moment
+is_timely core at secs storable moment = (let early : core.jails.at ≤ last_moment = storable.at in omega (arith, early, moment))
+
+pub ruleset reading = (is_read, is_timely)
 
 module _ (a b : Standing) (settings : Settings) (engine : EngineNow) (reading : Reading) (kept : Clocked) (walk : PathWalk)
     (call : Called a (ClockRead reading) b) (read : IsRead engine reading kept) (first : IsFirstWalk settings kept walk) where
@@ -131,13 +145,18 @@ config_news_is : (changes : Bool) (before : List (List ℕ)) (defs : Defs) (behi
 config_news_is true before defs behind = refl
 config_news_is false before defs behind = refl
 
--- behind it the jails are its own
-pub configured_has : (kept after : Clocked) (defs : Defs) (what : Option What) → IsConfiguring defs kept.engine.core what → Makes kept what after → HasJails defs after.engine.core
-configured_has kept after defs None has makes = subst (HasJails defs) (sym makes) has
-configured_has kept after defs (Some what) is makes =
+has_step : (kept after : Clocked) (defs : Defs) (what : Option What) → IsConfiguring defs kept.engine.core what → Makes kept what after → HasJails defs after.engine.core
+has_step kept after defs None has makes = subst (HasJails defs) (sym makes) has
+has_step kept after defs (Some what) is makes =
     let P : What → Type 0 = λ w. after.engine.core ≡ step_now kept.engine.core (input_of kept w) in
     let core : after.engine.core ≡ step_now kept.engine.core (input_of kept (Config defs)) = subst P is makes.0 in
     subst (HasJails defs) (sym core) (step_has kept.engine.core kept.now kept.word defs makes.1)
+
+-- behind it the jails are its own
+pub configured_has : (kept after : Clocked) (defs whole : Defs) (what : Option What) → defs ≡ whole → IsConfiguring defs kept.engine.core what → Makes kept what after → HasJails whole after.engine.core
+configured_has kept after defs whole what is configuring makes =
+    let P : Defs → Type 0 = λ ds. HasJails ds after.engine.core in
+    subst P is (has_step kept after defs what configuring makes)
 
 -- it changes nothing else that is kept
 pub record StaysBeside (s t : Server) : Type 0 where
@@ -164,9 +183,11 @@ module _ (a b : Standing) (settings : Settings) (walk : PathWalk) (defs : Defs) 
       ap (λ (left : List Path). let n : Naming = record { found = walk.found; left = left } in to_names walk.before settings n left s here) none
       ∙ ap (λ (n : News). brings n first_turn s here) (news_is s keeps)
 
-  pub configures : (after : Clocked) → Brings KeepsClocked a b (news_of walk.before what behind) walk.clocked after → HasJails defs after.engine.core → Configures a b settings walk after
-  configures after brought has = record {
+  pub configures : (after : Clocked) → Brings KeepsClocked a b (news_of walk.before what behind) walk.clocked after → IsConfiguring defs walk.clocked.engine.core what → Makes walk.clocked what after
+      → Configures a b settings walk after
+  configures after brought configuring makes = record {
     runs = λ plan here s still keeps.
+        let has : HasJails defs after.engine.core = has_step walk.clocked after defs what configuring makes in
         let P : Run → Type 0 = λ r. Begun a b plan settings r after in
         let t = server_after what s in
         let one = brought.runs here (λ u. here.point) first_turn s (λ u. tt) (record { point = refl; still = still }) keeps.clocked in

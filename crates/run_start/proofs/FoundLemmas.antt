@@ -1,5 +1,5 @@
 -- The configuration with the paths that were found can be stored as the configuration can.
-use Rattle.std.proofs.Common.{ℕ, ◌≡◌, ◌+◌, ◌<◌, ◌≤◌, ◌++◌, ◌||◌, not, Bool, true, false, cond, List, [], ◌∷◌, length, take, get_or, map, sum, refl, sym, ap, subst, ◌∙◌, append-nil, arith}
+use Rattle.std.proofs.Common.{ℕ, ◌≡◌, ◌+◌, ◌<◌, ◌≤◌, ◌++◌, ◌||◌, not, Bool, true, false, cond, List, [], ◌∷◌, length, take, drop, get_or, map, sum, refl, sym, ap, subst, ◌∙◌, append-nil, arith}
 use Rattle.std.specs.Prelude.{bytes_eq}
 use Rattle.std.specs.List.{list_any}
 use Rattle.std.specs.Str.{IsUtf8}
@@ -14,6 +14,7 @@ use Rattle.run_law.specs.Paths.{Path, once_each, with_paths}
 use Rattle.run_start.specs.Few.{AreFew, watches_at}
 use Rattle.run_start.specs.Found.{AreTexts, found_next, is_among, with_watches}
 use Rattle.run_start.proofs.FewLemmas.{watches_append}
+use Rattle.run_start.proofs.PathLemmas.{front_is}
 
 -- ---- one path more
 
@@ -100,6 +101,17 @@ once_fewer seen (w ∷ ws) =
     (λ is. rw is (let more = once_fewer seen ws in omega (arith, more)))
     (λ no. rw no (let more = once_fewer (w ∷ seen) ws in omega (arith, more)))
 
+-- ---- texts
+
+-- one path more is a text
+pub texts_on : (ps : List Path) (i : ℕ) (p : Path) (w : WatchDef) → i < length ps → p ≡ get_or ps i p → w ≡ p.watch → IsUtf8 w.path → (AreTexts (drop i ps) → AreTexts ps)
+    → AreTexts (drop (i + 1) ps) → AreTexts ps
+texts_on ps i p w below is same text before rest =
+    let P : WatchDef → Type 0 = λ v. IsUtf8 v.path in
+    before (subst AreTexts (sym (front_is ps i p below is)) (subst P same text, rest))
+
+pub ruleset seeing = (texts_on)
+
 -- ---- what can be stored
 
 -- the paths of a jail are texts
@@ -118,8 +130,8 @@ module _ (found : List Path) (texts : AreTexts found) (few : AreFew found []) wh
         name = s.name;
         watches = once_all (λ (w : WatchDef). IsUtf8 w.path) [] own (texts_at d.name found texts);
         logs = (let most = few.each d.name in
-        let fewer = once_fewer [] own in
-        omega (arith, most, fewer));
+            let fewer = once_fewer [] own in
+            omega (arith, most, fewer));
         paths = once_distinct [] own;
         zone = s.zone;
         date = s.date;
@@ -158,8 +170,8 @@ module _ (found : List Path) (texts : AreTexts found) (few : AreFew found []) wh
         jails = all_stored defs.jails s.jails;
         names = subst P (sym (names_with defs.jails)) s.names;
         most = (let same = length-map defs.jails (with_watches found) in
-        let few_jails = s.most in
-        omega (arith, same, few_jails));
+            let few_jails = s.most in
+            omega (arith, same, few_jails));
         patterns = subst (λ (ns : List ℕ). sum ns ≤ 512) (sym (patterns_with defs.jails)) s.patterns;
       }
 

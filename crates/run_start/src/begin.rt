@@ -29,6 +29,7 @@ use run_steps::{Clocked, bring, ready_line};
 use std::alloc::Global;
 
 // What takes inputs at the first reading of the clock: now never goes back, over a stop neither.
+#[tactic(auto, using(crate::proofs::BeginLemmas::reading))]
 fn read(engine: Engine, reading: Reading) -> Clocked
     ensures { IsRead engine reading result }
 {
@@ -72,6 +73,8 @@ fn input(clocked: &Clocked, defs: Defs) -> Option<What>
     ensures jails { IsConfiguring defs clocked.entry.now.engine.core result }
     ensures storable { IfSome result (IsStorableAt clocked.entry.now) }
 {
+    // Both are within their bounds by their types, and a contract is told so where they are read.
+    let (_now, _word) = (clocked.now, clocked.word);
     if clocked.engine.core().config_changes(&defs) {
         return Some(What::Config { defs });
     }

@@ -62,6 +62,7 @@ fn jails_with(
 }
 
 // Looks at each path, which is UTF-8 by its type: nothing else is done.
+#[tactic(auto, using(crate::proofs::FoundLemmas::seeing))]
 fn see_paths(paths: &[JailPath])
     ensures { AreTexts paths.now }
 {
