@@ -16,7 +16,7 @@ use Rattle.run_law.specs.Disk.{IsLoading, broken}
 use Rattle.run_law.specs.Law.{Free, Goes, MayCome, feed}
 use Rattle.run_law.specs.Points.{Run}
 use Rattle.run_law.specs.Stages.{IsSteady}
-use Rattle.run_law.proofs.LongLemmas.{longer_on}
+use Rattle.run_law.proofs.LongLemmas.{goes_on}
 use Rattle.run_steps.specs.Starting.{LeavesSlots}
 use Rattle.slot_reader.specs.Reads.{AreBroken, AreDone, AreReads, AreTrue, IsDone, IsFailed, OnlyReads}
 use Rattle.slot_reader.proofs.AnswerLemmas.{true_split}
@@ -123,4 +123,4 @@ pub reads_leave : (a b : Standing) → OnlyReads false a b → LeavesSlots a b
 reads_leave a b reads = adds_weaker (λ g es. AreReads false es) (λ g es. AllOf ChangesNoSlot es) a.told b.told reads.events (λ g es done. all_still es done)
 
 pub reads_steady : (failed : Bool) (a b : Standing) → OnlyReads failed a b → IsSteady a b
-reads_steady failed a b reads = record { counts = reads.steady; longer = longer_on AreTrue a.told b.told reads.answers }
+reads_steady failed a b reads = record { counts = reads.steady; history = goes_on AreTrue a.told b.told reads.answers }

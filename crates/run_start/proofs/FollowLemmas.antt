@@ -16,6 +16,7 @@ use Rattle.log_set.specs.Logs.{AddsLog, IsSetOf, LogJail, Logs, Watching, awake}
 use Rattle.run_law.specs.Logs.{log_begun, log_jail, logs_begun, logs_of}
 use Rattle.run_law.specs.Server.{jails, log_jails}
 use Rattle.run_start.specs.Followed.{AddsLogs, AreAwake, ArePlaces, AreViewsOfPlaces, AreWatchesOfPlaces, FollowsAll, HasPlaces, logs_at, rules_in}
+use Rattle.run_start.proofs.JailLemmas.{rules_of_jails}
 use Rattle.run_steps.specs.declared.clocked.Clocked.{Clocked}
 use Rattle.run_steps.proofs.ToldLemmas.{flat_take_more, map_take_more}
 
@@ -57,10 +58,6 @@ adds_jail a b c vs i v before more below is =
 pub ruleset adding = (place_at, places_at, adds_none, adds_log, adds_jail)
 
 -- ---- all logs
-
-rules_of_jails : (ns : List JailNow) → map (λ (j : JailNow). rules_of j.definition) ns ≡ map rules_of (map (λ (j : JailNow). j.definition) ns)
-rules_of_jails [] = refl
-rules_of_jails (n ∷ ns) = ap (λ (rs : List Rules). rules_of n.definition ∷ rs) (rules_of_jails ns)
 
 -- the definitions of the view have the same rules
 pub rules_shown : (kept : Clocked) (view : View) (rules : List Rules) (ds : List JailDef) → rules ≡ rules_in kept → view ≡ spread kept.engine.core → ds ≡ view.defs.jails → rules ≡ map rules_of ds

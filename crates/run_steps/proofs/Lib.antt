@@ -1,4 +1,5 @@
 pub mod ToldLemmas
+pub mod WriteLemmas
 pub mod BringLemmas
 pub mod ConfigLemmas
 pub mod StartLemmas

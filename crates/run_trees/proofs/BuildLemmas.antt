@@ -34,7 +34,7 @@ use Rattle.run_law.specs.declared.status.Status.{Status}
 use Rattle.run_law.specs.declared.status.Status.TheVariants.{PatternRefused, NoMemory}
 use Rattle.run_law.proofs.CauseLemmas.{refused_cause}
 use Rattle.run_law.proofs.DiskLemmas.{may_beside, next_beside}
-use Rattle.run_law.proofs.LongLemmas.{longer_on}
+use Rattle.run_law.proofs.LongLemmas.{goes_on}
 use Rattle.run_law.proofs.PointLemmas.{halts_after, halts_here, next_at}
 use Rattle.run_steps.specs.Starting.{LeavesSlots}
 use Rattle.run_trees.specs.Building.{BuildFails, Builds, IsCaused}
@@ -226,7 +226,7 @@ jail_still old new d rules builds =
 pub jail_steady : (old new : Standing) (d : JailDef) (outcome : Result Rules PatternError) → filter.Builds (rules_of d) outcome old new → IsSteady old new
 jail_steady old new d outcome builds = record {
   counts = builds.steady;
-  longer = longer_on (λ (g : History) (es : List Event). AreCalls (rules_of d) outcome es) old.told new.told builds.told;
+  history = goes_on (λ (g : History) (es : List Event). AreCalls (rules_of d) outcome es) old.told new.told builds.told;
 }
 
 -- ---- causes

@@ -14,6 +14,7 @@ use Rattle.f2b_model.specs.declared.jail_now.JailNow.{JailNow}
 use Rattle.f2b_world.specs.Told.{Standing, Called}
 use Rattle.f2b_world.specs.declared.event.Event.TheVariants.{Clock}
 use Rattle.log_set.specs.Logs.{IsSetOf, Logs}
+use Rattle.reconcile.specs.Engines.{EngineNow}
 use Rattle.run_law.specs.Clock.{tick_news}
 use Rattle.run_law.specs.Law.{Goes}
 use Rattle.run_law.specs.News.{brings, nothing, only}
@@ -85,8 +86,9 @@ pub ruleset ending = (due_ticks, due_brings, due_fails, none_brings)
 -- the code's part of a server at a reading
 read_keeps : (before mid : Clocked) (answer : Reading) (s : Server) → ReadsAt before answer mid → KeepsClocked s before → KeepsClocked (read_at answer s) mid
 read_keeps before mid answer s reads keeps = record {
-  core = reads.core ∙ keeps.core;
+  core = ap (λ (e : EngineNow). e.core) reads.engine ∙ keeps.core;
   sound = keeps.sound;
+  journal = ap (λ (e : EngineNow). e.journal) reads.engine ∙ keeps.journal;
   now = reads.now ∙ ap (λ n. max n (min answer.secs latest_reading)) keeps.now;
   word = reads.word;
 }

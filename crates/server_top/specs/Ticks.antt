@@ -18,7 +18,7 @@ at_clock s = AtTurn AtClock s
 
 -- now never goes back, and a reading above the latest counts as it
 pub record ReadsAt (before : Clocked) (answer : Reading) (after : Clocked) : Type 0 where
-  pub core : after.engine.core ≡ before.engine.core
+  pub engine : after.engine ≡ before.engine
   pub now : after.now ≡ max before.now (min answer.secs latest_reading)
   pub word : after.word ≡ answer.word
 
