@@ -1,5 +1,6 @@
 -- The slots of a run are named, and what they hold is loaded, or the run ends.
-use Rattle.std.proofs.Common.{ℕ, ◌≡◌, Some, Ok, Result, refl, sym, ap, ◌∙◌, subst}
+use Rattle.std.proofs.Common.{ℕ, ◌≡◌, Some, Result, Ok, Err, IfOk, refl, sym, ap, ◌∙◌, subst}
+use Rattle.std.specs.Prelude.{IfErr}
 use Rattle.f2b_world.specs.Told.{Called, History, Standing}
 use Rattle.f2b_world.specs.declared.answer.StoreAnswer.TheVariants.{Kept}
 use Rattle.f2b_world.specs.declared.event.Event.{Event}
@@ -10,11 +11,12 @@ use Rattle.reconcile.specs.Loads.{AreSound, Loaded, loaded}
 use Rattle.run_law.specs.Law.{Goes}
 use Rattle.run_law.specs.News.{goes_to}
 use Rattle.run_law.specs.Points.{AtFirst, AtStore, Run}
-use Rattle.run_law.specs.Stages.{IsAt}
+use Rattle.run_law.specs.Stages.{HasCause, IsAt}
 use Rattle.run_law.specs.Start.{loads, store_named}
 use Rattle.run_law.specs.declared.plan.Plan.{Plan}
 use Rattle.run_law.specs.declared.status.Status.{Status}
 use Rattle.run_law.specs.declared.status.Status.TheVariants.{NoMemory}
+use Rattle.run_law.proofs.CauseLemmas.{cause_later, steady_call}
 use Rattle.run_law.proofs.PointLemmas.{goes_trans, halts_after, halts_here, point_goes}
 use Rattle.run_steps.proofs.StartLemmas.{holds_on, leaves_call}
 use Rattle.run_load.specs.Loading.{IsUnloaded, LoadFails, Loads, LoadsTo, ReadFails, ReadsTo}
@@ -55,13 +57,22 @@ module _ (a b : Standing) (plan : Plan) (settings : Settings) (call : Called a (
           keeps = record { core = own.core sound_there; sound = own.sound sound_there; journal = own.journal };
         }
 
-    pub loads_all : (engine : EngineNow) → ReadsTo b c plan.limit engine → LoadsTo a c plan settings engine
-    loads_all engine read = record { runs = λ r at is sound h told. named_loads engine read r at is sound h told }
+    -- what is read of them is loaded
+    pub loads_all : (result : Result EngineNow Status) → IfOk result (ReadsTo b c plan.limit) → IfOk result (LoadsTo a c plan settings)
+    loads_all (Ok engine) read = record { runs = λ r at is sound h told. named_loads engine read r at is sound h told }
+    loads_all (Err status) read = tt
 
-    pub load_fails : (status : Status) → ReadFails b c plan status → LoadFails a c plan settings status
-    load_fails status fails = record {
+    -- where they are not read the run ends
+    pub load_fails : (result : Result EngineNow Status) → IfErr result (ReadFails b c plan) → IfErr result (LoadFails a c plan settings)
+    load_fails (Ok engine) fails = tt
+    load_fails (Err status) fails = record {
       runs = λ r at is. halts_after a.told b.told c.told r (store_named settings r) status (named_goes r at) (fails.runs settings r at.still (named_holds r is));
     }
+
+    -- for the same cause
+    pub load_caused : (result : Result EngineNow Status) → IfErr result (HasCause b c) → IfErr result (HasCause a c)
+    load_caused (Ok engine) cause = tt
+    load_caused (Err status) cause = cause_later a b c status (steady_call a b event call) cause
 
 -- memory ran out before they were named
 pub load_unnamed : (a b : Standing) (plan : Plan) (settings : Settings) → b ≡ a → LoadFails a b plan settings NoMemory
@@ -69,4 +80,4 @@ load_unnamed a b plan settings same =
     let P : Standing → Type 0 = λ s. LoadFails a s plan settings NoMemory in
     subst P (sym same) (record { runs = λ r at is. halts_here a.told r })
 
-pub ruleset naming = (loads_all, load_fails, load_unnamed)
+pub ruleset naming = (loads_all, load_fails, load_caused, load_unnamed)
