@@ -1,12 +1,12 @@
 -- What a journal gives that is loaded, and what both slots mean.
-use Rattle.std.proofs.Common.{ℕ, zero, suc, ◌≡◌, ◌+◌, ◌-◌, ◌<◌, ◌≤◌, Option, Some, None, List, [], ◌∷◌, ◌++◌, length, drop, Result, Ok, Err, length-append, refl, sym, ap, ◌∙◌, append_assoc, append-nil, subst, arith}
+use Rattle.std.proofs.Common.{ℕ, Bool, false, zero, suc, ◌≡◌, ◌+◌, ◌-◌, ◌<◌, ◌≤◌, Option, Some, None, List, [], ◌∷◌, ◌++◌, length, drop, Result, Ok, Err, length-append, refl, sym, ap, ◌∙◌, append_assoc, append-nil, subst, arith}
 use Rattle.std.proofs.lemmas.Bool.{le-ltb}
 use Rattle.std.proofs.lemmas.List.{take-append-drop, append_cancel_left}
 use Rattle.std.proofs.lemmas.Option.{same_Some}
 use Rattle.f2b_base.specs.declared.input.Input.{Input}
 use Rattle.f2b_base.specs.declared.view.View.{View}
+use Rattle.f2b_model.specs.StorableViews.{IsStorableView}
 use Rattle.f2b_model.specs.Views.{empty_view}
-use Rattle.f2b_world.specs.Faults.{OfDisk}
 use Rattle.f2b_world.specs.Slots.{Slot}
 use Rattle.f2b_world.specs.Told.{History, Standing}
 use Rattle.journal_slots.specs.declared.head.Head.{Head}
@@ -26,8 +26,9 @@ use Rattle.slot_reader.specs.declared.opening.Opening.TheVariants.{Empty as Empt
 use Rattle.slot_reader.specs.declared.reader.Next.{Next}
 use Rattle.slot_reader.specs.declared.reader.Next.TheVariants.{Input as NextInput, Closed, Bad as BadNext}
 use Rattle.slot_reader.specs.declared.reader.SlotReader.{SlotReader}
-use Rattle.slot_reader.specs.Reads.{content, OnlyReads, Tells}
-use Rattle.slot_reader.specs.Readings.{start_of, HasRead, EndsAt, Reads, IsNext, TellsNext, IsOpened, IsChecked, IsTold, Stands}
+use Rattle.slot_reader.specs.Reads.{content, OnlyReads, is_fault as is_slot_fault}
+use Rattle.slot_reader.specs.Readings.{start_of, HasRead, EndsAt, Reads, IsNext, TellsNext, IsOpened, IsChecked, IsSameSlot, IsTold, Stands}
+use Rattle.slot_reader.specs.Windows.{IsWithin}
 use Rattle.slot_reader.proofs.ReadLemmas.{told_before, reads_same, reads_then}
 use Rattle.slot_writes.specs.declared.position.Position.{Position}
 use Rattle.slot_writes.specs.Entries.{fresh_slot}
@@ -35,7 +36,7 @@ use Rattle.slot_writes.specs.Rests.{IsTop, IsOpenAt, IsAtRest}
 use Rattle.ban_journal.specs.declared.load.StoredInputs.{StoredInputs}
 use Rattle.ban_journal.specs.declared.load_error.LoadError.{LoadError}
 use Rattle.ban_journal.specs.declared.load_error.LoadError.TheVariants.{DiskFault, NotAJournal, NoMemory}
-use Rattle.ban_journal.specs.Loads.{WhereTold, load_error, TellsError, StandsOver, IsFound, StandBehind, AreLeft, IsGiven, IsBegun, AreSettled, IsLoaded}
+use Rattle.ban_journal.specs.Loads.{WhereTold, load_error, is_fault, bytes_left, StandsOver, IsFound, StandBehind, AreLeft, IsGiven, IsBegun, AreSettled, IsLoaded}
 use Rattle.ban_journal.specs.Places.{least_bytes, IsPlaced}
 
 -- ---- what was read of a slot, and what it means
@@ -114,9 +115,9 @@ module _ (r s : SlotReader) (left : List Input) (now : List ℕ) (is : StandBehi
 
 -- ---- while the disk is read
 
-told_still : (P : List ℕ → Type 0) (slot : ℕ) (a b : Standing) → OnlyReads a b → IsTold P slot a.told → IsTold P slot b.told
-told_still P slot a b reads is h told =
-    let t = told_before a.told b.told reads.events h told in
+told_still : (failed : Bool) (P : List ℕ → Type 0) (slot : ℕ) (a b : Standing) → OnlyReads failed a b → IsTold P slot a.told → IsTold P slot b.told
+told_still failed P slot a b reads is h told =
+    let t = told_before failed a.told b.told reads.events h told in
     let Q : List ℕ → Type 0 = λ now. IsHeld now × P now in
     subst Q (ap (λ (s : Slot). s.now) (sym (t.2 slot))) (is t.0 t.1)
 
@@ -129,7 +130,7 @@ reads_of r v inputs told g is read h other = subst (λ (k : History). HasRead r 
 abbrev with_reader : SlotReader → StoredInputs
 with_reader r = record { reader = Some r }
 
-module _ (r s : SlotReader) (a b : Standing) (reads : OnlyReads a b) (slot : s.shown.slot ≡ r.shown.slot) (next : Result Next Fault)
+module _ (failed : Bool) (r s : SlotReader) (a b : Standing) (reads : OnlyReads failed a b) (slot : s.shown.slot ≡ r.shown.slot) (next : Result Next Fault)
     (says : (v : View) (inputs : List Input) → Reads r v inputs a.told → TellsNext s v inputs b.told next)
     (left : List Input) (before : WhereTold a.told (λ g. AreLeft (with_reader r) left (content g))) (h : History) (told : b.told ≡ Some h) where
   abbrev now : List ℕ
@@ -138,14 +139,14 @@ module _ (r s : SlotReader) (a b : Standing) (reads : OnlyReads a b) (slot : s.s
   -- what was left before, and what the call told of it
   left_then : (is : StandBehind r left now) × IsNext s is.view is.before now next
   left_then =
-      let t = told_before a.told b.told reads.events h told in
+      let t = told_before failed a.told b.told reads.events h told in
       let same : content t.0 r.shown.slot ≡ now = ap (λ (x : Slot). x.now) (sym (t.2 r.shown.slot)) ∙ ap (content h) (sym slot) in
       let is = before t.0 t.1 in (
         record { view = is.view; before = is.before; opened = is.opened; read = subst (HasRead r is.view is.before) same is.read; parsed = ap parse_slot (sym same) ∙ is.parsed; inputs = is.inputs },
         says is.view is.before (reads_of r is.view is.before a.told t.0 t.1 is.read) h told,
       )
 
-module _ (r s : SlotReader) (a b : Standing) (reads : OnlyReads a b) (slot : s.shown.slot ≡ r.shown.slot) where
+module _ (failed : Bool) (r s : SlotReader) (a b : Standing) (reads : OnlyReads failed a b) (slot : s.shown.slot ≡ r.shown.slot) where
   abbrev Says : Result Next Fault → Type 0
   Says next = (v : View) (inputs : List Input) → Reads r v inputs a.told → TellsNext s v inputs b.told next
 
@@ -154,34 +155,41 @@ module _ (r s : SlotReader) (a b : Standing) (reads : OnlyReads a b) (slot : s.s
 
   pub given_input : (i : Input) → Says (Ok (NextInput i)) → Gives (Ok (Some i))
   given_input i says left before h told =
-      let k = left_then r s a b reads slot (Ok (NextInput i)) says left before h told in
+      let k = left_then failed r s a b reads slot (Ok (NextInput i)) says left before h told in
       one_given r s left (content h s.shown.slot) k.0 i k.1
 
   pub given_all : Says (Ok Closed) → Gives (Ok None)
   given_all says left before h told =
-      let k = left_then r s a b reads slot (Ok Closed) says left before h told in
+      let k = left_then failed r s a b reads slot (Ok Closed) says left before h told in
       all_given r s left (content h s.shown.slot) k.0 k.1.1
 
   pub given_bad : (slot_said at : ℕ) → Says (Ok (BadNext at)) → Gives (Err (NotAJournal slot_said at))
   given_bad slot_said at says left before h told =
-      let k = left_then r s a b reads slot (Ok (BadNext at)) says left before h told in
+      let k = left_then failed r s a b reads slot (Ok (BadNext at)) says left before h told in
       never_bad r s left (content h s.shown.slot) k.0 s.generation at k.1.1
 
   pub given_fails : (fault : Fault) → Says (Err fault) → Gives (Err (load_error fault))
   given_fails FaultDisk says left before h told =
-      let k = left_then r s a b reads slot (Err FaultDisk) says left before h told in
+      let k = left_then failed r s a b reads slot (Err FaultDisk) says left before h told in
       still_left r s left (content h s.shown.slot) k.0 k.1
   given_fails FaultMemory says left before h told =
-      let k = left_then r s a b reads slot (Err FaultMemory) says left before h told in
+      let k = left_then failed r s a b reads slot (Err FaultMemory) says left before h told in
       still_left r s left (content h s.shown.slot) k.0 k.1
 
-pub tells_error : (a b : Standing) (fault : Fault) → Tells fault a b → TellsError (load_error fault) a b
-tells_error a b FaultDisk tells = tells
-tells_error a b FaultMemory tells = tells
+-- ---- what an error tells, and how much is left
 
-pub ruleset given = (tells_error)
+-- a fault of a slot is told as one of the load
+pub reads_error : (a b : Standing) (fault : Fault) → OnlyReads (is_slot_fault (Err fault)) a b → OnlyReads (is_fault (Err (load_error fault))) a b
+reads_error a b FaultDisk reads = reads
+reads_error a b FaultMemory reads = reads
 
-pub none_given : (a : Standing) → OnlyReads a a
+-- a reader that goes on within its slot has less left
+pub fewer_left : (r s : SlotReader) → IsSameSlot r s → IsWithin s.shown → r.shown.place < s.shown.place → bytes_left (with_reader s) < bytes_left (with_reader r)
+fewer_left r s same within on = omega (arith, same.long, within.ends, on)
+
+pub ruleset given = (reads_error, fewer_left)
+
+pub none_given : (a : Standing) → OnlyReads false a a
 none_given a = reads_same a
 
 -- ---- the view and the inputs that were stored
@@ -199,15 +207,15 @@ open_top number stored first (Open o) is top = (o, refl, is.1, top.1)
 open_top number stored first (Bad other at) is top = absurd top
 
 abbrev pub BegunAt : Position → Option History → Result (View × StoredInputs) LoadError → Type 0
-BegunAt p told result = (stored : Stored) → WhereTold told (λ g. StandsOver p stored (content g) → IsBegun stored (content g) result)
+BegunAt p told result = (limit : ℕ) (stored : Stored) → WhereTold told (λ g. StandsOver limit p stored (content g) → IsBegun stored (content g) result)
 
 pub begun_empty : (p : Position) (head : Head) (told : Option History) → IsTold (λ now. IsOpened now (EmptyOpening head)) p.slot told → BegunAt p told (Ok (empty_view, record { reader = None }))
-begun_empty p head told opened stored g is stands =
+begun_empty p head told opened limit stored g is stands =
     let nothing = empty_top p.generation stored (parse_slot (content g p.slot)) (opened g is).1.0 stands.top in
     (sym (ap (λ (x : Stored). x.view) nothing), ap (λ (x : Stored). x.inputs) nothing)
 
 pub begun_open : (p : Position) (r : SlotReader) (v : View) (told : Option History) → IsTold (λ now. IsOpened now (OpenOpening r v)) p.slot told → Stands p.slot (OpenOpening r v) told → BegunAt p told (Ok (v, with_reader r))
-begun_open p r v told opened at stored g is stands =
+begun_open p r v told opened at limit stored g is stands =
     let now = content g p.slot in
     let read : HasRead r v [] now = (opened g is).1 in
     let t = open_top p.generation stored (start_of r v) (parse_slot now) (begins r v [] now read) stands.top in
@@ -216,13 +224,34 @@ begun_open p r v told opened at stored g is stands =
     (view_is, subst (λ (k : ℕ). StandBehind r stored.inputs (content g k)) (sym at.0) behind)
 
 pub begun_bad : (p : Position) (number slot at : ℕ) (told : Option History) → IsTold (λ now. IsOpened now (BadOpening number at)) p.slot told → BegunAt p told (Err (NotAJournal slot at))
-begun_bad p number slot at told opened stored g is stands = bad_top p.generation number at stored (parse_slot (content g p.slot)) (opened g is).1 stands.top
+begun_bad p number slot at told opened limit stored g is stands = bad_top p.generation number at stored (parse_slot (content g p.slot)) (opened g is).1 stands.top
 
 pub begun_fails : (p : Position) (fault : Fault) (told : Option History) → BegunAt p told (Err (load_error fault))
-begun_fails p FaultDisk told stored g is stands = tt
-begun_fails p FaultMemory told stored g is stands = tt
+begun_fails p FaultDisk told limit stored g is stands = tt
+begun_fails p FaultMemory told limit stored g is stands = tt
 
-pub ruleset begun = (begun_empty, begun_bad, begun_fails, tells_error)
+-- the view before the first configuration can be stored
+pub empty_storable : IsStorableView empty_view
+empty_storable = record {
+  now = record {
+    at = omega arith;
+    purge = omega arith;
+    jails = tt;
+    names = tt;
+    most = omega arith;
+    patterns = omega arith;
+    numbered = tt;
+    next_ban = omega arith;
+    lanes = record { up = tt; apart = record { one = λ id. tt }; jobs = tt };
+    by_id = omega arith;
+    next_job = omega arith;
+  };
+  named = refl;
+  watched = tt;
+  times = tt;
+}
+
+pub ruleset begun = (begun_empty, begun_bad, begun_fails, reads_error, empty_storable)
 
 -- ---- the journal
 
@@ -234,8 +263,8 @@ least_within Shut bytes is = let long = is.0 in omega (arith, long)
 gate_within : (gate number : ℕ) (stored : Stored) (bytes : List ℕ) → IsOpenAt gate number stored bytes → gate + 1 ≤ length bytes
 gate_within gate number stored bytes is = omega (arith, is.gate_is, ap length is.holds, length-append is.front (0 ∷ is.rest))
 
-placed_of : (p : Position) (told : Option History) → ((g : History) → told ≡ Some g → (stored : Stored) × StandsOver p stored (content g)) → IsPlaced p told
-placed_of p told stands = record {
+placed_of : (limit : ℕ) (p : Position) (told : Option History) → ((g : History) → told ≡ Some g → (stored : Stored) × StandsOver limit p stored (content g)) → IsPlaced p told
+placed_of limit p told stands = record {
   current = λ g is. least_within p.head (content g p.slot) ((stands g is).1.head);
   other = λ g is. least_within p.other (content g (fresh_slot p)) ((stands g is).1.other);
   gate = λ grows g is. gate_within p.gate p.generation (stands g is).0 (content g p.slot) ((stands g is).1.grows grows);
@@ -247,8 +276,8 @@ held_both g zero_held one_held (suc zero) lt = one_held
 held_both g zero_held one_held (suc (suc n)) lt = absurd (omega (arith, lt))
 
 -- Where nothing is unsynced, a journal that stands over what the slots hold is at rest.
-rests_of : (p : Position) (stored : Stored) (g : History) → p.slot < 2 → ((k : ℕ) → k < 2 → IsHeld (content g k)) → StandsOver p stored (content g) → AreSettled g → IsAtRest p stored g
-rests_of p stored g small held is settled_are =
+rests_of : (limit : ℕ) (p : Position) (stored : Stored) (g : History) → p.slot < 2 → ((k : ℕ) → k < 2 → IsHeld (content g k)) → StandsOver limit p stored (content g) → AreSettled g → IsAtRest p stored g
+rests_of limit p stored g small held is settled_are =
     let fresh : fresh_slot p < 2 = omega arith in
     record {
       content = content g p.slot;
@@ -269,53 +298,48 @@ rests_of p stored g small held is settled_are =
 abbrev pub FoundBy : ℕ → Checked → Checked → Result Position LoadError → Type 0
 FoundBy limit first second result = (now : ℕ → List ℕ) → IsChecked (now 0) first → IsChecked (now 1) second → IsFound limit now result
 
-module _ (limit : ℕ) (first second : Checked) (b c : Standing) (first_is : IsTold (λ now. IsChecked now first) 0 b.told) (then_reads : OnlyReads b c) (second_is : IsTold (λ now. IsChecked now second) 1 c.told) where
+module _ (limit : ℕ) (first second : Checked) (b c : Standing) (first_is : IsTold (λ now. IsChecked now first) 0 b.told) (then_reads : OnlyReads false b c) (second_is : IsTold (λ now. IsChecked now second) 1 c.told) where
   pub loaded_refused : (e : LoadError) → FoundBy limit first second (Err e) → WhereTold c.told (λ g. IsLoaded limit g (Err e))
   loaded_refused DiskFault found g is = tt
   loaded_refused NoMemory found g is = tt
-  loaded_refused (NotAJournal slot at) found g is = found (content g) ((told_still (λ now. IsChecked now first) 0 b c then_reads first_is g is).1) ((second_is g is).1)
+  loaded_refused (NotAJournal slot at) found g is = found (content g) ((told_still false (λ now. IsChecked now first) 0 b c then_reads first_is g is).1) ((second_is g is).1)
 
-  module _ (p : Position) (d : Standing) (found : FoundBy limit first second (Ok p)) (reads : OnlyReads c d) where
+  module _ (p : Position) (failed : Bool) (d : Standing) (found : FoundBy limit first second (Ok p)) (reads : OnlyReads failed c d) where
     -- where the journal stands over what both slots hold
-    stands_over : (g : History) → d.told ≡ Some g → ((k : ℕ) → k < 2 → IsHeld (content g k)) × (p.limit ≡ limit) × ((stored : Stored) × StandsOver p stored (content g))
+    stands_over : (g : History) → d.told ≡ Some g → ((k : ℕ) → k < 2 → IsHeld (content g k)) × ((stored : Stored) × StandsOver limit p stored (content g))
     stands_over g is =
-        let one = told_still (λ now. IsChecked now first) 0 c d reads (told_still (λ now. IsChecked now first) 0 b c then_reads first_is) g is in
-        let two = told_still (λ now. IsChecked now second) 1 c d reads second_is g is in
-        let f = found (content g) one.1 two.1 in
-        (held_both g one.0 two.0, f.0, f.1)
+        let one = told_still failed (λ now. IsChecked now first) 0 c d reads (told_still false (λ now. IsChecked now first) 0 b c then_reads first_is) g is in
+        let two = told_still failed (λ now. IsChecked now second) 1 c d reads second_is g is in
+        (held_both g one.0 two.0, found (content g) one.1 two.1)
 
     pub loaded_ok : (v : View) (s : StoredInputs) → p.slot < 2 → BegunAt p d.told (Ok (v, s)) → WhereTold d.told (λ g. IsLoaded limit g (Ok (record { journal = p; view = v; inputs = s })))
     loaded_ok v s small begun_is g is =
         let t = stands_over g is in
-        let stored = t.2.0 in
-        let parts = begun_is stored g is t.2.1 in
+        let stored = t.1.0 in
+        let parts = begun_is limit stored g is t.1.1 in
         let same : stored ≡ record { view = v; inputs = stored.inputs } = ap (λ (x : View). let y : Stored = record { view = x; inputs = stored.inputs } in y) (sym parts.0) in
         record {
           inputs = stored.inputs;
-          means = t.2.1.means ∙ ap (λ (x : Stored). Some x) same;
+          means = t.1.1.means ∙ ap (λ (x : Stored). Some x) same;
           left = parts.1;
-          within = t.1;
-          at = t.2.1.at;
-          rests = λ settled_are. subst (λ (x : Stored). IsAtRest p x g) same (rests_of p stored g small t.0 t.2.1 settled_are);
+          at = t.1.1.at;
+          rests = λ settled_are. subst (λ (x : Stored). IsAtRest p x g) same (rests_of limit p stored g small t.0 t.1.1 settled_are);
         }
 
     pub loaded_placed : IsPlaced p d.told
-    loaded_placed = placed_of p d.told (λ g is. (stands_over g is).2)
+    loaded_placed = placed_of limit p d.told (λ g is. (stands_over g is).1)
 
     pub loaded_stops : (e : LoadError) → BegunAt p d.told (Err e) → WhereTold d.told (λ g. IsLoaded limit g (Err e))
     loaded_stops DiskFault begun_is g is = tt
     loaded_stops NoMemory begun_is g is = tt
-    loaded_stops (NotAJournal slot at) begun_is g is = let t = stands_over g is in absurd (begun_is t.2.0 g is t.2.1)
+    loaded_stops (NotAJournal slot at) begun_is g is = let t = stands_over g is in absurd (begun_is limit t.1.0 g is t.1.1)
 
 pub loaded_fault : (limit : ℕ) (fault : Fault) (told : Option History) → WhereTold told (λ g. IsLoaded limit g (Err (load_error fault)))
 loaded_fault limit FaultDisk told g is = tt
 loaded_fault limit FaultMemory told g is = tt
 
--- ---- errors behind other calls
+-- an error of no call on the disk comes behind reads that were done
+pub reads_and_error : (a b : Standing) (x : Bool) → x ≡ false → OnlyReads false a b → OnlyReads x a b
+reads_and_error a b x is reads = subst (λ (y : Bool). OnlyReads y a b) (sym is) reads
 
-pub error_then : (a b c : Standing) (e : LoadError) → OnlyReads a b → TellsError e b c → TellsError e a c
-error_then a b c DiskFault p rose = let steady = p.steady OfDisk in grind (arith, steady, rose)
-error_then a b c (NotAJournal slot at) p rose = tt
-error_then a b c NoMemory p rose = tt
-
-pub ruleset loads = (reads_then, tells_error, error_then, loaded_fault)
+pub ruleset loads = (reads_then, reads_error, reads_and_error, loaded_fault)

@@ -1,15 +1,12 @@
 -- What a load tells of both slots.
-use Rattle.std.specs.Prelude.{ℕ, ◌≡◌, ◌<◌, true, false, Bool, Option, Some, None, List, [], ◌∷◌, ◌++◌, Result, Ok, Err}
+use Rattle.std.specs.Prelude.{ℕ, ◌≡◌, ◌<◌, ◌-◌, true, false, Bool, Option, Some, None, List, [], ◌∷◌, ◌++◌, Result, Ok, Err}
 use Rattle.f2b_base.specs.declared.input.Input.{Input}
 use Rattle.f2b_base.specs.declared.view.View.{View}
-use Rattle.f2b_world.specs.Faults.{OfDisk, Rose}
 use Rattle.f2b_world.specs.Slots.{settled}
-use Rattle.f2b_world.specs.Told.{History, Standing, slot_of}
+use Rattle.f2b_world.specs.Told.{History, slot_of}
 use Rattle.journal_slots.specs.Grammar.{Opened, Open, parse_slot}
 use Rattle.journal_slots.specs.Starts.{IsHead}
-use Rattle.journal_slots.specs.Tops.{Stored, Top, NoneOpen, Newest, NoJournal, top_of, meaning, IsOlder}
-use Rattle.record_codec.specs.declared.version.Version.{Version}
-use Rattle.record_codec.specs.declared.version.Version.TheVariants.{One, Two}
+use Rattle.journal_slots.specs.Tops.{Stored, NoJournal, meaning, IsOlder}
 use Rattle.slot_reader.specs.declared.fault.Fault.{Fault}
 use Rattle.slot_reader.specs.declared.fault.Fault.TheVariants.{Disk as FaultDisk, NoMemory as FaultMemory}
 use Rattle.slot_reader.specs.declared.reader.SlotReader.{SlotReader}
@@ -23,6 +20,7 @@ use Rattle.ban_journal.specs.declared.load.Loaded.{Loaded}
 use Rattle.ban_journal.specs.declared.load.StoredInputs.{StoredInputs}
 use Rattle.ban_journal.specs.declared.load_error.LoadError.{LoadError}
 use Rattle.ban_journal.specs.declared.load_error.LoadError.TheVariants.{DiskFault, NotAJournal, NoMemory}
+use Rattle.ban_journal.specs.Positions.{top_in, IsAtTop}
 
 -- of the history, where it is told
 abbrev pub WhereTold : Option History → (History → Type 0) → Type 0
@@ -32,32 +30,16 @@ abbrev pub load_error : Fault → LoadError
 load_error FaultDisk = DiskFault
 load_error FaultMemory = NoMemory
 
--- a fault of the disk was counted
-abbrev pub TellsError : LoadError → Standing → Standing → Type 0
-TellsError DiskFault old new = Rose (old.faults OfDisk) (new.faults OfDisk)
-TellsError _ old new = Unit {0}
+-- whether the disk failed
+abbrev pub is_fault : {X : Type 0} → Result X LoadError → Bool
+is_fault (Err DiskFault) = true
+is_fault _ = false
 
 -- ---- where a journal stands
 
--- which slot counts, by the bytes of both
-abbrev pub top_in : (ℕ → List ℕ) → Top
-top_in now = top_of (parse_slot (now 0)) (parse_slot (now 1))
-
--- whether it is the version that is written
-abbrev pub is_written : Version → Bool
-is_written One = false
-is_written Two = true
-
--- The current slot is the one that counts; it grows, behind its closed gate, where it is in the version that is written. Where none is
--- open slot 1 is current, and does not grow.
-abbrev pub IsAtTop : Position → Top → Type 0
-IsAtTop p NoneOpen = (p.slot ≡ 1) × (p.generation ≡ 0) × (p.grows ≡ false)
-IsAtTop p (Newest slot o) = (p.slot ≡ slot) × (p.generation ≡ o.start.generation) × (p.grows ≡ is_written o.start.version) × (p.gate ≡ o.gate)
-IsAtTop p (NoJournal slot at) = ⊥
-
 -- What is known of two slots that are a journal: where it stands, how both slots begin, and what was stored.
-pub record StandsOver (p : Position) (stored : Stored) (now : ℕ → List ℕ) : Type 0 where
-  pub at : IsAtTop p (top_in now)
+pub record StandsOver (limit : ℕ) (p : Position) (stored : Stored) (now : ℕ → List ℕ) : Type 0 where
+  pub at : IsAtTop limit now p (top_in now)
   pub means : meaning now ≡ Some stored
   pub head : IsHead p.head (now p.slot)
   pub top : IsTop p.generation stored (parse_slot (now p.slot))
@@ -67,7 +49,7 @@ pub record StandsOver (p : Position) (stored : Stored) (now : ℕ → List ℕ) 
 
 -- where the journal stands, or which slot is no journal
 abbrev pub IsFound : ℕ → (ℕ → List ℕ) → Result Position LoadError → Type 0
-IsFound limit now (Ok p) = (p.limit ≡ limit) × ((stored : Stored) × StandsOver p stored now)
+IsFound limit now (Ok p) = (stored : Stored) × StandsOver limit p stored now
 IsFound limit now (Err (NotAJournal slot at)) = top_in now ≡ NoJournal slot at
 IsFound limit now (Err _) = ⊥
 
@@ -101,6 +83,15 @@ abbrev pub IsThere : Option SlotReader → Option History → Type 0
 IsThere None told = Unit {0}
 IsThere (Some r) told = Shows r.shown told
 
+-- how many bytes of the slot were not read yet
+abbrev pub left_in : Option SlotReader → ℕ
+left_in None = 0
+left_in (Some r) = r.shown.long - r.shown.place
+
+-- how many bytes are left to be read
+abbrev pub bytes_left : StoredInputs → ℕ
+bytes_left s = left_in s.reader
+
 -- the slot that they are read from is as it was
 abbrev pub AreThere : StoredInputs → Option History → Type 0
 AreThere s told = IsThere s.reader told
@@ -123,8 +114,7 @@ pub record HasLoaded (limit : ℕ) (l : Loaded) (g : History) : Type 0 where
   pub inputs : List Input
   pub means : meaning (content g) ≡ Some (record { view = l.view; inputs = inputs })
   pub left : AreLeft l.inputs inputs (content g)
-  pub within : l.journal.limit ≡ limit
-  pub at : IsAtTop l.journal (top_in (content g))
+  pub at : IsAtTop limit (content g) l.journal (top_in (content g))
   pub rests : AreSettled g → IsAtRest l.journal (record { view = l.view; inputs = inputs }) g
 
 -- a journal was loaded, or this slot is no journal, at that place

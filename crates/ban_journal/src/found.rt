@@ -1,11 +1,11 @@
 //! Where a journal stands by what both slots are.
-ghost use Rattle.std.specs.Prelude.{◌≡◌, ◌<◌, IfOk, IfErr, List, ℕ};
-ghost use Rattle.f2b_world.specs.Told.{Standing};
+ghost use Rattle.std.specs.Prelude.{◌≡◌, ◌<◌, false, IfOk, List, ℕ};
 ghost use Rattle.journal_slots.specs.declared.head.Head.TheVariants.{Ajar};
 ghost use Rattle.slot_reader.specs.Readings.{IsChecked};
 ghost use Rattle.slot_reader.specs.declared.checked.Checked.TheVariants.{Empty as EmptySlot, Open as OpenedSlot};
 ghost use Rattle.slot_reader.specs.Versions.{spelling};
-ghost use Rattle.ban_journal.specs.Loads.{IsFound, TellsError, is_written};
+ghost use Rattle.ban_journal.specs.Loads.{IsFound, is_fault};
+ghost use Rattle.ban_journal.specs.Positions.{is_written_now};
 
 use crate::load_error::LoadError;
 use journal_slots::Head;
@@ -14,7 +14,7 @@ use slot_writes::Position;
 
 /// Whether it is the version that is written.
 fn is_written(version: Version) -> bool
-    ensures { result ≡ is_written (spelling version) }
+    ensures { result ≡ is_written_now (spelling version) }
 {
     match version {
         Version::One => false,
@@ -24,7 +24,7 @@ fn is_written(version: Version) -> bool
 
 /// Where the journal stands whose newest slot this is, beside another one that begins so.
 fn newest(limit: u64, slot: u8, opened: OpenSlot, other: Head) -> Position
-    ensures { result ≡ record { limit = limit; slot = slot; generation = opened.generation; grows = is_written (spelling opened.version); gate = opened.gate; head = Ajar; other = other } }
+    ensures { result ≡ record { limit = limit; slot = slot; generation = opened.generation; grows = is_written_now (spelling opened.version); gate = opened.gate; head = Ajar; other = other } }
 {
     Position {
         limit,
@@ -42,7 +42,7 @@ fn newest(limit: u64, slot: u8, opened: OpenSlot, other: Head) -> Position
 fn beside_empty(limit: u64, head: Head, second: Checked) -> Result<Position, LoadError>
     ensures found { (now : ℕ → List ℕ) → IsChecked (now 0) (EmptySlot head) → IsChecked (now 1) second → IsFound limit now result }
     ensures slot { IfOk result (λ p. p.slot < 2) }
-    ensures no_fault { IfErr result (λ e. (old new : Standing) → TellsError e old new) }
+    ensures no_fault { is_fault result ≡ false }
 {
     match second {
         Checked::Bad { at, .. } => Err(LoadError::NotAJournal { slot: 1, at }),
@@ -64,7 +64,7 @@ fn beside_empty(limit: u64, head: Head, second: Checked) -> Result<Position, Loa
 fn beside_open(limit: u64, first: OpenSlot, second: Checked) -> Result<Position, LoadError>
     ensures found { (now : ℕ → List ℕ) → IsChecked (now 0) (OpenedSlot first) → IsChecked (now 1) second → IsFound limit now result }
     ensures slot { IfOk result (λ p. p.slot < 2) }
-    ensures no_fault { IfErr result (λ e. (old new : Standing) → TellsError e old new) }
+    ensures no_fault { is_fault result ≡ false }
 {
     match second {
         Checked::Bad { generation, at } => {
@@ -95,7 +95,7 @@ pub(crate) fn position_of(
 ) -> Result<Position, LoadError>
     ensures found { (now : ℕ → List ℕ) → IsChecked (now 0) first → IsChecked (now 1) second → IsFound limit now result }
     ensures slot { IfOk result (λ p. p.slot < 2) }
-    ensures no_fault { IfErr result (λ e. (old new : Standing) → TellsError e old new) }
+    ensures no_fault { is_fault result ≡ false }
 {
     match first {
         Checked::Bad { at, .. } => Err(LoadError::NotAJournal { slot: 0, at }),

@@ -4,7 +4,8 @@
 //! the calls on the disk that `entry_of` of `slot_writes` names, in their order, and no other; it fails in one of them, or for want of
 //! memory before one. Whatever a stop leaves at any moment means what was stored before, or that with the input. An append costs two
 //! syncs. A journal is passed on by each call, so none is used after an error. Nothing here knows what a view or an input means.
-//! A journal is loaded from both slots, which are read to their ends first; its inputs then come one by one.
+//! A journal is loaded from both slots, which are read to their ends first, and stands where their bytes say; its inputs then come one
+//! by one.
 //!
 //! ```text
 //! let journal = if journal.fits(&input) {

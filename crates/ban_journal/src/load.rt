@@ -1,11 +1,13 @@
 //! Loading a journal.
-ghost use Rattle.std.specs.Prelude.{◌≡◌, ◌<◌, Some, List, IfOk, IfErr};
+ghost use Rattle.std.specs.Prelude.{◌≡◌, ◌<◌, Some, List, ℕ, IfOk, IfSome};
 ghost use Rattle.f2b_base.specs.declared.input.Input.{Input as AnInput};
+ghost use Rattle.f2b_model.specs.Storable.{IsStorableInput};
+ghost use Rattle.f2b_model.specs.StorableViews.{IsStorableView};
 ghost use Rattle.f2b_model.specs.Views.{empty_view};
 ghost use Rattle.journal_slots.specs.Tops.{Stored};
 ghost use Rattle.slot_reader.specs.Reads.{OnlyReads, content};
 ghost use Rattle.slot_reader.specs.Windows.{Shows};
-ghost use Rattle.ban_journal.specs.Loads.{AreLeft, AreThere, IsBegun, IsGiven, IsLoaded, StandsOver, TellsError, WhereTold};
+ghost use Rattle.ban_journal.specs.Loads.{AreLeft, AreThere, IsBegun, IsGiven, IsLoaded, StandsOver, WhereTold, bytes_left, is_fault};
 ghost use Rattle.ban_journal.specs.Places.{IsPlaced};
 
 use crate::found::position_of;
@@ -62,9 +64,10 @@ fn next_of<D: Disk>(
     requires { Shows reader.old.shown (D.stands disk.old).told }
     ensures given { (left : List AnInput) → WhereTold (D.stands disk.old).told (λ g. AreLeft (record { reader = Some reader.old }) left (content g))
         → WhereTold (D.stands disk.new).told (λ g. IsGiven (record { reader = Some reader.new }) left (content g) result) }
+    ensures storable { IfOk result (λ i. IfSome i IsStorableInput) }
+    ensures fewer { IfOk result (λ i. IfSome i (λ _. bytes_left (record { reader = Some reader.new }) < bytes_left (record { reader = Some reader.old }))) }
     ensures there { Shows reader.new.shown (D.stands disk.new).told }
-    ensures reads { OnlyReads (D.stands disk.old) (D.stands disk.new) }
-    ensures err { IfErr result (λ e. TellsError e (D.stands disk.old) (D.stands disk.new)) }
+    ensures reads { OnlyReads (is_fault result) (D.stands disk.old) (D.stands disk.new) }
 {
     match reader.next(alloc, disk)? {
         Next::Input(input) => Ok(Some(input)),
@@ -83,9 +86,11 @@ impl StoredInputs {
         requires { AreThere self.old (D.stands disk.old).told }
         ensures given { (left : List AnInput) → WhereTold (D.stands disk.old).told (λ g. AreLeft self.old left (content g))
             → WhereTold (D.stands disk.new).told (λ g. IsGiven self.new left (content g) result) }
+        ensures storable { IfOk result (λ i. IfSome i IsStorableInput) }
+        // So there is an end to them.
+        ensures fewer { IfOk result (λ i. IfSome i (λ _. bytes_left self.new < bytes_left self.old)) }
         ensures there { AreThere self.new (D.stands disk.new).told }
-        ensures reads { OnlyReads (D.stands disk.old) (D.stands disk.new) }
-        ensures err { IfErr result (λ e. TellsError e (D.stands disk.old) (D.stands disk.new)) }
+        ensures reads { OnlyReads (is_fault result) (D.stands disk.old) (D.stands disk.new) }
     {
         match &mut self.reader {
             None => Ok(None),
@@ -102,10 +107,10 @@ fn begun<D: Disk>(
     position: Position,
 ) -> Result<(View, StoredInputs), LoadError>
     requires { position.slot < 2 }
-    ensures begun { (stored : Stored) → WhereTold (D.stands disk.new).told (λ g. StandsOver position stored (content g) → IsBegun stored (content g) result) }
+    ensures begun { (limit : ℕ) (stored : Stored) → WhereTold (D.stands disk.new).told (λ g. StandsOver limit position stored (content g) → IsBegun stored (content g) result) }
+    ensures storable { IfOk result (λ x. IsStorableView x.0) }
     ensures there { IfOk result (λ x. AreThere x.1 (D.stands disk.new).told) }
-    ensures reads { OnlyReads (D.stands disk.old) (D.stands disk.new) }
-    ensures err { IfErr result (λ e. TellsError e (D.stands disk.old) (D.stands disk.new)) }
+    ensures reads { OnlyReads (is_fault result) (D.stands disk.old) (D.stands disk.new) }
 {
     let slot = position.slot;
     match open(alloc, disk, slot)? {
@@ -126,10 +131,10 @@ impl Journal {
     #[tactic(auto, using(crate::proofs::LoadLemmas::loads))]
     pub fn load<D: Disk>(alloc: Global, disk: &mut D, limit: u64) -> Result<Loaded, LoadError>
         ensures loaded { WhereTold (D.stands disk.new).told (λ g. IsLoaded limit g result) }
+        ensures storable { IfOk result (λ loaded. IsStorableView loaded.view) }
         ensures placed { IfOk result (λ loaded. IsPlaced loaded.journal (D.stands disk.new).told) }
         ensures there { IfOk result (λ loaded. AreThere loaded.inputs (D.stands disk.new).told) }
-        ensures reads { OnlyReads (D.stands disk.old) (D.stands disk.new) }
-        ensures err { IfErr result (λ e. TellsError e (D.stands disk.old) (D.stands disk.new)) }
+        ensures reads { OnlyReads (is_fault result) (D.stands disk.old) (D.stands disk.new) }
     {
         let first = check(alloc, disk, 0)?;
         let second = check(alloc, disk, 1)?;

@@ -21,8 +21,8 @@ use std::marker::Model;
 /// A journal, and the state that what it has stored comes to. It is seen as where the journal stands, and the state.
 #[derive(Drop)]
 pub struct Engine {
-    journal: Journal,
-    core: Core,
+    pub(crate) journal: Journal,
+    pub(crate) core: Core,
 }
 
 impl Model for Engine {

@@ -23,7 +23,7 @@ use Rattle.f2b_model.proofs.BackLemmas.{back_ordered}
 use Rattle.f2b_model.proofs.LaneOrderLemmas.{order_kept}
 use Rattle.f2b_model.proofs.OrderLemmas.{pending_ordered}
 use Rattle.record_codec.specs.Views.{IsRecordedView}
-use Rattle.run_law.specs.Loads.{Loaded, loaded}
+use Rattle.reconcile.specs.Loads.{Loaded, loaded}
 use Rattle.run_law.proofs.LoadLemmas.{loaded_stored}
 use Rattle.run_jobs.specs.Runs.{HoldBytes}
 use Rattle.run_jobs.proofs.LedgerLemmas.{pending_fine}

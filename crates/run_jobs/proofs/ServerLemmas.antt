@@ -15,7 +15,7 @@ use Rattle.f2b_model.specs.Whole.{State, is_whole_spent, step}
 use Rattle.child_table.specs.Children.{comes_before, has, jobs_of}
 use Rattle.child_table.specs.declared.child.Child.{Child}
 use Rattle.run_law.specs.Law.{turns}
-use Rattle.run_law.specs.Loads.{Loaded}
+use Rattle.reconcile.specs.Loads.{Loaded}
 use Rattle.run_law.specs.News.{server_after}
 use Rattle.run_law.specs.Polls.{gone, gone_passed}
 use Rattle.run_law.specs.Server.{Server, begun, input_at, taken}

@@ -9,24 +9,24 @@ use Rattle.ban_journal.specs.Places.{IsPlaced}
 use Rattle.filter_regex.specs.declared.error.BuildKind.TheVariants.{Syntax, TooBig}
 use Rattle.run_law.specs.Stages.{HasCause, IsRefusedAs, IsSteady, IsUnsaid}
 use Rattle.run_law.specs.declared.status.Status.{Status}
-use Rattle.run_law.proofs.LongLemmas.{longer_on, longer_refl, longer_trans, placed_on}
+use Rattle.run_law.proofs.LongLemmas.{goes_behind, goes_none, goes_on, placed_on}
 use Rattle.run_law.specs.declared.status.Status.TheVariants.{Stopped, TurnsSpent, WorkloadDone, Usage, ConfFault, ConfRefused, DiskFault, NotAJournal, JournalFull, GateFault, SinkFault, ConfTooLarge, PatternRefused, NumbersSpent, NoMemory}
 
--- where nothing was called no count fell, and no slot got shorter
+-- where nothing was called no count fell
 pub steady_refl : (s : Standing) → IsSteady s s
-steady_refl s = record { counts = λ kind. omega arith; longer = longer_refl s.told }
+steady_refl s = record { counts = λ kind. omega arith; history = goes_none s.told }
 
 -- nor over two steady parts
 pub steady_on : (old mid new : Standing) → IsSteady old mid → IsSteady mid new → IsSteady old new
-steady_on old mid new p q = record { counts = λ kind. omega (arith, p.counts kind, q.counts kind); longer = longer_trans old.told mid.told new.told p.longer q.longer }
+steady_on old mid new p q = record { counts = λ kind. omega (arith, p.counts kind, q.counts kind); history = goes_behind old.told mid.told new.told p.history q.history }
 
 -- nor over one call
 pub steady_call : (old new : Standing) (event : Event) → Called old event new → IsSteady old new
-steady_call old new event call = record { counts = call.counts.steady; longer = longer_on (λ (g : History) (es : List Event). (es ≡ event ∷ []) × IsHonest g event) old.told new.told call.adds }
+steady_call old new event call = record { counts = call.counts.steady; history = goes_on (λ (g : History) (es : List Event). (es ≡ event ∷ []) × IsHonest g event) old.told new.told call.adds }
 
 -- over a steady part a journal's places stay where they are
 pub steady_placed : (p : Position) (old new : Standing) → IsSteady old new → IsPlaced p old.told → IsPlaced p new.told
-steady_placed p old new steady is = placed_on p old.told new.told steady.longer is
+steady_placed p old new steady is = placed_on p old.told new.told steady.history is
 
 rose_later : (a b c : ℕ) → a ≤ b → Rose b c → Rose a c
 rose_later a b c le (inl lt) = inl (omega arith)

@@ -34,7 +34,7 @@ use Rattle.log_set.specs.Logs.{Watching}
 use Rattle.run_law.specs.Clock.{tick_news}
 use Rattle.run_law.specs.Disk.{broken, measured, piece_read, synced, wrote}
 use Rattle.run_law.specs.Law.{feed, moved, turns}
-use Rattle.run_law.specs.Loads.{Loaded, loaded}
+use Rattle.reconcile.specs.Loads.{Loaded, loaded}
 use Rattle.run_law.specs.Looks.{look_news, look_taken, looked, looked_at, now_is, unread_news}
 use Rattle.run_law.specs.News.{News, brings, brings_by, entered, entering, goes_to, owing, refused, taking, writing}
 use Rattle.run_law.specs.Paths.{Path, Naming, first_naming, named, with_paths}

@@ -23,7 +23,7 @@ use Rattle.record_fields.specs.Numbers.{digits as number_digits, digits_at, numb
 use Rattle.run_law.specs.Calls.{AskSay, AskClock, AskWrite}
 use Rattle.run_law.specs.Changes.{config_changes}
 use Rattle.run_law.specs.Law.{next_call, opening}
-use Rattle.run_law.specs.Loads.{Loaded, loaded}
+use Rattle.reconcile.specs.Loads.{Loaded, loaded}
 use Rattle.run_law.specs.News.{brings}
 use Rattle.run_law.specs.Points.{Run, Over}
 use Rattle.run_law.specs.Refusals.{error_line, status_lines}

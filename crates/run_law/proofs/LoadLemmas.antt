@@ -22,7 +22,8 @@ use Rattle.record_codec.proofs.InputLemmas.{input_codec}
 use Rattle.record_fields.specs.Codec.{◌>>=◌, IsBytes, IsHeld}
 use Rattle.record_fields.proofs.CodecLemmas.{IsBytes-tail, bind_ok, ok_is, split}
 use Rattle.run_law.proofs.KeptLemmas.{empty_recorded}
-use Rattle.run_law.specs.Loads.{Loaded, head_of, is_written_now, loaded, loaded_as, loaded_from, position_in, position_unopened, view_by}
+use Rattle.ban_journal.specs.Positions.{head_of, is_written_now, position_in, position_unopened}
+use Rattle.reconcile.specs.Loads.{Loaded, loaded, loaded_as, loaded_from, view_by}
 use Rattle.run_law.specs.Stops.{IsSettled, held_in}
 use Rattle.slot_writes.specs.Rests.{IsAtRest, IsTop, nothing_stored}
 use Rattle.slot_writes.specs.declared.position.Position.{Position}

@@ -4,6 +4,7 @@ use Rattle.std.proofs.lemmas.List.{length-take, length-drop}
 use Rattle.ban_journal.specs.Places.{IsNoShorter, IsPlaced, least_bytes}
 use Rattle.f2b_world.specs.Slots.{Slot, slot_after, slot_step, synced_now, write_to, written}
 use Rattle.f2b_world.specs.Told.{Adds, HasLength, History, grown, slot_of}
+use Rattle.f2b_world.proofs.AddsLemmas.{adds_none, adds_then, adds_weaker}
 use Rattle.f2b_world.specs.declared.answer.Synced.TheVariants.{Done as SyncDone}
 use Rattle.f2b_world.specs.declared.event.Event.{Event}
 use Rattle.f2b_world.specs.declared.event.Event.TheVariants.{DiskWrite, DiskSync}
@@ -18,6 +19,10 @@ written_long now bytes at n le =
 if_long : (b : Bool) (s t : Slot) (n : ℕ) → n ≤ length s.now → n ≤ length t.now → n ≤ length (if b then s else t).now
 if_long true s t n p q = p
 if_long false s t n p q = q
+
+-- whatever the events are
+abbrev pub Any : History → List Event → Type 0
+Any g es = Unit {0}
 
 step_long : (slot n : ℕ) (s : Slot) (e : Event) → n ≤ length s.now → n ≤ length (slot_step slot s e).now
 step_long slot n s (DiskWrite k at bytes answer) le = if_long (k == slot) (write_to s at bytes) s n (written_long s.now bytes at n le) le
@@ -40,16 +45,23 @@ long_on P old (Some j) adds slot n long h told =
 pub longer_on : (P : History → List Event → Type 0) (old new : Option History) → Adds old new P → IsNoShorter old new
 longer_on P old new adds = record { keeps = long_on P old new adds }
 
-pub longer_refl : (told : Option History) → IsNoShorter told told
-longer_refl told = record { keeps = λ slot n long. long }
+-- ---- a history that goes on
 
-pub longer_trans : (old mid new : Option History) → IsNoShorter old mid → IsNoShorter mid new → IsNoShorter old new
-longer_trans old mid new p q = record { keeps = λ slot n long. q.keeps slot n (p.keeps slot n long) }
+pub goes_on : (P : History → List Event → Type 0) (old new : Option History) → Adds old new P → Adds old new Any
+goes_on P old new adds = adds_weaker P Any old new adds (λ g es p. tt)
+
+pub goes_none : (told : Option History) → Adds told told Any
+goes_none told = goes_on (λ g es. es ≡ []) told told (adds_none told)
+
+pub goes_behind : (old mid new : Option History) → Adds old mid Any → Adds mid new Any → Adds old new Any
+goes_behind old mid new p q = adds_then Any Any Any old mid new p q (λ g h xs ys a b. tt)
 
 -- so a journal's places stay where they are
-pub placed_on : (p : Position) (old new : Option History) → IsNoShorter old new → IsPlaced p old → IsPlaced p new
-placed_on p old new longer is = record {
-  current = longer.keeps p.slot (least_bytes p.head) is.current;
-  other = longer.keeps (fresh_slot p) (least_bytes p.other) is.other;
-  gate = λ grows. longer.keeps p.slot (p.gate + 1) (is.gate grows);
-}
+pub placed_on : (p : Position) (old new : Option History) → Adds old new Any → IsPlaced p old → IsPlaced p new
+placed_on p old new on is =
+    let longer = longer_on Any old new on in
+    record {
+      current = longer.keeps p.slot (least_bytes p.head) is.current;
+      other = longer.keeps (fresh_slot p) (least_bytes p.other) is.other;
+      gate = λ grows. longer.keeps p.slot (p.gate + 1) (is.gate grows);
+    }

@@ -15,7 +15,7 @@ use Rattle.f2b_world.specs.declared.event.Event.TheVariants.{DiskSync, DiskWrite
 use Rattle.journal_slots.specs.Starts.{last_generation}
 use Rattle.journal_slots.specs.Tops.{Stored, meaning}
 use Rattle.record_fields.proofs.CodecLemmas.{split}
-use Rattle.run_law.specs.Loads.{view_by}
+use Rattle.reconcile.specs.Loads.{view_by}
 use Rattle.run_law.specs.Stops.{ComesTo, IsSettled, IsWrite, held_in}
 use Rattle.run_law.proofs.KeptLemmas.{IsFine, IsLive, alike_step, fine_back, fine_recorded, fine_step, steps_more}
 use Rattle.slot_writes.specs.Entries.{Written, Full, Spent, append_writes, appended, entry_of, fits, fresh_slot, need, turn_entry, turn_writes, turned}

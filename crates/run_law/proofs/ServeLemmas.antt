@@ -8,12 +8,13 @@ use Rattle.f2b_world.proofs.AddsLemmas.{adds_weaker}
 use Rattle.run_law.specs.Law.{Ends, Free, Halts, MayCome, begin, begin_with, feed, opening}
 use Rattle.run_law.specs.Points.{Run}
 use Rattle.run_law.specs.Served.{IsCaused, IsRun, KeepsInputs, PollsEachOnce, SaysInOrder, StartsInTurn}
-use Rattle.run_law.specs.Stages.{HasCause, Refuses}
-use Rattle.run_law.specs.Stops.{BeginsOn, HoldsThese, held_in}
+use Rattle.run_law.specs.Stages.{HasCause, IsSteady, Refuses}
+use Rattle.run_law.specs.Stops.{BeginsOn, held_in}
 use Rattle.run_law.specs.Words.{plan_of}
 use Rattle.run_law.specs.declared.plan.Plan.{Plan}
 use Rattle.run_law.specs.declared.status.Status.{Status}
 use Rattle.run_law.specs.declared.status.Status.TheVariants.{Stopped, TurnsSpent, WorkloadDone, Usage, ConfFault, ConfRefused, DiskFault, NotAJournal, JournalFull, GateFault, SinkFault, ConfTooLarge, PatternRefused, NumbersSpent, NoMemory}
+use Rattle.run_law.proofs.LongLemmas.{Any, goes_none}
 use Rattle.run_law.proofs.PointLemmas.{halts_here}
 use Rattle.run_law.proofs.PolledLemmas.{polls_each_once}
 use Rattle.run_law.proofs.SaidLemmas.{says_in_order}
@@ -32,24 +33,21 @@ halted words status g r last es is ends walk =
     let Q : Run → Type 0 = λ x. Ends status x in
     subst P (sym is) (walk.0, subst Q (sym walk.1) ends)
 
-obeyed : (old new : Option History) (words : List (List ℕ)) (status : Status) → ((slots : ℕ → List ℕ) → HoldsThese slots old → Halts old new (begin words slots) status)
+obeyed : (old new : Option History) (words : List (List ℕ)) (status : Status) → Adds old new Any → ((g : History) → old ≡ Some g → Halts old new (begin words (held_in g)) status)
     → Adds old new (λ g es. Obeyed words status g es)
-obeyed old None words status halts = tt
-obeyed None (Some h) words status halts =
-    let r : Halts None (Some h) (begin words (λ slot. [])) status = halts (λ slot. []) (record { each = λ g is. absurd (let e : None ≡ Some g = is in cc) }) in
+obeyed old None words status on halts = tt
+obeyed None (Some h) words status on halts = absurd (let e : None ≡ Some on.0 = on.2 in cc)
+obeyed (Some own) (Some h) words status on halts =
+    let r : Halts (Some own) (Some h) (begin words (held_in own)) status = halts own refl in
     let adds = r.goes.events in
-    absurd (let e : None ≡ Some adds.0 = adds.2 in cc)
-obeyed (Some own) (Some h) words status halts =
-    let same : (g : History) → Some own ≡ Some g → own ≡ g = λ g is. (let e : Some own ≡ Some g = is in cc) in
-    let r : Halts (Some own) (Some h) (begin words (held_in own)) status = halts (held_in own) (record { each = λ g is. ap held_in (same g is) }) in
-    let adds = r.goes.events in
-    let begins : begin words (held_in adds.0) ≡ begin words (held_in own) = ap (λ (g : History). begin words (held_in g)) (sym (same adds.0 adds.2)) in
+    let same : own ≡ adds.0 = (let e : Some own ≡ Some adds.0 = adds.2 in cc) in
+    let begins : begin words (held_in adds.0) ≡ begin words (held_in own) = ap (λ (g : History). begin words (held_in g)) (sym same) in
     (adds.0, adds.1, adds.2, adds.3, halted words status adds.0 (begin words (held_in own)) r.last adds.1 begins r.ends adds.4)
 
-pub run_is : (old new : Option History) (words : List (List ℕ)) (status : Status) → ((slots : ℕ → List ℕ) → HoldsThese slots old → Halts old new (begin words slots) status) → IsRun old new words status
-run_is old new words status halts =
+run_is : (old new : Option History) (words : List (List ℕ)) (status : Status) → Adds old new Any → ((g : History) → old ≡ Some g → Halts old new (begin words (held_in g)) status) → IsRun old new words status
+run_is old new words status on halts =
     let P = λ (g : History) (es : List Event). Obeyed words status g es in
-    let law = obeyed old new words status halts in
+    let law = obeyed old new words status on halts in
     record {
       law = law;
       lines = adds_weaker P (λ g es. SaysInOrder words (held_in g) status es) old new law (λ g es o. says_in_order words (held_in g) status g es o.0 o.1);
@@ -59,21 +57,21 @@ run_is old new words status halts =
     }
 
 -- a run that was planned
-pub run_planned : (old new : Option History) (words : List (List ℕ)) (plan : Plan) (status : Status) → plan_of words ≡ Some plan
-    → ((slots : ℕ → List ℕ) → HoldsThese slots old → Halts old new (opening plan slots) status) → IsRun old new words status
-run_planned old new words plan status is halts = run_is old new words status (λ slots holds.
-    let P : Run → Type 0 = λ r. Halts old new r status in
-    subst P (sym (ap (λ (o : Option Plan). begin_with o slots) is)) (halts slots holds))
+pub run_planned : (a b : Standing) (words : List (List ℕ)) (plan : Plan) (status : Status) → plan_of words ≡ Some plan → IsSteady a b
+    → ((g : History) → a.told ≡ Some g → Halts a.told b.told (opening plan (held_in g)) status) → IsRun a.told b.told words status
+run_planned a b words plan status is steady halts = run_is a.told b.told words status steady.history (λ g told.
+    let P : Run → Type 0 = λ r. Halts a.told b.told r status in
+    subst P (sym (ap (λ (o : Option Plan). begin_with o (held_in g)) is)) (halts g told))
 
 -- a run of words outside the table
-pub run_refused : (a b : Standing) (words : List (List ℕ)) (status : Status) → plan_of words ≡ None → Refuses a b 0 Usage status → IsRun a.told b.told words status
-run_refused a b words status is refuses = run_is a.told b.told words status (λ slots holds.
+pub run_refused : (a b : Standing) (words : List (List ℕ)) (status : Status) → plan_of words ≡ None → IsSteady a b → Refuses a b 0 Usage status → IsRun a.told b.told words status
+run_refused a b words status is steady refuses = run_is a.told b.told words status steady.history (λ g told.
     let P : Run → Type 0 = λ r. Halts a.told b.told r status in
-    subst P (sym (ap (λ (o : Option Plan). begin_with o slots) is)) (refuses.runs (opening (record { root = []; turns = 0; limit = 0 }) slots) (record { written = refl; paid = refl })))
+    subst P (sym (ap (λ (o : Option Plan). begin_with o (held_in g)) is)) (refuses.runs (opening (record { root = []; turns = 0; limit = 0 }) (held_in g)) (record { written = refl; paid = refl })))
 
 -- memory may run out before anything happens
 pub run_memory : (s : Standing) (words : List (List ℕ)) → IsRun s.told s.told words NoMemory
-run_memory s words = run_is s.told s.told words NoMemory (λ slots holds. halts_here s.told (begin words slots))
+run_memory s words = run_is s.told s.told words NoMemory (goes_none s.told) (λ g told. halts_here s.told (begin words (held_in g)))
 
 -- the cause of a run is that of its end behind the words
 pub caused : (words : List (List ℕ)) (old new : Standing) (status : Status) → HasCause old new status → IsCaused words old new status

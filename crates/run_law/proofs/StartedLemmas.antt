@@ -30,7 +30,7 @@ use Rattle.run_law.specs.Calls.{Call, AskKill, AskPoll, IsNext}
 use Rattle.run_law.specs.Children.{checked_first, startable}
 use Rattle.run_law.specs.Clock.{tick_news}
 use Rattle.run_law.specs.Law.{Free, MayCome, begin, begin_with, call_of, feed, moved, point_call, turns}
-use Rattle.run_law.specs.Loads.{Loaded, loaded}
+use Rattle.reconcile.specs.Loads.{Loaded, loaded}
 use Rattle.run_law.specs.Looks.{log_call, look_news, look_taken, looked, looked_at, now_is, unread_news}
 use Rattle.run_law.specs.News.{News, after_news, brings}
 use Rattle.run_law.specs.Paths.{Path, Naming, first_naming, named, with_paths}

@@ -48,7 +48,7 @@ use Rattle.run_law.specs.Calls.{AskWrite, Call, IsNext, Makes}
 use Rattle.run_law.specs.Clock.{tick_news}
 use Rattle.run_law.specs.Disk.{IsLoading, broken, measured, piece_read}
 use Rattle.run_law.specs.Law.{Ends, Free, IsOver, MayCome, begin, begin_with, call_behind, call_of, feed, moved, next_call, turns}
-use Rattle.run_law.specs.Loads.{Loaded, loaded, loaded_as, view_after}
+use Rattle.reconcile.specs.Loads.{Loaded, loaded, loaded_as, view_after}
 use Rattle.run_law.specs.Looks.{look_news, look_taken, looked, looked_at, now_is, unread_news}
 use Rattle.run_law.specs.News.{News, brings, brings_by, entered, entering, goes_to, inputs_of, owing, refused, said_number, taking, writing}
 use Rattle.run_law.specs.Paths.{Naming, Path, first_naming, named, with_paths}

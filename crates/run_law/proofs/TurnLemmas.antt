@@ -40,7 +40,7 @@ use Rattle.run_law.specs.Children.{checked_first, startable}
 use Rattle.run_law.specs.Clock.{tick_news}
 use Rattle.run_law.specs.Disk.{IsLoading, broken, measured, piece_read, synced, wrote}
 use Rattle.run_law.specs.Law.{Free, Ends, IsOver, MayCome, call_behind, call_of, feed, moved, opening, point_call, turns}
-use Rattle.run_law.specs.Loads.{Loaded, loaded}
+use Rattle.reconcile.specs.Loads.{Loaded, loaded}
 use Rattle.run_law.specs.Looks.{log_call, look_news, look_taken, looked, looked_at, now_is, unread_news}
 use Rattle.run_law.specs.News.{News, after_news, brings, goes_to, refused, server_after, writing}
 use Rattle.run_law.specs.Patterns.{Pattern, patterns_of}

@@ -7,7 +7,6 @@ pub mod Paths
 pub mod Changes
 pub mod Logs
 pub mod Children
-pub mod Loads
 pub mod Server
 pub mod Points
 pub mod Calls

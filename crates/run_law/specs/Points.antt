@@ -7,7 +7,7 @@ use Rattle.std.specs.Prelude.{ℕ, List, Option}
 use Rattle.f2b_base.specs.declared.input.Input.{Input}
 use Rattle.child_table.specs.declared.child.Child.{Child}
 use Rattle.jail_conf.specs.declared.settings.Settings.{Settings}
-use Rattle.run_law.specs.Loads.{Loaded}
+use Rattle.reconcile.specs.Loads.{Loaded}
 use Rattle.run_law.specs.Paths.{Naming}
 use Rattle.run_law.specs.Patterns.{Pattern}
 use Rattle.run_law.specs.Server.{Server}

@@ -14,7 +14,7 @@ use Rattle.f2b_model.specs.Views.{view_of}
 use Rattle.f2b_model.specs.Whole.{State, step, told, is_whole_spent}
 use Rattle.child_table.specs.Children.{Children, nobody}
 use Rattle.log_set.specs.Logs.{LogJail, Watching}
-use Rattle.run_law.specs.Loads.{Loaded}
+use Rattle.reconcile.specs.Loads.{Loaded}
 use Rattle.run_law.specs.Logs.{log_jail, logs_of}
 use Rattle.run_law.specs.Said.{lines_of}
 use Rattle.slot_writes.specs.Entries.{Entry, Written, Full, Spent, entry_of}

@@ -3,8 +3,7 @@ use Rattle.std.specs.Prelude.{ℕ, ◌≡◌, ◌≤◌, ◌++◌, ◌⊎◌, Li
 use Rattle.f2b_base.specs.declared.outside.Tree.{Tree}
 use Rattle.f2b_world.specs.Faults.{Fault, OfSink, OfDisk, OfConfiguration, OfPatterns, Rose}
 use Rattle.f2b_world.specs.Reading.{reading}
-use Rattle.f2b_world.specs.Told.{Standing}
-use Rattle.ban_journal.specs.Places.{IsNoShorter}
+use Rattle.f2b_world.specs.Told.{Adds, Standing}
 use Rattle.filter_regex.specs.declared.error.BuildKind.TheVariants.{Syntax, TooBig}
 use Rattle.filter_regex.specs.declared.error.PatternPlace.{PatternPlace}
 use Rattle.jail_conf.specs.Conf.{conf}
@@ -64,10 +63,10 @@ pub record Refuses (old new : Standing) (now : ℕ) (refusal status : Status) : 
 
 -- ---- causes
 
--- no count of faults fell, and no slot got shorter
+-- no count of faults fell, and the history went on
 pub record IsSteady (old new : Standing) : Type 0 where
   pub counts : (kind : Fault) → old.faults kind ≤ new.faults kind
-  pub longer : IsNoShorter old.told new.told
+  pub history : Adds old.told new.told (λ g es. Unit {0})
 
 -- a tree defines a jail with this pattern at this place, and its text has no reading
 pub record IsNoPattern (jail : List ℕ) (place : PatternPlace) : Type 0 where

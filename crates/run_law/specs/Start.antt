@@ -17,7 +17,7 @@ use Rattle.jail_conf.specs.declared.conf_error.ConfError.{ConfError}
 use Rattle.jail_conf.specs.declared.settings.Settings.{Settings}
 use Rattle.run_law.specs.Calls.{Call, AskMake, AskNames, AskStore}
 use Rattle.run_law.specs.Changes.{config_changes}
-use Rattle.run_law.specs.Loads.{Loaded, loaded}
+use Rattle.reconcile.specs.Loads.{Loaded, loaded}
 use Rattle.run_law.specs.News.{News, brings, goes_to, refused}
 use Rattle.run_law.specs.Paths.{Path, Naming, directory, first_naming, named, with_paths}
 use Rattle.run_law.specs.Patterns.{Pattern, patterns_of}

@@ -8,7 +8,7 @@ use Rattle.f2b_world.specs.declared.event.Event.{Event}
 use Rattle.f2b_world.specs.declared.event.Event.TheVariants.{DiskWrite, DiskSync}
 use Rattle.journal_slots.specs.Tops.{Stored, meaning}
 use Rattle.record_fields.specs.Codec.{IsBytes, IsHeld}
-use Rattle.run_law.specs.Loads.{view_after, view_by}
+use Rattle.reconcile.specs.Loads.{view_after, view_by}
 use Rattle.run_law.specs.News.{inputs_of}
 use Rattle.run_law.specs.Points.{Point, Over, Run}
 use Rattle.run_law.specs.declared.status.Status.{Status}

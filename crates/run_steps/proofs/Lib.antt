@@ -1,4 +1,5 @@
 pub mod ToldLemmas
+pub mod StoredLemmas
 pub mod WriteLemmas
 pub mod BringLemmas
 pub mod ConfigLemmas

@@ -24,7 +24,7 @@ use Rattle.run_law.specs.Stages.{IsRefusedAs, IsSteady, IsUnsaid, Refuses}
 use Rattle.run_law.specs.declared.status.Status.{Status}
 use Rattle.run_law.specs.declared.status.Status.TheVariants.{Stopped as StoppedRun, TurnsSpent, WorkloadDone, Usage, ConfFault, ConfRefused, DiskFault, NotAJournal, JournalFull, GateFault, SinkFault, ConfTooLarge, PatternRefused, NumbersSpent, NoMemory}
 use Rattle.run_law.proofs.CauseLemmas.{cause_by_then, cause_later, steady_refl}
-use Rattle.run_law.proofs.LongLemmas.{longer_on}
+use Rattle.run_law.proofs.LongLemmas.{goes_on}
 use Rattle.run_law.proofs.PointLemmas.{halts_here}
 use Rattle.run_law.proofs.StageLemmas.{fails_broken, fails_full, fails_short, fails_spent}
 use Rattle.run_steps.specs.Keeping.{IsStorableAt, IsTimedAlike, IsUnbrought, KeepsClocked, entry_at, input_of, news_of}
@@ -85,7 +85,7 @@ short_by limit Spent a b (why, still) = inr still
 -- ---- counts and slots
 
 beside_steady : (a b : Standing) (P : History → List Event → Type 0) → IsBeside a b → Adds a.told b.told P → IsSteady a b
-beside_steady a b P beside adds = record { counts = beside.steady; longer = longer_on P a.told b.told adds }
+beside_steady a b P beside adds = record { counts = beside.steady; history = goes_on P a.told b.told adds }
 
 still_steady : (a b : Standing) → b ≡ a → IsSteady a b
 still_steady a b still =

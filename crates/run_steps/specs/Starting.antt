@@ -7,7 +7,7 @@ use Rattle.f2b_world.specs.Told.{Standing, Adds}
 use Rattle.reconcile.specs.Engines.{EngineNow}
 use Rattle.reconcile.specs.Laws.{ChangesNoSlot}
 use Rattle.run_law.specs.Law.{Goes, Halts}
-use Rattle.run_law.specs.Loads.{Loaded}
+use Rattle.reconcile.specs.Loads.{Loaded}
 use Rattle.run_law.specs.Points.{Point, Run}
 use Rattle.run_law.specs.Stages.{IsAt}
 use Rattle.run_law.specs.declared.plan.Plan.{Plan}

@@ -57,7 +57,7 @@ fn read<'f, W: World>(world: &mut W, running: Running<'f>) -> Running<'f>
 }
 
 // Takes a tick, which ends the bans that are due.
-#[tactic(auto, using(crate::proofs::ClockLemmas::ticking, run_steps::proofs::BringLemmas::unbrought_cause, run_law::proofs::CauseLemmas::counting))]
+#[tactic(auto, using(crate::proofs::ClockLemmas::ticking, run_steps::proofs::BringLemmas::unbrought_cause, run_steps::proofs::StoredLemmas::storing, run_law::proofs::CauseLemmas::counting))]
 fn tick<'f, W: World + Disk>(
     alloc: Global,
     world: &mut W,

@@ -38,10 +38,11 @@ pub fn pause<'f, W: Time>(world: &mut W, running: Running<'f>) -> Running<'f>
 }
 
 /// The pause of the last turn, which ends the run.
-#[tactic(auto, using(crate::proofs::PauseLemmas::pausing))]
+#[tactic(auto, using(crate::proofs::PauseLemmas::pausing, run_law::proofs::CauseLemmas::counting))]
 pub fn last_pause<W: Time>(world: &mut W, running: Running<'_>)
     requires { running.left ≡ 1 }
-    ensures { MoveFails KeepsRunning (W.stands world.old) (W.stands world.new) to_end running.entry AllTurns }
+    ensures fails { MoveFails KeepsRunning (W.stands world.old) (W.stands world.new) to_end running.entry AllTurns }
+    ensures steady { IsSteady (W.stands world.old) (W.stands world.new) }
 {
     let _running = running;
     world.pause(PAUSE);

@@ -96,7 +96,7 @@ fn turn<'f, W: World + Children + Disk>(
 }
 
 // The last turn.
-#[tactic(auto, using(crate::proofs::TurnLemmas::turning))]
+#[tactic(auto, using(crate::proofs::TurnLemmas::turning, run_law::proofs::CauseLemmas::counting))]
 fn last_turn<W: World + Children + Disk>(
     alloc: Global,
     world: &mut W,
@@ -107,6 +107,7 @@ fn last_turn<W: World + Children + Disk>(
     ensures ok { OnOk result (MoveFails KeepsRunning (W.stands world.old) (W.stands world.new) at_clock running.entry AllTurns) }
     ensures err { IfErr result (MoveFails KeepsRunning (W.stands world.old) (W.stands world.new) at_clock running.entry) }
     ensures cause { IfErr result (HasCause (W.stands world.old) (W.stands world.new)) }
+    ensures steady { IsSteady (W.stands world.old) (W.stands world.new) }
 {
     let running = work(alloc, world, running)?;
     last_pause(world, running);
@@ -125,6 +126,7 @@ pub fn make_turns<W: World + Children + Disk>(
     ensures ok { OnOk result (MoveFails KeepsRunning (W.stands world.old) (W.stands world.new) at_clock first.entry AllTurns) }
     ensures err { IfErr result (MoveFails KeepsRunning (W.stands world.old) (W.stands world.new) at_clock first.entry) }
     ensures cause { IfErr result (HasCause (W.stands world.old) (W.stands world.new)) }
+    ensures steady { IsSteady (W.stands world.old) (W.stands world.new) }
 {
     let mut running = first;
     while running.left > 1 {

@@ -1,3 +1,4 @@
+pub mod AnswerLemmas
 pub mod ReadLemmas
 pub mod WindowLemmas
 pub mod LeftLemmas

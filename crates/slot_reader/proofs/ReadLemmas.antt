@@ -1,18 +1,16 @@
 -- What calls that read the disk tell, one behind the other.
-use Rattle.std.proofs.Common.{ℕ, ◌≡◌, ◌≢◌, Option, Some, None, List, [], ◌∷◌, ◌++◌, length, take, drop, refl, sym, ap, subst, ◌∙◌, arith}
+use Rattle.std.proofs.Common.{ℕ, ◌≡◌, ◌≢◌, ◌<◌, Bool, true, false, Option, Some, None, IfSome, List, [], ◌∷◌, ◌++◌, length, take, drop, append_assoc, refl, sym, ap, subst, ◌∙◌, arith}
 use Rattle.std.proofs.lemmas.Option.{none-some, same_Some}
-use Rattle.f2b_world.specs.declared.answer.Len.{Len}
 use Rattle.f2b_world.specs.declared.answer.Len.TheVariants.{Bytes as LenBytes, Failed as LenFailed}
 use Rattle.f2b_world.specs.declared.answer.Piece.TheVariants.{Bytes as PieceBytes, Failed as PieceFailed}
 use Rattle.f2b_world.specs.declared.event.Event.{Event}
 use Rattle.f2b_world.specs.declared.event.Event.TheVariants.{DiskLen, DiskRead}
-use Rattle.f2b_world.specs.Faults.{Fault as Kind, OfDisk}
+use Rattle.f2b_world.specs.Faults.{Fault as Kind, OfDisk, Rose}
 use Rattle.f2b_world.specs.Slots.{Slot, slot_step, slot_after, settled}
-use Rattle.f2b_world.specs.Told.{History, Standing, Called, Adds, IsHonest, grown, slot_of}
+use Rattle.f2b_world.specs.Told.{History, Standing, Called, Adds, IsHonest, fault_of, grown, slot_of}
 use Rattle.f2b_world.proofs.AddsLemmas.{adds_weaker, adds_then, adds_none}
-use Rattle.slot_reader.specs.declared.fault.Fault.{Fault}
-use Rattle.slot_reader.specs.declared.fault.Fault.TheVariants.{Disk, NoMemory}
-use Rattle.slot_reader.specs.Reads.{AreReads, OnlyReads, Tells, IsAllOf, IsPieceAt}
+use Rattle.slot_reader.proofs.AnswerLemmas.{answers_call, answers_none, answers_then}
+use Rattle.slot_reader.specs.Reads.{IsDone, IsFailed, AreDone, AreReads, CountsFault, OnlyReads, IsAllOf, IsPieceAt}
 
 -- ---- no slot changes
 
@@ -20,18 +18,35 @@ after-append : (k : ℕ) (s : Slot) (es fs : List Event) → slot_after k s (es 
 after-append k s [] fs = refl
 after-append k s (e ∷ es) fs = after-append k (slot_step k s e) es fs
 
-reads_keep : (k : ℕ) (s : Slot) (es : List Event) → AreReads es → slot_after k s es ≡ s
-reads_keep k s [] h = refl
-reads_keep k s (DiskLen slot answer ∷ es) h = reads_keep k s es h
-reads_keep k s (DiskRead slot at len answer ∷ es) h = reads_keep k s es h
-reads_keep k s (_ ∷ es) h = absurd h
+done_still : (k : ℕ) (s : Slot) (e : Event) → IsDone e → slot_step k s e ≡ s
+done_still k s (DiskLen slot answer) h = refl
+done_still k s (DiskRead slot at len answer) h = refl
+done_still k s _ h = absurd h
+
+failed_still : (k : ℕ) (s : Slot) (e : Event) → IsFailed e → slot_step k s e ≡ s
+failed_still k s (DiskLen slot answer) h = refl
+failed_still k s (DiskRead slot at len answer) h = refl
+failed_still k s _ h = absurd h
+
+done_keep : (k : ℕ) (s : Slot) (es : List Event) → AreDone es → slot_after k s es ≡ s
+done_keep k s [] h = refl
+done_keep k s (e ∷ es) h = ap (λ (t : Slot). slot_after k t es) (done_still k s e h.0) ∙ done_keep k s es h.1
+
+reads_keep : (failed : Bool) (k : ℕ) (s : Slot) (es : List Event) → AreReads failed es → slot_after k s es ≡ s
+reads_keep false k s es h = done_keep k s es h
+reads_keep true k s es h =
+    ap (slot_after k s) h.parts ∙ after-append k s h.first (h.one ∷ []) ∙ ap (λ (t : Slot). slot_after k t (h.one ∷ [])) (done_keep k s h.first h.done) ∙ failed_still k s h.one h.failed
+
+-- Reads change no slot.
+pub slots_kept : (failed : Bool) (k : ℕ) (g : History) (es : List Event) → AreReads failed es → slot_of (grown g es) k ≡ slot_of g k
+slots_kept failed k g es h = after-append k (settled (g.first k)) g.events es ∙ reads_keep failed k (slot_of g k) es h
 
 -- the slots are those of a history before, by whose end as much was told
-pub told_before : (old new : Option History) → Adds old new (λ g es. AreReads es) → (h : History) → new ≡ Some h → (g : History) × (old ≡ Some g) × ((k : ℕ) → slot_of h k ≡ slot_of g k)
-told_before old None adds h is = absurd (none-some h is)
-told_before old (Some j) adds h is =
+pub told_before : (failed : Bool) (old new : Option History) → Adds old new (λ g es. AreReads failed es) → (h : History) → new ≡ Some h → (g : History) × (old ≡ Some g) × ((k : ℕ) → slot_of h k ≡ slot_of g k)
+told_before failed old None adds h is = absurd (none-some h is)
+told_before failed old (Some j) adds h is =
     let same : h ≡ grown adds.0 adds.1 = sym (same_Some j h is) ∙ adds.3 in
-    (adds.0, adds.2, λ k. ap (λ (r : History). slot_of r k) same ∙ after-append k (settled (adds.0.first k)) adds.0.events adds.1 ∙ reads_keep k (slot_of adds.0 k) adds.1 adds.4)
+    (adds.0, adds.2, λ k. ap (λ (r : History). slot_of r k) same ∙ slots_kept failed k adds.0 adds.1 adds.4)
 
 -- ---- one call
 
@@ -41,85 +56,103 @@ none_is kind e = none-some kind e
 disk_is_not : (kind : Kind) → kind ≢ OfDisk → Some OfDisk ≢ Some kind
 disk_is_not kind other e = other (sym (same_Some OfDisk kind e))
 
-len_read : (slot : ℕ) (answer : Len) (a b : Standing) → Called a (DiskLen slot answer) b → Adds a.told b.told (λ g es. AreReads es)
-len_read slot answer a b call = adds_weaker _ (λ g es. AreReads es) a.told b.told call.adds (λ g es is. subst AreReads (sym is.0) tt)
+-- a call that was answered
+call_done : (e : Event) (a b : Standing) → IsDone e → fault_of e ≡ None → Called a e b → OnlyReads false a b
+call_done e a b done no_fault call =
+    let still : (kind : Kind) → b.faults kind ≡ a.faults kind = λ kind. call.counts.still kind (λ is. none_is kind (sym no_fault ∙ is)) in
+    record {
+      events = adds_weaker _ (λ g es. AreReads false es) a.told b.told call.adds (λ g es is. subst AreDone (sym is.0) (done, tt));
+      answers = answers_call e a b call;
+      leaves = call.leaves;
+      steady = call.counts.steady;
+      still = λ kind other. still kind;
+      counted = still OfDisk;
+    }
 
-pub len_done : (slot long : ℕ) (a b : Standing) → Called a (DiskLen slot (LenBytes long)) b → OnlyReads a b
-len_done slot long a b call = record { events = len_read slot (LenBytes long) a b call; leaves = call.leaves; steady = call.counts.steady; still = λ kind other. call.counts.still kind (none_is kind) }
-
-pub len_failed : (slot : ℕ) (a b : Standing) → Called a (DiskLen slot LenFailed) b → OnlyReads a b
-len_failed slot a b call = record { events = len_read slot LenFailed a b call; leaves = call.leaves; steady = call.counts.steady; still = λ kind other. call.counts.still kind (disk_is_not kind other) }
-
-pub read_done : (slot at len : ℕ) (piece : List ℕ) (a b : Standing) → Called a (DiskRead slot at len (PieceBytes piece)) b → OnlyReads a b
-read_done slot at len piece a b call = record {
-  events = adds_weaker _ (λ g es. AreReads es) a.told b.told call.adds (λ g es is. subst AreReads (sym is.0) tt);
+-- a call that failed
+call_failed : (e : Event) (a b : Standing) → IsFailed e → fault_of e ≡ Some OfDisk → Called a e b → OnlyReads true a b
+call_failed e a b failed fault call = record {
+  events = adds_weaker _ (λ g es. AreReads true es) a.told b.told call.adds (λ g es is. record { first = []; one = e; parts = is.0; done = tt; failed = failed });
+  answers = answers_call e a b call;
   leaves = call.leaves;
   steady = call.counts.steady;
-  still = λ kind other. call.counts.still kind (none_is kind);
+  still = λ kind other. call.counts.still kind (λ is. disk_is_not kind other (sym fault ∙ is));
+  counted = subst (λ (o : Option Kind). IfSome o (λ kind. Rose (a.faults kind) (b.faults kind))) fault call.counts.cause;
 }
 
-pub read_failed : (slot at len : ℕ) (a b : Standing) → Called a (DiskRead slot at len PieceFailed) b → OnlyReads a b
-read_failed slot at len a b call = record {
-  events = adds_weaker _ (λ g es. AreReads es) a.told b.told call.adds (λ g es is. subst AreReads (sym is.0) tt);
-  leaves = call.leaves;
-  steady = call.counts.steady;
-  still = λ kind other. call.counts.still kind (disk_is_not kind other);
-}
+pub len_done : (slot long : ℕ) (a b : Standing) → slot < 2 → Called a (DiskLen slot (LenBytes long)) b → OnlyReads false a b
+len_done slot long a b small call = call_done (DiskLen slot (LenBytes long)) a b small refl call
 
-pub reads_none : (a b : Standing) → b ≡ a → OnlyReads a b
-reads_none a b is = subst (OnlyReads a) (sym is) (record {
-  events = adds_weaker _ (λ g es. AreReads es) a.told a.told (adds_none a.told) (λ g es is. subst AreReads (sym is) tt);
+pub len_failed : (slot : ℕ) (a b : Standing) → slot < 2 → Called a (DiskLen slot LenFailed) b → OnlyReads true a b
+len_failed slot a b small call = call_failed (DiskLen slot LenFailed) a b small refl call
+
+pub read_done : (slot at len : ℕ) (piece : List ℕ) (a b : Standing) → slot < 2 → Called a (DiskRead slot at len (PieceBytes piece)) b → OnlyReads false a b
+read_done slot at len piece a b small call = call_done (DiskRead slot at len (PieceBytes piece)) a b small refl call
+
+pub read_failed : (slot at len : ℕ) (a b : Standing) → slot < 2 → Called a (DiskRead slot at len PieceFailed) b → OnlyReads true a b
+read_failed slot at len a b small call = call_failed (DiskRead slot at len PieceFailed) a b small refl call
+
+pub reads_none : (a b : Standing) → b ≡ a → OnlyReads false a b
+reads_none a b is = subst (OnlyReads false a) (sym is) (record {
+  events = adds_weaker _ (λ g es. AreReads false es) a.told a.told (adds_none a.told) (λ g es is. subst AreDone (sym is) tt);
+  answers = answers_none a.told;
   leaves = record { talk = refl; shelf = refl };
   steady = λ kind. omega arith;
   still = λ kind other. refl;
+  counted = refl;
 })
 
--- what an event tells that reads, it tells of the slots as they are behind it
-told_by : (e : Event) (P : History → Type 0) (old new : Option History) → AreReads (e ∷ []) → Adds old new (λ g es. (es ≡ e ∷ []) × P g) → (h : History) → new ≡ Some h → (g : History) × P g × ((k : ℕ) → slot_of h k ≡ slot_of g k)
-told_by e P old None reads adds h is = absurd (none-some h is)
-told_by e P old (Some j) reads adds h is =
+-- what an event tells that was answered, it tells of the slots as they are behind it
+told_by : (e : Event) (P : History → Type 0) (old new : Option History) → IsDone e → Adds old new (λ g es. (es ≡ e ∷ []) × P g) → (h : History) → new ≡ Some h → (g : History) × P g × ((k : ℕ) → slot_of h k ≡ slot_of g k)
+told_by e P old None done adds h is = absurd (none-some h is)
+told_by e P old (Some j) done adds h is =
     let same : h ≡ grown adds.0 adds.1 = sym (same_Some j h is) ∙ adds.3 in
-    (adds.0, adds.4.1, λ k. ap (λ (r : History). slot_of r k) same ∙ after-append k (settled (adds.0.first k)) adds.0.events adds.1 ∙ reads_keep k (slot_of adds.0 k) adds.1 (subst AreReads (sym adds.4.0) reads))
+    (adds.0, adds.4.1, λ k. ap (λ (r : History). slot_of r k) same ∙ slots_kept false k adds.0 adds.1 (subst AreDone (sym adds.4.0) (done, tt)))
 
-pub len_told : (slot long : ℕ) (a b : Standing) → Called a (DiskLen slot (LenBytes long)) b → IsAllOf slot long b.told
-len_told slot long a b call h is =
+pub len_told : (slot long : ℕ) (a b : Standing) → slot < 2 → Called a (DiskLen slot (LenBytes long)) b → IsAllOf slot long b.told
+len_told slot long a b small call h is =
     let e = DiskLen slot (LenBytes long) in
-    let t = told_by e (λ g. IsHonest g e) a.told b.told tt call.adds h is in
+    let t = told_by e (λ g. IsHonest g e) a.told b.told small call.adds h is in
     t.1 ∙ ap (λ (s : Slot). length s.now) (sym (t.2 slot))
 
-pub read_told : (slot at len : ℕ) (piece : List ℕ) (a b : Standing) → Called a (DiskRead slot at len (PieceBytes piece)) b → IsPieceAt slot at len piece b.told
-read_told slot at len piece a b call h is =
+pub read_told : (slot at len : ℕ) (piece : List ℕ) (a b : Standing) → slot < 2 → Called a (DiskRead slot at len (PieceBytes piece)) b → IsPieceAt slot at len piece b.told
+read_told slot at len piece a b small call h is =
     let e = DiskRead slot at len (PieceBytes piece) in
-    let t = told_by e (λ g. IsHonest g e) a.told b.told tt call.adds h is in
+    let t = told_by e (λ g. IsHonest g e) a.told b.told small call.adds h is in
     t.1 ∙ ap (λ (s : Slot). take len (drop at s.now)) (sym (t.2 slot))
 
-pub fault_told : (slot : ℕ) (a b : Standing) → Called a (DiskLen slot LenFailed) b → Tells Disk a b
-fault_told slot a b call = call.counts.cause
-
-pub fault_read : (slot at len : ℕ) (a b : Standing) → Called a (DiskRead slot at len PieceFailed) b → Tells Disk a b
-fault_read slot at len a b call = call.counts.cause
-
-pub ruleset reads = (len_done, len_failed, len_told, fault_told, read_done, read_failed, read_told, fault_read, reads_none)
+pub ruleset reads = (len_done, len_failed, len_told, read_done, read_failed, read_told, reads_none)
 
 -- ---- calls behind calls
 
-reads_on : (es fs : List Event) → AreReads es → AreReads fs → AreReads (es ++ fs)
-reads_on [] fs p q = q
-reads_on (DiskLen slot answer ∷ es) fs p q = reads_on es fs p q
-reads_on (DiskRead slot at len answer ∷ es) fs p q = reads_on es fs p q
-reads_on (_ ∷ es) fs p q = absurd p
+done_on : (es fs : List Event) → AreDone es → AreDone fs → AreDone (es ++ fs)
+done_on [] fs p q = q
+done_on (e ∷ es) fs p q = (p.0, done_on es fs p.1 q)
 
-pub reads_same : (a : Standing) → OnlyReads a a
+reads_on : (failed : Bool) (es fs : List Event) → AreDone es → AreReads failed fs → AreReads failed (es ++ fs)
+reads_on false es fs p q = done_on es fs p q
+reads_on true es fs p q = record {
+  first = es ++ q.first;
+  one = q.one;
+  parts = ap (λ (r : List Event). es ++ r) q.parts ∙ sym (append_assoc es q.first (q.one ∷ []));
+  done = done_on es q.first p q.done;
+  failed = q.failed;
+}
+
+counted_on : (failed : Bool) (a b c : Standing) → CountsFault false a b → CountsFault failed b c → CountsFault failed a c
+counted_on false a b c p q = q ∙ p
+counted_on true a b c p q = subst (λ (n : ℕ). Rose n (c.faults OfDisk)) p q
+
+pub reads_same : (a : Standing) → OnlyReads false a a
 reads_same a = reads_none a a refl
 
-pub reads_then : (a b c : Standing) → OnlyReads a b → OnlyReads b c → OnlyReads a c
-reads_then a b c p q = record {
-  events = adds_then (λ g es. AreReads es) (λ g es. AreReads es) (λ g es. AreReads es) a.told b.told c.told p.events q.events (λ g h xs ys x y. reads_on xs ys x y);
+-- What was answered goes before what follows.
+pub reads_then : (failed : Bool) (a b c : Standing) → OnlyReads false a b → OnlyReads failed b c → OnlyReads failed a c
+reads_then failed a b c p q = record {
+  events = adds_then (λ g es. AreReads false es) (λ g es. AreReads failed es) (λ g es. AreReads failed es) a.told b.told c.told p.events q.events (λ g h xs ys x y. reads_on failed xs ys x y);
+  answers = answers_then a.told b.told c.told p.answers q.answers;
   leaves = record { talk = q.leaves.talk ∙ p.leaves.talk; shelf = q.leaves.shelf ∙ p.leaves.shelf };
   steady = λ kind. omega (arith, p.steady kind, q.steady kind);
   still = λ kind other. q.still kind other ∙ p.still kind other;
+  counted = counted_on failed a b c p.counted q.counted;
 }
-
-pub tells_then : (a b c : Standing) (fault : Fault) → OnlyReads a b → Tells fault b c → Tells fault a c
-tells_then a b c Disk p rose = let steady = p.steady OfDisk in grind (arith, steady, rose)
-tells_then a b c NoMemory p rose = tt

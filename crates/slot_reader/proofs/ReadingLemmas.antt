@@ -1,8 +1,10 @@
 -- What a reader of a slot gives, and what is known of the slot then.
-use Rattle.std.proofs.Common.{ℕ, ◌≡◌, ◌+◌, ◌-◌, ◌<◌, ◌≤◌, ◌^◌, inl, inr, Option, Some, None, List, [], ◌∷◌, ◌++◌, length, take, drop, Ok, Err, length-append, refl, sym, ap, ap₂, ◌∙◌, subst, arith}
+use Rattle.std.proofs.Common.{ℕ, Bool, ◌≡◌, ◌+◌, ◌-◌, ◌<◌, ◌≤◌, ◌^◌, inl, inr, Option, Some, None, List, [], ◌∷◌, ◌++◌, length, take, drop, Ok, Err, length-append, refl, sym, ap, ap₂, ◌∙◌, subst, arith}
 use Rattle.std.proofs.lemmas.Option.{none-some, same_Some}
 use Rattle.f2b_base.specs.declared.input.Input.{Input}
 use Rattle.f2b_base.specs.declared.view.View.{View}
+use Rattle.f2b_model.specs.Storable.{IsStorableInput}
+use Rattle.f2b_model.specs.StorableViews.{IsStorableView}
 use Rattle.f2b_world.specs.Slots.{Slot}
 use Rattle.f2b_world.specs.Told.{History, Standing}
 use Rattle.journal_slots.specs.declared.head.Head.TheVariants.{Short, Shut}
@@ -31,7 +33,8 @@ use Rattle.slot_reader.specs.Readings.{start_of, HasRead, EndsAt, Reads, TellsNe
 use Rattle.slot_reader.specs.Versions.{spelling}
 use Rattle.slot_reader.specs.Windows.{Window, IsWithin, IsWhole, IsOver, Shows, IsAtPlaceOf}
 use Rattle.slot_reader.proofs.GrammarLemmas.{input_more, input_closed, input_missing, input_bad, start_shut, shut_head, start_opens, start_is_bad}
-use Rattle.slot_reader.proofs.ReadLemmas.{told_before, reads_same, reads_then, tells_then}
+use Rattle.slot_reader.proofs.ReadLemmas.{told_before, reads_same, reads_then}
+use Rattle.slot_reader.proofs.RecordLemmas.{input_storable, start_storable}
 use Rattle.slot_reader.proofs.WindowLemmas.{over_moved}
 
 -- ---- how long an item is
@@ -48,16 +51,24 @@ bad_within version bytes at (inr some) = omega (arith, some.6)
 pub opens_within : (bytes : List ℕ) (b : Begun) (len : ℕ) → IsLead bytes (Opens b len) → len ≤ length bytes
 opens_within bytes b len is = let long = ap length is.4 in omega (arith, long, length-append (start.spell (start_in b)) is.1, is.5)
 
+-- ---- what was read can be stored
+
+pub taken_storable : (version : Version) (bytes : List ℕ) (i : Input) (len : ℕ) → IsItem (spelling version) bytes (Taken i len) → IsStorableInput i
+taken_storable version bytes i len is = input_storable (spelling version) i is.3
+
+pub opens_storable : (bytes : List ℕ) (b : Begun) (len : ℕ) → IsLead bytes (Opens b len) → IsStorableView b.view
+opens_storable bytes b len is = start_storable (start_in b) is.3
+
 -- ---- the next input
 
-module _ (r : SlotReader) (w : Window) (a b : Standing) (reads : OnlyReads a b) (same : IsAtPlaceOf r.shown w) (shows : Shows w b.told) where
+module _ (failed : Bool) (r : SlotReader) (w : Window) (a b : Standing) (reads : OnlyReads failed a b) (same : IsAtPlaceOf r.shown w) (shows : Shows w b.told) where
   abbrev here : SlotReader
   here = record r { shown = w }
 
   -- what was read stays read while the disk is read and more is shown
   pub reads_kept : (v : View) (inputs : List Input) → Reads r v inputs a.told → Reads here v inputs b.told
   reads_kept v inputs given h is =
-      let t = told_before a.told b.told reads.events h is in
+      let t = told_before failed a.told b.told reads.events h is in
       let slots : content h w.slot ≡ content t.0 r.shown.slot = ap (content h) same.slot ∙ ap (λ (s : Slot). s.now) (t.2 r.shown.slot) in
       let old : HasRead r v inputs (content h w.slot) = subst (HasRead r v inputs) (sym slots) (given t.0 t.1) in
       let P : ℕ → Type 0 = λ p. IsFront (start_of r v) inputs (take p (content h w.slot)) in
@@ -205,10 +216,10 @@ same_slot_none r = record { slot = refl; long = refl; generation = refl; version
 pub same_slot_then : (r s t : SlotReader) → IsSameSlot r s → IsSameSlot s t → IsSameSlot r t
 same_slot_then r s t p q = record { slot = q.slot ∙ p.slot; long = q.long ∙ p.long; generation = q.generation ∙ p.generation; version = q.version ∙ p.version }
 
-pub ruleset inputs_checked = (reads_same, reads_then, tells_then, same_slot_none, same_slot_then, further_on)
+pub ruleset inputs_checked = (reads_same, reads_then, same_slot_none, same_slot_then, further_on)
 
-pub ruleset nexts = (taken_within, bad_within, reads_then, tells_then)
+pub ruleset nexts = (taken_within, bad_within, reads_then)
 
-pub ruleset openings = (opens_within, reads_then, tells_then)
+pub ruleset openings = (opens_within, reads_then)
 
-pub ruleset checks = (reads_then, tells_then)
+pub ruleset checks = (reads_then)

@@ -4,8 +4,11 @@ use Rattle.std.proofs.lemmas.List.{take-append-drop, length-take}
 use Rattle.f2b_base.specs.declared.input.Input.{Input}
 use Rattle.f2b_base.specs.declared.view.View.{View}
 use Rattle.f2b_model.specs.Storable.{IsStorableInput}
+use Rattle.f2b_model.specs.StorableViews.{IsStorableView}
+use Rattle.journal_slots.specs.Starts.{Start, start}
 use Rattle.journal_slots.proofs.StartLemmas.{what_whole, view_whole}
 use Rattle.record_codec.specs.declared.read_error.ReadError.{ReadError}
+use Rattle.record_codec.specs.declared.version.Version.{Version as Spelling}
 use Rattle.record_codec.specs.declared.version.Version.TheVariants.{One, Two}
 use Rattle.record_codec.specs.Fronts.{IsAtFront, front_of}
 use Rattle.record_codec.specs.Inputs.{input, AreWholeIn}
@@ -87,3 +90,15 @@ pub view_within : (version : Version) (bytes : List ℕ) (v : View) (len : ℕ) 
 view_within version bytes v len is = front_within (view (spelling version)).spell bytes v len is
 
 pub ruleset views_taken = (view_read, view_left, view_within)
+
+-- ---- what was read can be stored
+
+pub input_storable : (version : Spelling) (i : Input) → (input version).Fits i → IsStorableInput i
+input_storable version i fits = ((input_word version).are i fits).0
+
+pub view_storable : (version : Spelling) (v : View) → (view version).Fits v → IsStorableView v
+view_storable version v fits = ((view_word version).are v fits).0.storable
+
+pub start_storable : (first : Start) → start.Fits first → IsStorableView first.view
+unfolding start
+start_storable first fits = view_storable first.version first.view fits.1.1

@@ -1,12 +1,12 @@
 -- A window that is moved on, and grows.
-use Rattle.std.proofs.Common.{ℕ, ◌≡◌, ◌+◌, ◌-◌, ◌≤◌, ◌<◌, ◌^◌, Option, List, [], ◌++◌, length, take, drop, refl, sym, ap, ap₂, subst, ◌∙◌, length-append, arith}
+use Rattle.std.proofs.Common.{ℕ, Bool, false, ◌≡◌, ◌+◌, ◌-◌, ◌≤◌, ◌<◌, ◌^◌, Option, List, [], ◌++◌, length, take, drop, refl, sym, ap, ap₂, subst, ◌∙◌, length-append, arith}
 use Rattle.std.proofs.lemmas.List.{take-append-drop, length-drop, drop-drop, drop-take}
 use Rattle.std.proofs.Math.Seq.{take-add}
 use Rattle.f2b_world.specs.Slots.{Slot}
 use Rattle.f2b_world.specs.Told.{History, HasLength, Standing}
 use Rattle.slot_reader.specs.Reads.{content, OnlyReads, IsAllOf, IsPieceAt}
 use Rattle.slot_reader.specs.Windows.{Window, IsWithin, IsWhole, IsOver, Shows, IsAtPlaceOf}
-use Rattle.slot_reader.proofs.ReadLemmas.{told_before, reads_same, reads_then, tells_then}
+use Rattle.slot_reader.proofs.ReadLemmas.{told_before, reads_same, reads_then}
 
 -- what of the slot is behind the window
 abbrev pub behind : Window → List ℕ → List ℕ
@@ -43,20 +43,20 @@ over_grown w v now piece at len over at_is piece_is len_is long_is place_is byte
 -- ---- where the history is told
 
 -- what is shown stays so while the disk is read
-pub shows_still : (w : Window) (a b : Standing) → OnlyReads a b → Shows w a.told → Shows w b.told
-shows_still w a b p shows h is =
-    let t = told_before a.told b.told p.events h is in
+pub shows_still : (failed : Bool) (w : Window) (a b : Standing) → OnlyReads failed a b → Shows w a.told → Shows w b.told
+shows_still failed w a b p shows h is =
+    let t = told_before failed a.told b.told p.events h is in
     subst (λ (s : Slot). IsOver w s.now) (sym (t.2 w.slot)) (shows t.0 t.1)
 
 pub shows_moved : (w v : Window) (told : Option History) (count : ℕ) → Shows w told → count ≤ length w.bytes → v.slot ≡ w.slot → v.long ≡ w.long → v.place ≡ w.place + count → v.bytes ≡ drop count w.bytes → Shows v told
 shows_moved w v told count shows few slot_is long_is place_is bytes_is h is =
     subst (λ (k : ℕ). IsOver v (content h k)) (sym slot_is) (over_moved w v (content h w.slot) count (shows h is) few long_is place_is bytes_is)
 
-pub shows_grown : (w v : Window) (a b : Standing) (piece : List ℕ) (at len : ℕ) → OnlyReads a b → Shows w a.told → IsPieceAt w.slot at len piece b.told → at ≡ w.place + length w.bytes → length piece ≡ len
+pub shows_grown : (w v : Window) (a b : Standing) (piece : List ℕ) (at len : ℕ) → OnlyReads false a b → Shows w a.told → IsPieceAt w.slot at len piece b.told → at ≡ w.place + length w.bytes → length piece ≡ len
     → v.slot ≡ w.slot → v.long ≡ w.long → v.place ≡ w.place → v.bytes ≡ w.bytes ++ piece → Shows v b.told
 shows_grown w v a b piece at len p shows is_piece at_is len_is slot_is long_is place_is bytes_is h is =
     subst (λ (k : ℕ). IsOver v (content h k)) (sym slot_is)
-    (over_grown w v (content h w.slot) piece at len (shows_still w a b p shows h is) at_is (is_piece h is) len_is long_is place_is bytes_is)
+    (over_grown w v (content h w.slot) piece at len (shows_still false w a b p shows h is) at_is (is_piece h is) len_is long_is place_is bytes_is)
 
 -- a slot is as long as its window says
 pub shows_long : (w : Window) (told : Option History) (n : ℕ) → Shows w told → n ≤ w.long → HasLength told w.slot n
@@ -68,7 +68,7 @@ at_place_same w = record { slot = refl; long = refl; place = refl }
 pub at_place_then : (u v w : Window) → IsAtPlaceOf u v → IsAtPlaceOf v w → IsAtPlaceOf u w
 at_place_then u v w p q = record { slot = q.slot ∙ p.slot; long = q.long ∙ p.long; place = q.place ∙ p.place }
 
-pub ruleset windows = (reads_same, reads_then, tells_then, at_place_same, at_place_then)
+pub ruleset windows = (reads_same, reads_then, at_place_same, at_place_then)
 
 pub ruleset grows = (shows_still, shows_grown, shows_long)
 

@@ -2,6 +2,8 @@
 use Rattle.std.specs.Prelude.{ℕ, ◌≡◌, ◌<◌, Option, Some, None, List, [], ◌∷◌, ◌++◌, length, take, Result, Ok, Err}
 use Rattle.f2b_base.specs.declared.input.Input.{Input}
 use Rattle.f2b_base.specs.declared.view.View.{View}
+use Rattle.f2b_model.specs.Storable.{IsStorableInput}
+use Rattle.f2b_model.specs.StorableViews.{IsStorableView}
 use Rattle.f2b_world.specs.Told.{History}
 use Rattle.journal_slots.specs.Fronts.{IsFront}
 use Rattle.journal_slots.specs.Grammar.{Empty, Open, Bad, parse_slot}
@@ -51,6 +53,16 @@ Reads r v inputs told = (g : History) → told ≡ Some g → HasRead r v inputs
 
 abbrev pub TellsNext : SlotReader → View → List Input → Option History → Result Next Fault → Type 0
 TellsNext r v inputs told result = (g : History) → told ≡ Some g → IsNext r v inputs (content g r.shown.slot) result
+
+-- the view of a slot that is open can be stored
+abbrev pub HasStorableView : Opening → Type 0
+HasStorableView (OpenOpening r v) = IsStorableView v
+HasStorableView _ = Unit {0}
+
+-- an input that is given can be stored
+abbrev pub HasStorableInput : Next → Type 0
+HasStorableInput (NextInput i) = IsStorableInput i
+HasStorableInput _ = Unit {0}
 
 -- an input takes the reader further
 abbrev pub GoesOn : SlotReader → SlotReader → Next → Type 0

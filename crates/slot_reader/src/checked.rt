@@ -1,7 +1,7 @@
 //! A slot that is read to its end, of which nothing is kept.
-ghost use Rattle.std.specs.Prelude.{◌≡◌, ◌<◌, [], IfOk, IfErr};
+ghost use Rattle.std.specs.Prelude.{◌≡◌, ◌<◌, [], IfOk};
 ghost use Rattle.f2b_base.specs.declared.view.View.{View as AView};
-ghost use Rattle.slot_reader.specs.Reads.{OnlyReads, Tells};
+ghost use Rattle.slot_reader.specs.Reads.{OnlyReads, is_fault};
 ghost use Rattle.slot_reader.specs.Readings.{IsChecked, IsTold, Reads, ended_by};
 ghost use Rattle.slot_reader.specs.Windows.{IsWithin, Shows};
 
@@ -60,8 +60,7 @@ fn check_inputs<D: Disk>(alloc: Global, disk: &mut D, reader: SlotReader) -> Res
     requires shows { Shows reader.shown (D.stands disk.old).told }
     requires within { IsWithin reader.shown }
     ensures checked { (v : AView) → Reads reader v [] (D.stands disk.old).told → IfOk result (λ checked. IsTold (λ now. IsChecked now checked) reader.shown.slot (D.stands disk.new).told) }
-    ensures reads { OnlyReads (D.stands disk.old) (D.stands disk.new) }
-    ensures err { IfErr result (λ fault. Tells fault (D.stands disk.old) (D.stands disk.new)) }
+    ensures reads { OnlyReads (is_fault result) (D.stands disk.old) (D.stands disk.new) }
 {
     let mut reader = reader;
     'inputs: loop {
@@ -78,8 +77,7 @@ fn check_inputs<D: Disk>(alloc: Global, disk: &mut D, reader: SlotReader) -> Res
 pub fn check<D: Disk>(alloc: Global, disk: &mut D, slot: u8) -> Result<Checked, Fault>
     requires { slot < 2 }
     ensures checked { IfOk result (λ checked. IsTold (λ now. IsChecked now checked) slot (D.stands disk.new).told) }
-    ensures reads { OnlyReads (D.stands disk.old) (D.stands disk.new) }
-    ensures err { IfErr result (λ fault. Tells fault (D.stands disk.old) (D.stands disk.new)) }
+    ensures reads { OnlyReads (is_fault result) (D.stands disk.old) (D.stands disk.new) }
 {
     match open(alloc, disk, slot)? {
         Opening::Empty(head) => Ok(Checked::Empty(head)),

@@ -1,8 +1,8 @@
 //! A slot that is opened.
-ghost use Rattle.std.specs.Prelude.{◌≡◌, ◌<◌, false, IfOk, IfErr};
+ghost use Rattle.std.specs.Prelude.{◌≡◌, ◌<◌, false, IfOk};
 ghost use Rattle.slot_reader.specs.Fronts.{IsLead, is_clear_lead};
-ghost use Rattle.slot_reader.specs.Reads.{OnlyReads, Tells};
-ghost use Rattle.slot_reader.specs.Readings.{IsOpened, IsTold, Stands};
+ghost use Rattle.slot_reader.specs.Reads.{OnlyReads, is_fault};
+ghost use Rattle.slot_reader.specs.Readings.{HasStorableView, IsOpened, IsTold, Stands};
 ghost use Rattle.slot_reader.specs.Windows.{IsAtPlaceOf, IsWhole, IsWithin, Shows};
 
 use crate::fault::Fault;
@@ -42,8 +42,7 @@ fn lead_of<D: Disk>(alloc: Global, disk: &mut D, shown: &mut Shown) -> Result<Le
     ensures within { IsWithin shown.new }
     ensures same { IsAtPlaceOf shown.old shown.new }
     ensures shows { Shows shown.new (D.stands disk.new).told }
-    ensures reads { OnlyReads (D.stands disk.old) (D.stands disk.new) }
-    ensures err { IfErr result (λ fault. Tells fault (D.stands disk.old) (D.stands disk.new)) }
+    ensures reads { OnlyReads (is_fault result) (D.stands disk.old) (D.stands disk.new) }
 {
     'pieces: loop {
         let lead = lead_in(alloc, shown.bytes())?;
@@ -60,8 +59,8 @@ pub fn open<D: Disk>(alloc: Global, disk: &mut D, slot: u8) -> Result<Opening, F
     requires { slot < 2 }
     ensures opened { IfOk result (λ opening. IsTold (λ now. IsOpened now opening) slot (D.stands disk.new).told) }
     ensures stands { IfOk result (λ opening. Stands slot opening (D.stands disk.new).told) }
-    ensures reads { OnlyReads (D.stands disk.old) (D.stands disk.new) }
-    ensures err { IfErr result (λ fault. Tells fault (D.stands disk.old) (D.stands disk.new)) }
+    ensures storable { IfOk result HasStorableView }
+    ensures reads { OnlyReads (is_fault result) (D.stands disk.old) (D.stands disk.new) }
 {
     let long = len_of(disk, slot)?;
     if long <= SHORT_BYTES {

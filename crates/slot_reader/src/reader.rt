@@ -1,10 +1,10 @@
 //! `SlotReader`, which gives the inputs of an open slot.
-ghost use Rattle.std.specs.Prelude.{◌≡◌, false, List, IfOk, IfErr};
+ghost use Rattle.std.specs.Prelude.{◌≡◌, false, List, IfOk};
 ghost use Rattle.f2b_base.specs.declared.input.Input.{Input as AnInput};
 ghost use Rattle.f2b_base.specs.declared.view.View.{View as AView};
 ghost use Rattle.slot_reader.specs.Fronts.{IsItem, is_clear_item};
-ghost use Rattle.slot_reader.specs.Reads.{OnlyReads, Tells};
-ghost use Rattle.slot_reader.specs.Readings.{GoesOn, IsSameSlot, Reads, TellsNext};
+ghost use Rattle.slot_reader.specs.Reads.{OnlyReads, is_fault};
+ghost use Rattle.slot_reader.specs.Readings.{GoesOn, HasStorableInput, IsSameSlot, Reads, TellsNext};
 ghost use Rattle.slot_reader.specs.Versions.{spelling};
 ghost use Rattle.slot_reader.specs.Windows.{IsAtPlaceOf, IsWhole, IsWithin, Shows};
 
@@ -48,8 +48,7 @@ fn item_of<D: Disk>(
     ensures within { IsWithin shown.new }
     ensures same { IsAtPlaceOf shown.old shown.new }
     ensures shows { Shows shown.new (D.stands disk.new).told }
-    ensures reads { OnlyReads (D.stands disk.old) (D.stands disk.new) }
-    ensures err { IfErr result (λ fault. Tells fault (D.stands disk.old) (D.stands disk.new)) }
+    ensures reads { OnlyReads (is_fault result) (D.stands disk.old) (D.stands disk.new) }
 {
     'pieces: loop {
         let item = item_in(version, alloc, shown.bytes())?;
@@ -95,12 +94,12 @@ impl SlotReader {
         requires { Shows self.old.shown (D.stands disk.old).told }
         // Whatever view and inputs were read so far.
         ensures next { (v : AView) (inputs : List AnInput) → Reads self.old v inputs (D.stands disk.old).told → TellsNext self.new v inputs (D.stands disk.new).told result }
+        ensures storable { IfOk result HasStorableInput }
         ensures further { IfOk result (GoesOn self.old self.new) }
         ensures within { IsWithin self.new.shown }
         ensures same { IsSameSlot self.old self.new }
         ensures shows { Shows self.new.shown (D.stands disk.new).told }
-        ensures reads { OnlyReads (D.stands disk.old) (D.stands disk.new) }
-        ensures err { IfErr result (λ fault. Tells fault (D.stands disk.old) (D.stands disk.new)) }
+        ensures reads { OnlyReads (is_fault result) (D.stands disk.old) (D.stands disk.new) }
     {
         match item_of(alloc, disk, self.version, &mut self.shown)? {
             Item::Closed => Ok(Next::Closed),

@@ -1,7 +1,7 @@
 //! The calls on the disk that read a slot.
-ghost use Rattle.std.specs.Prelude.{◌≡◌, ◌+◌, ◌<◌, IfOk, IfErr, length};
+ghost use Rattle.std.specs.Prelude.{◌≡◌, ◌+◌, ◌<◌, IfOk, length};
 ghost use Rattle.f2b_world.specs.Told.{HasLength};
-ghost use Rattle.slot_reader.specs.Reads.{IsAllOf, IsPieceAt, OnlyReads, Tells};
+ghost use Rattle.slot_reader.specs.Reads.{IsAllOf, IsPieceAt, OnlyReads, is_fault};
 
 use crate::fault::Fault;
 use f2b_base::Bytes;
@@ -12,8 +12,7 @@ use f2b_world::{Disk, Len, Piece};
 pub(crate) fn len_of<D: Disk>(disk: &mut D, slot: u8) -> Result<u64, Fault>
     requires { slot < 2 }
     ensures len { IfOk result (λ long. IsAllOf slot long (D.stands disk.new).told) }
-    ensures reads { OnlyReads (D.stands disk.old) (D.stands disk.new) }
-    ensures err { IfErr result (λ fault. Tells fault (D.stands disk.old) (D.stands disk.new)) }
+    ensures reads { OnlyReads (is_fault result) (D.stands disk.old) (D.stands disk.new) }
 {
     match disk.disk_len(slot) {
         Len::Bytes(long) => Ok(long),
@@ -28,8 +27,7 @@ pub(crate) fn piece_at<D: Disk>(disk: &mut D, slot: u8, at: u64, len: u64) -> Re
     requires within { HasLength (D.stands disk.old).told slot (at + len) }
     ensures piece { IfOk result (λ piece. IsPieceAt slot at len piece (D.stands disk.new).told) }
     ensures len { IfOk result (λ piece. length piece ≡ len) }
-    ensures reads { OnlyReads (D.stands disk.old) (D.stands disk.new) }
-    ensures err { IfErr result (λ fault. Tells fault (D.stands disk.old) (D.stands disk.new)) }
+    ensures reads { OnlyReads (is_fault result) (D.stands disk.old) (D.stands disk.new) }
 {
     match disk.disk_read(slot, at, len) {
         Piece::Bytes(piece) => Ok(piece),

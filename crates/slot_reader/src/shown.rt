@@ -1,6 +1,6 @@
 //! A window over a slot.
-ghost use Rattle.std.specs.Prelude.{◌≡◌, ◌+◌, ◌<◌, ◌≤◌, ◌++◌, [], IfOk, IfErr, OnOk, true, false, length, drop};
-ghost use Rattle.slot_reader.specs.Reads.{OnlyReads, Tells};
+ghost use Rattle.std.specs.Prelude.{◌≡◌, ◌+◌, ◌<◌, ◌≤◌, ◌++◌, [], IfOk, OnOk, true, false, length, drop};
+ghost use Rattle.slot_reader.specs.Reads.{OnlyReads, is_fault};
 ghost use Rattle.slot_reader.specs.Windows.{IsAtPlaceOf, IsWhole, IsWithin, Shows};
 
 use crate::fault::Fault;
@@ -103,8 +103,7 @@ impl Shown {
         ensures more { OnOk result (length self.old.bytes < length self.new.bytes) }
         ensures shows { Shows self.new (D.stands disk.new).told }
         ensures within { IsWithin self.new }
-        ensures reads { OnlyReads (D.stands disk.old) (D.stands disk.new) }
-        ensures err { IfErr result (λ fault. Tells fault (D.stands disk.old) (D.stands disk.new)) }
+        ensures reads { OnlyReads (is_fault result) (D.stands disk.old) (D.stands disk.new) }
     {
         let at = self.base + self.bytes.len() as u64;
         let shown = (self.bytes.len() - self.from) as u64;

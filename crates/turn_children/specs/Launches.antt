@@ -1,6 +1,7 @@
 -- What is started next, by what the code keeps.
 use Rattle.std.specs.Prelude.{◌≡◌, Option, option_map}
 use Rattle.f2b_base.specs.declared.job.Job.{Job}
+use Rattle.f2b_model.specs.Jobs.{AreById}
 use Rattle.run_law.specs.Children.{checked_first, startable}
 use Rattle.run_law.specs.Points.{Place, AtStart}
 use Rattle.run_law.specs.Turn.{start_place}
@@ -22,6 +23,7 @@ place_for kept job = start_place kept.clocked.now job (checked_first kept.childr
 abbrev pub next_start : Running → Option Place
 next_start kept = option_map (place_for kept) (next_job kept)
 
--- this is started next, or nothing is
-abbrev pub IsNextStart : Running → Option Launch → Type 0
-IsNextStart kept launch = option_map place_of launch ≡ next_start kept
+-- This is started next, or nothing is, of jobs whose ids rise.
+pub record IsNextStart (kept : Running) (launch : Option Launch) : Type 0 where
+  pub next : option_map place_of launch ≡ next_start kept
+  pub by_id : AreById 0 kept.clocked.engine.core.lanes.jobs kept.clocked.engine.core.lanes.next_job

@@ -1,4 +1,4 @@
-use Rattle.std.proofs.Common.{◌-◌, List, []}
+use Rattle.std.proofs.Common.{◌-◌, false, List, []}
 use Rattle.f2b_base.specs.declared.input.Input.{Input}
 use Rattle.f2b_base.specs.declared.view.View.{View}
 use Rattle.slot_reader.specs.Reads.{OnlyReads}
@@ -13,7 +13,7 @@ invariant-inputs g l = record {
   within : IsWithin l.reader.shown;
   shows : Shows l.reader.shown (g.D.Outside.stands l.disk).told;
   so_far : (v : View) → Reads l.initial.reader v [] (g.D.Outside.stands l.initial.disk).told → (inputs : List Input) × Reads l.reader v inputs (g.D.Outside.stands l.disk).told;
-  reads : OnlyReads (g.D.Outside.stands l.initial.disk) (g.D.Outside.stands l.disk);
+  reads : OnlyReads false (g.D.Outside.stands l.initial.disk) (g.D.Outside.stands l.disk);
 }
 
 abbrev pub decreases-inputs : goal.decreases-inputs

@@ -1,7 +1,7 @@
 use Rattle.std.proofs.Common.{◌≡◌, ◌<◌, ◌^◌, ap, subst, ◌∙◌, rules, arith}
 use Rattle.slot_reader.specs.Fronts.{IsLead, is_clear_lead}
 use Rattle.slot_reader.specs.Windows.{Window}
-use Rattle.slot_reader.proofs.ReadingLemmas.{opened_short, opened_shut, opened_open, opened_bad, opens_within}
+use Rattle.slot_reader.proofs.ReadingLemmas.{opened_short, opened_shut, opened_open, opened_bad, opens_within, opens_storable}
 use Rattle.slot_reader.proofs.WindowLemmas.{shows_moved}
 use Rattle.slot_reader.proofs.opening.open.Goals as goal
 
@@ -33,6 +33,12 @@ returns-in-Opens-clause-opened g c =
     let lead = subst (IsLead w.bytes) c.in-Opens.is c.in_ok-lead_of.ensures.lead in
     opened_open c.args.slot w (g.D.Outside.stands c.lead_of.new.disk).told c.lead_of.ensures.shows c.lead_of.ensures.within slot_is at_front big
     c.in-Opens.begun c.in-Opens.len c.skip.new.self lead c.skip.ensures.slot c.skip.ensures.long c.skip.ensures.place c.skip.ensures.bytes
+
+pub returns-in-Opens-clause-storable : goal.returns-in-Opens-clause-storable
+returns-in-Opens-clause-storable g c =
+    let w = c.lead_of.new.shown in
+    let lead = subst (IsLead w.bytes) c.in-Opens.is c.in_ok-lead_of.ensures.lead in
+    opens_storable w.bytes c.in-Opens.begun c.in-Opens.len lead
 
 pub returns-in-Opens-clause-stands : goal.returns-in-Opens-clause-stands
 returns-in-Opens-clause-stands g c =

@@ -1,4 +1,4 @@
-use Rattle.std.proofs.Common.{◌-◌, ◌+◌, length}
+use Rattle.std.proofs.Common.{◌-◌, false, ◌+◌, length}
 use Rattle.slot_reader.specs.Reads.{OnlyReads}
 use Rattle.slot_reader.specs.Windows.{IsAtPlaceOf, Shows}
 use Rattle.slot_reader.proofs.reader.item_of.Given as goal
@@ -8,7 +8,7 @@ abbrev pub invariant-pieces : goal.invariant-pieces
 invariant-pieces g l = record {
   same : IsAtPlaceOf l.initial.shown l.shown;
   shows : Shows l.shown (g.D.Outside.stands l.disk).told;
-  reads : OnlyReads (g.D.Outside.stands l.initial.disk) (g.D.Outside.stands l.disk);
+  reads : OnlyReads false (g.D.Outside.stands l.initial.disk) (g.D.Outside.stands l.disk);
 }
 
 abbrev pub decreases-pieces : goal.decreases-pieces

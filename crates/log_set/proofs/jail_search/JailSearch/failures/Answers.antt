@@ -1,6 +1,9 @@
-use Rattle.std.proofs.Common.{◌++◌, ◌∙◌, [], ap, ap₂, sym, List}
+use Rattle.std.proofs.Common.{◌+◌, ◌≤◌, ◌++◌, ◌∙◌, [], ap, ap₂, sym, subst, length, List}
 use Rattle.std.specs.List.{cons_option}
 use Rattle.f2b_base.specs.declared.ban.Failure.{Failure}
+use Rattle.f2b_model.specs.Lists.{AllOf}
+use Rattle.f2b_model.specs.Storable.{IsStorableFailure}
+use Rattle.log_set.proofs.FailureLemmas.{all_more, length_more}
 use Rattle.log_set.proofs.FindLemmas.{one_more}
 use Rattle.log_set.specs.Searches.{failure_by}
 use Rattle.log_set.specs.declared.jail_search.JailSearch.{JailSearch}
@@ -16,4 +19,6 @@ loop-line-preserved c =
           ∙ ap₂ (λ (a b : List Failure). a ++ b) c.loop-line.invariant.found
           (ap (λ f. cons_option f []) c.in_ok-failure.ensures.found ∙ ap (λ (j : JailSearch). cons_option (failure_by j now line) []) c.loop-line.invariant.same)
           ∙ sym (one_more c.args.self.now now c.args.lines.now c.loop-line.line-index line c.loop-line-test.true c.line-item.is);
+      storable = subst (AllOf IsStorableFailure) (sym c.in_ok-add.ensures) (all_more IsStorableFailure _ _ c.loop-line.invariant.storable c.in_ok-failure.ensures.storable);
+      few = subst (λ (fs : List Failure). length fs ≤ c.loop-line.line-index + 1) (sym c.in_ok-add.ensures) (length_more _ _ _ c.loop-line.invariant.few);
     }
