@@ -20,9 +20,9 @@ use Rattle.f2b_world.specs.declared.event.Event.TheVariants.{Clock as ClockRead}
 use Rattle.filter_regex.specs.Rules.{rules_of}
 use Rattle.jail_conf.specs.declared.settings.Settings.{Settings}
 use Rattle.reconcile.specs.Engines.{EngineNow}
+use Rattle.reconcile.specs.Loads.{Loaded}
 use Rattle.run_law.specs.Changes.{config_changes}
 use Rattle.run_law.specs.Law.{Goes, Halts}
-use Rattle.run_law.specs.Loads.{Loaded}
 use Rattle.run_law.specs.News.{News, brings, server_after}
 use Rattle.run_law.specs.Paths.{Naming, Path, with_paths}
 use Rattle.run_law.specs.Points.{AtFirst, Run}
