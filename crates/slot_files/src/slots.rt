@@ -126,19 +126,12 @@ impl Slots {
         slot: u8,
         is_made: bool,
     ) -> Result<Option<&mut File>, Fault> {
-        let (name, kept) = if slot == 0 {
-            ("journal.0", &mut self.first)
-        } else {
-            ("journal.1", &mut self.second)
-        };
-        handle(
-            rt,
-            self.dir.as_str(),
-            name,
-            kept,
-            &mut self.is_entry_new,
-            is_made,
-        )
+        let dir = self.dir.as_str();
+        let is_new = &mut self.is_entry_new;
+        if slot == 0 {
+            return handle(rt, dir, "journal.0", &mut self.first, is_new, is_made);
+        }
+        handle(rt, dir, "journal.1", &mut self.second, is_new, is_made)
     }
 
     /// How long a slot is, in bytes: 0 where its file is not there.
