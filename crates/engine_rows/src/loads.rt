@@ -1,7 +1,7 @@
 //! What both slots come to.
 
 use crate::bytes::{BANS, NEWER, NO_INPUT, NO_VERSION, OLD_VERSION, SHUT, TICK};
-use crate::play::{NOTHING, Shown, disk, shown, view_of};
+use crate::play::{NOTHING, Shown, as_shown, disk, view_of};
 use reconcile::LoadError;
 use std::alloc::Global;
 use std::process::Abort;
@@ -87,7 +87,7 @@ const ROWS: [Row; 10] = [
 fn is_loaded(rt: &impl Abort, alloc: Global, row: &Row) -> Result<(), Fail> {
     let mut world = disk(alloc, row.slot0, row.slot1, &[])?;
     let is = match view_of(alloc, &mut world, 1000)? {
-        Ok(view) => Ok(shown(&view)),
+        Ok(view) => Ok(as_shown(&view)),
         Err(error) => Err(error),
     };
     assert_eq!(rt; is, row.want, "{}", row.name);

@@ -83,7 +83,7 @@ pub const NOTHING: Shown = Shown {
 };
 
 /// What a view shows.
-pub fn shown(view: &View) -> Shown {
+pub fn as_shown(view: &View) -> Shown {
     let mut shown = Shown {
         at: view.at,
         stopping: view.stopping,

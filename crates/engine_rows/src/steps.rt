@@ -26,10 +26,12 @@ fn input(alloc: Global, step: Step) -> Input
         Step::Tick(secs) => (secs, What::Tick),
         Step::Config(secs, purge) => (
             secs,
-            What::Config(Defs {
-                purge: u64::from(purge),
-                jails: Seq::new(alloc),
-            }),
+            What::Config {
+                defs: Defs {
+                    purge: u64::from(purge),
+                    jails: Seq::new(alloc),
+                },
+            },
         ),
         Step::Stop(secs) => (secs, What::Stop),
     };

@@ -1,7 +1,7 @@
 //! Inputs that an engine takes, and the engine that is loaded then.
 
 use crate::bytes::{BANS, OLD_VERSION, TICK};
-use crate::play::{disk, shown, view_of};
+use crate::play::{as_shown, disk, view_of};
 use crate::steps::{Step, view_after};
 use std::alloc::Global;
 use std::process::Abort;
@@ -82,7 +82,7 @@ fn an_engine_that_is_loaded_again_has_the_view_that_it_had(rt: HostRuntime) -> R
 fn a_ban_that_ended_behind_a_load_is_over(rt: HostRuntime) -> Result<(), Fail> {
     let mut world = disk(rt.alloc(), &BANS, &[], &[])?;
     let view = view_after(rt.alloc(), &mut world, 1000, &[Step::Tick(1100)])?;
-    let is = shown(&view);
+    let is = as_shown(&view);
     assert_eq!(&rt; (is.at, is.failures, is.bans, is.past), (1100, 1, 0, 1));
     Ok(())
 }

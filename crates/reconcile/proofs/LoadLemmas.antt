@@ -27,7 +27,7 @@ use Rattle.ban_journal.specs.Positions.{IsAtTop, top_in}
 use Rattle.slot_reader.specs.Reads.{AreDone, AreReads, IsDone, OnlyReads, content}
 use Rattle.slot_reader.proofs.ReadLemmas.{reads_events, reads_same, reads_then, told_before}
 use Rattle.slot_writes.specs.declared.position.Position.{Position}
-use Rattle.slot_writes.specs.Rests.{IsAtRest}
+use Rattle.slot_writes.specs.Rests.{IsAtRest, nothing_stored}
 use Rattle.reconcile.specs.Engines.{EngineNow, IsOnDisk}
 use Rattle.reconcile.specs.Laws.{ChangesNoSlot}
 use Rattle.reconcile.specs.LoadedEngines.{IsLoadedEngine, IsEngineLoaded, AreSoundAtRest, AreTaken}
@@ -74,7 +74,7 @@ pub record Part (begin : Now) (all : List Input) (core : Now) : Type 0 where
   pub before : List Input
   pub left : List Input
   pub parts : all ≡ before ++ left
-  pub core : core ≡ steps_now begin before
+  pub is : core ≡ steps_now begin before
   pub storable : AllOf IsStorableInput before
 
 abbrev pub IsPartTaken : Now → List Input → Now → StoredInputs → (ℕ → List ℕ) → Type 0
@@ -82,7 +82,7 @@ IsPartTaken begin all core s now = (p : Part begin all core) × AreLeft s p.left
 
 pub none_taken : (begin : Now) (s : StoredInputs) (told : Option History) (all : List Input)
     → WhereTold told (λ g. AreLeft s all (content g)) → WhereTold told (λ g. IsPartTaken begin all begin s (content g))
-none_taken begin s told all left g is = (record { before = []; left = all; parts = refl; core = refl; storable = tt }, left g is)
+none_taken begin s told all left g is = (record { before = []; left = all; parts = refl; is = refl; storable = tt }, left g is)
 
 module _ (begin core : Now) (all : List Input) (p : Part begin all core) where
   -- the next one is taken
@@ -91,7 +91,7 @@ module _ (begin core : Now) (all : List Input) (p : Part begin all core) where
     before = p.before ++ i ∷ [];
     left = rest;
     parts = p.parts ∙ ap (λ (xs : List Input). p.before ++ xs) first ∙ sym (append_assoc p.before (i ∷ []) rest);
-    core = is ∙ ap (λ (n : Now). step_now n i) p.core ∙ sym (steps_now-append begin p.before i);
+    is = is ∙ ap (λ (n : Now). step_now n i) p.is ∙ sym (steps_now-append begin p.before i);
     storable = all_of-append IsStorableInput p.before i p.storable storable;
   }
 
@@ -99,7 +99,7 @@ module _ (begin core : Now) (all : List Input) (p : Part begin all core) where
   all_taken : p.left ≡ [] → AreTaken begin all (Ok core)
   all_taken none =
       let same : all ≡ p.before = p.parts ∙ ap (λ (xs : List Input). p.before ++ xs) none ∙ append-nil p.before in
-      (p.core ∙ ap (steps_now begin) (sym same), subst (AllOf IsStorableInput) (sym same) p.storable)
+      (p.is ∙ ap (steps_now begin) (sym same), subst (AllOf IsStorableInput) (sym same) p.storable)
 
 -- what the next input is, of those that are left
 abbrev pub Gives : StoredInputs → StoredInputs → Option History → Option History → Result (Option Input) LoadError → Type 0
@@ -157,10 +157,13 @@ module _ (stored : Stored) (sound : IsSoundView stored.view) (storable : AllOf I
 -- ---- what the slots come to
 
 module _ (limit : ℕ) (slots : ℕ → List ℕ) (p : Position) (stored : Stored) where
+  ok_as : {s : Stored} {q : Position} → s ≡ stored → q ≡ p → ◌≡◌ {A = Result Loaded (ℕ × ℕ)} (Ok (loaded_as s q)) (Ok (loaded_as stored p))
+  ok_as same at = ap₂ (λ (x : Stored) (y : Position). let r : Result Loaded (ℕ × ℕ) = Ok (loaded_as x y) in r) same at
+
   loads_top : (top : Top) → IsAtTop limit slots p top → stored_in top ≡ Some stored → loaded_from limit slots top ≡ Ok (loaded_as stored p)
-  loads_top NoneOpen at is = ap₂ (λ (x : Stored) (q : Position). let r : Result Loaded (ℕ × ℕ) = Ok (loaded_as x q) in r) (same_Some _ stored is) (sym at)
-  loads_top (Newest slot o) at is = ap₂ (λ (x : Stored) (q : Position). let r : Result Loaded (ℕ × ℕ) = Ok (loaded_as x q) in r) (same_Some _ stored is) (sym at)
-  loads_top (NoJournal slot at_place) at is = absurd at
+  loads_top NoneOpen at is = ok_as (same_Some nothing_stored stored is) (sym at)
+  loads_top (Newest slot o) at is = ok_as (same_Some (record { view = o.start.view; inputs = o.inputs }) stored is) (sym at)
+  loads_top (NoJournal slot place) at is = absurd at
 
 -- what a journal has stored that was loaded, with these inputs
 abbrev stored_by : LoadedJournal → List Input → Stored

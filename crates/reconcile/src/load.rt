@@ -17,7 +17,7 @@ use f2b_world::Disk;
 use jail_core::Core;
 use std::alloc::Global;
 
-/// The state after an input. Nobody hears what it did: that was told when it was written.
+/// The state after an input that was stored. What it tells is not told again.
 #[tactic(auto, using(crate::proofs::TakenLemmas::storable_taken))]
 fn after(core: Core, input: &Input) -> Result<Core, NoMemory>
     requires { IsStorableInput input.now }
