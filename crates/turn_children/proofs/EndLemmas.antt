@@ -1,7 +1,10 @@
 -- The end of a child, as an input.
-use Rattle.std.proofs.Common.{ℕ, ◌≡◌, [], Some, sym, subst}
+use Rattle.std.proofs.Common.{ℕ, ℤ, pos, negsuc, ◌≡◌, [], Some, sym, subst, arith, w64, FitsSigned}
+use Rattle.std.proofs.lemmas.Int.{ints}
 use Rattle.f2b_base.specs.declared.input.What.{What}
 use Rattle.f2b_base.specs.declared.job.Outcome.{Outcome}
+use Rattle.f2b_base.specs.declared.job.Outcome.TheVariants.{Status as EndedWith}
+use Rattle.f2b_model.specs.Storable.{IsSigned, IsStorableOutcome}
 use Rattle.f2b_world.specs.Told.{Standing}
 use Rattle.child_table.specs.declared.child.Task.{Task}
 use Rattle.child_table.specs.declared.child.Task.TheVariants.{Check, Command}
@@ -14,7 +17,23 @@ use Rattle.run_steps.specs.declared.clocked.Clocked.{Clocked}
 use Rattle.run_steps.specs.declared.running.Running.{Running}
 use Rattle.run_steps.proofs.RunningLemmas.{LeavesJails, bring_beside, bring_fails_beside, clocked_as}
 
--- it leaves the jails as the set of the logs has them
+-- ---- the input
+
+-- a status is a number of 64 bits
+abbrev pub FitsOutcome : Outcome → Type 0
+FitsOutcome (EndedWith status) = FitsSigned w64 status
+FitsOutcome _ = Unit {0}
+
+signed_fits : (z : ℤ) → FitsSigned w64 z → IsSigned z
+signed_fits (pos n) fits = omega (arith, ints, fits)
+signed_fits (negsuc n) fits = omega (arith, ints, fits)
+
+-- so how a child ended can be stored
+pub outcome_fits : (outcome : Outcome) → FitsOutcome outcome → IsStorableOutcome outcome
+outcome_fits (EndedWith status) fits = signed_fits status fits
+outcome_fits _ fits = tt
+
+-- the input leaves the jails as the set of the logs has them
 leaves_of : (task : Task) (job : ℕ) (outcome : Outcome) → LeavesJails (end_of task job outcome)
 leaves_of Check job outcome = failed_jails job outcome
 leaves_of Command job outcome = ended_jails job outcome

@@ -24,6 +24,7 @@ pub(crate) fn has_succeeded(task: Task, outcome: Outcome) -> bool
 }
 
 // What the end of a child is: a try of its job ended, or the check before it failed.
+#[tactic(auto, using(crate::proofs::EndLemmas::outcome_fits))]
 fn end_of(child: Child, outcome: Outcome) -> What
     ensures end { result ≡ end_of child.task child.job outcome }
     ensures storable { IsStorableWhat result }
