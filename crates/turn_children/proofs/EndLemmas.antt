@@ -1,9 +1,10 @@
 -- The end of a child, as an input.
-use Rattle.std.proofs.Common.{ℕ, ◌≡◌, ◌<◌, ◌≤◌, ◌^◌, [], Some, sym, subst}
-use Rattle.f2b_base.specs.Limits.{last_moment}
+use Rattle.std.proofs.Common.{ℕ, ℤ, pos, negsuc, ◌≡◌, [], Some, sym, subst, arith, w64, FitsSigned}
+use Rattle.std.proofs.lemmas.Int.{ints}
 use Rattle.f2b_base.specs.declared.input.What.{What}
 use Rattle.f2b_base.specs.declared.job.Outcome.{Outcome}
-use Rattle.f2b_model.specs.Storable.{IsStorableOutcome, IsStorableWhat}
+use Rattle.f2b_base.specs.declared.job.Outcome.TheVariants.{Status as EndedWith}
+use Rattle.f2b_model.specs.Storable.{IsSigned, IsStorableOutcome}
 use Rattle.f2b_world.specs.Told.{Standing}
 use Rattle.child_table.specs.declared.child.Task.{Task}
 use Rattle.child_table.specs.declared.child.Task.TheVariants.{Check, Command}
@@ -11,24 +12,33 @@ use Rattle.run_law.specs.Polls.{end_of}
 use Rattle.run_law.specs.Stages.{Brings, BringFails}
 use Rattle.run_law.specs.declared.status.Status.{Status}
 use Rattle.run_law.proofs.JailLemmas.{ended_jails, failed_jails}
-use Rattle.run_steps.specs.Keeping.{IsStorableAt, KeepsClocked, KeepsRunning, Makes, news_of}
+use Rattle.run_steps.specs.Keeping.{KeepsClocked, KeepsRunning, Makes, news_of}
 use Rattle.run_steps.specs.declared.clocked.Clocked.{Clocked}
 use Rattle.run_steps.specs.declared.running.Running.{Running}
 use Rattle.run_steps.proofs.RunningLemmas.{LeavesJails, bring_beside, bring_fails_beside, clocked_as}
 
--- it can be stored, and leaves the jails as the set of the logs has them
-storable_of : (task : Task) (job : ℕ) (outcome : Outcome) → job < 2 ^ 64 → IsStorableOutcome outcome → IsStorableWhat (end_of task job outcome)
-storable_of Check job outcome few stored = (few, stored)
-storable_of Command job outcome few stored = (few, stored)
+-- ---- the input
 
+-- a status is a number of 64 bits
+abbrev pub FitsOutcome : Outcome → Type 0
+FitsOutcome (EndedWith status) = FitsSigned w64 status
+FitsOutcome _ = Unit {0}
+
+signed_fits : (z : ℤ) → FitsSigned w64 z → IsSigned z
+signed_fits (pos n) fits = omega (arith, ints, fits)
+signed_fits (negsuc n) fits = omega (arith, ints, fits)
+
+-- so how a child ended can be stored
+pub outcome_fits : (outcome : Outcome) → FitsOutcome outcome → IsStorableOutcome outcome
+outcome_fits (EndedWith status) fits = signed_fits status fits
+outcome_fits _ fits = tt
+
+-- the input leaves the jails as the set of the logs has them
 leaves_of : (task : Task) (job : ℕ) (outcome : Outcome) → LeavesJails (end_of task job outcome)
 leaves_of Check job outcome = failed_jails job outcome
 leaves_of Command job outcome = ended_jails job outcome
 
 module _ (task : Task) (job : ℕ) (outcome : Outcome) (what : What) (is : what ≡ end_of task job outcome) where
-  pub end_storable : (kept : Clocked) → kept.now ≤ last_moment → kept.word < 2 ^ 64 → job < 2 ^ 64 → IsStorableOutcome outcome → IsStorableAt kept what
-  end_storable kept timely word few stored = record { secs = timely; word = word; what = subst IsStorableWhat (sym is) (storable_of task job outcome few stored) }
-
   -- it is taken beside the logs and the commands that run
   pub end_beside : (a b : Standing) (kept : Running) (after : Clocked) → Brings KeepsClocked a b (news_of [] (Some what) []) kept.clocked after
       → Brings KeepsRunning a b (news_of [] (Some (end_of task job outcome)) []) kept (clocked_as kept after)
@@ -45,4 +55,4 @@ module _ (task : Task) (job : ℕ) (outcome : Outcome) (what : What) (is : what 
   pub end_makes : (before after : Clocked) → Makes before (Some what) after → Makes before (Some (end_of task job outcome)) after
   end_makes before after makes = let P : What → Type 0 = λ w. Makes before (Some w) after in subst P is makes
 
-pub ruleset ending = (end_storable, end_beside, end_fails, end_makes)
+pub ruleset ending = (end_beside, end_fails, end_makes)

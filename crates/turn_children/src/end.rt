@@ -1,5 +1,6 @@
 //! The end of a child, taken and said.
 ghost use Rattle.std.specs.Prelude.{◌≡◌, [], Some, IfErr, IfOk};
+ghost use Rattle.f2b_model.specs.Storable.{IsStorableWhat};
 ghost use Rattle.run_law.specs.Polls.{end_of, has_succeeded};
 ghost use Rattle.run_law.specs.Stages.{Brings, BringFails, HasCause, IsSteady};
 ghost use Rattle.run_steps.specs.Keeping.{IsPlacedIn, IsTimedAlike, KeepsRunning, Makes, news_of};
@@ -23,8 +24,10 @@ pub(crate) fn has_succeeded(task: Task, outcome: Outcome) -> bool
 }
 
 // What the end of a child is: a try of its job ended, or the check before it failed.
+#[tactic(auto, using(crate::proofs::EndLemmas::outcome_fits))]
 fn end_of(child: Child, outcome: Outcome) -> What
-    ensures { result ≡ end_of child.task child.job outcome }
+    ensures end { result ≡ end_of child.task child.job outcome }
+    ensures storable { IsStorableWhat result }
 {
     match child.task {
         Task::Command => What::Ended {
@@ -39,7 +42,7 @@ fn end_of(child: Child, outcome: Outcome) -> What
 }
 
 /// Takes the end of a child that is no check which has passed, and says what it tells.
-#[tactic(auto, using(crate::proofs::EndLemmas::ending, run_law::proofs::CauseLemmas::counting, run_steps::proofs::BringLemmas::unbrought_cause))]
+#[tactic(auto, using(crate::proofs::EndLemmas::ending, run_law::proofs::CauseLemmas::counting, run_steps::proofs::BringLemmas::unbrought_cause, run_steps::proofs::StoredLemmas::storing))]
 pub(crate) fn take_end<'f, W: World + Disk>(
     alloc: Global,
     world: &mut W,
