@@ -51,17 +51,17 @@ use Rattle.run_steps.specs.declared.clocked.Clocked.{Clocked}
 
 -- ---- the first reading
 
-pub is_read : (engine : EngineNow) (reading : Reading) (kept : Clocked) (core : Now) (at : ℕ) → core ≡ engine.core → at ≡ core.jails.at → kept.engine ≡ engine
-    → kept.now ≡ max at (min reading.secs latest_reading) → kept.word ≡ reading.word → IsRead engine reading kept
-is_read engine reading kept core at same moment own now word = record {
+pub is_read : (engine : EngineNow) (reading : Reading) (kept : Clocked) (core : Now) (at moment : ℕ) → core ≡ engine.core → at ≡ core.jails.at → moment ≡ min reading.secs latest_reading
+    → kept.engine ≡ engine → kept.now ≡ max at moment → kept.word ≡ reading.word → IsRead engine reading kept
+is_read engine reading kept core at moment same loaded read own now word = record {
   engine = own;
-  now = now ∙ ap (λ (n : ℕ). max n (min reading.secs latest_reading)) (moment ∙ ap (λ (n : Now). n.jails.at) same);
+  now = now ∙ ap (λ (n : ℕ). max n moment) (loaded ∙ ap (λ (n : Now). n.jails.at) same) ∙ ap (max engine.core.jails.at) read;
   word = word;
 }
 
 -- no moment is later than the last one
-pub is_timely : (core : Now) (at secs : ℕ) → IsStorable core → at ≡ core.jails.at → max at (min secs latest_reading) ≤ last_moment
-is_timely core at secs storable moment = (let early : core.jails.at ≤ last_moment = storable.at in omega (arith, early, moment))
+pub is_timely : (core : Now) (at moment now secs : ℕ) → IsStorable core → at ≡ core.jails.at → moment ≡ min secs latest_reading → now ≡ max at moment → now ≤ last_moment
+is_timely core at moment now secs storable loaded read is = (let early : core.jails.at ≤ last_moment = storable.at in omega (arith, early, loaded, read, is))
 
 pub ruleset reading = (is_read, is_timely)
 
@@ -238,12 +238,12 @@ module _ (kept : Clocked) (core : Now) (defs : Defs) (changes : Bool) (same : co
       change_told kept defs changes (fit_defs defs storable) (subst P same watched) (subst Q same is)
 
   pub tells_input : changes ≡ true → TellsInput kept defs (Some (Config defs))
-  tells_input yes = record { tells = λ s keeps. ap (λ (b : Bool). input_if b defs) (sym yes ∙ told_so s keeps) }
+  tells_input changed = record { tells = λ s keeps. ap (λ (b : Bool). input_if b defs) (sym changed ∙ told_so s keeps) }
 
   pub tells_none : changes ≡ false → TellsInput kept defs None
-  tells_none no = record { tells = λ s keeps. ap (λ (b : Bool). input_if b defs) (sym no ∙ told_so s keeps) }
+  tells_none stays = record { tells = λ s keeps. ap (λ (b : Bool). input_if b defs) (sym stays ∙ told_so s keeps) }
 
   pub has_unchanged : changes ≡ false → HasJails defs kept.engine.core
-  has_unchanged no = subst (HasJails defs) same (unchanged_has defs core changes (fit_defs defs storable) watched is no)
+  has_unchanged stays = subst (HasJails defs) same (unchanged_has defs core changes (fit_defs defs storable) watched is stays)
 
 pub ruleset telling = (fit_defs, tells_input, tells_none, has_unchanged)

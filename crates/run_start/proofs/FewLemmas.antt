@@ -1,5 +1,5 @@
 -- How many paths are found of a jail, along the walk.
-use Rattle.std.proofs.Common.{ℕ, ◌≡◌, ◌+◌, ◌*◌, ◌≤◌, ◌++◌, min, true, false, List, [], ◌∷◌, length, take, map, filter, flat_map, refl, sym, ap, ◌∙◌, subst, arith, length-append}
+use Rattle.std.proofs.Common.{ℕ, ◌≡◌, ◌+◌, ◌≤◌, ◌++◌, true, false, List, [], ◌∷◌, length, take, map, filter, flat_map, refl, sym, ap, ◌∙◌, subst, arith, length-append}
 use Rattle.std.specs.Prelude.{bytes_eq}
 use Rattle.std.specs.Cmp.Lexicographic.{bytes_decides}
 use Rattle.std.specs.List.{list_any}
@@ -12,7 +12,7 @@ use Rattle.f2b_model.specs.Storable.{AreStorableDefs}
 use Rattle.f2b_model.proofs.ListLemmas.{by_test, filter-append}
 use Rattle.jail_conf.specs.Laws.{AreWithinLimits}
 use Rattle.log_follow.specs.Globs.{behind_slash, fits, has_wildcard, watch_at}
-use Rattle.run_law.specs.Paths.{Naming, Path, expanded, expanded_path, paths_of, paths_of_jail, settled, text_before}
+use Rattle.run_law.specs.Paths.{Naming, Path, expanded, expanded_path, paths_of_jail, settled, text_before}
 use Rattle.run_start.specs.Few.{AreFew, watches_at}
 use Rattle.run_start.specs.Walks.{path_at}
 
@@ -145,4 +145,11 @@ few_named found whole ps listed next left p names few is more rest =
     let Q : List Path → Type 0 = λ f. AreFew f ps in
     few_settled listed ps next left (subst Q (sym more) (expanded_found found ps p names (subst P is few))) rest
 
-pub ruleset counting_paths = (few_paths, few_first, few_named)
+-- all were found
+pub few_whole : (found left slice : List Path) → AreFew found left → left ≡ [] → slice ≡ found → AreFew slice []
+few_whole found left slice few none same =
+    let P : List Path → Type 0 = λ l. AreFew found l in
+    let Q : List Path → Type 0 = λ f. AreFew f [] in
+    subst Q (sym same) (subst P none few)
+
+pub ruleset counting_paths = (few_paths, few_first, few_named, few_whole)

@@ -181,5 +181,3 @@ pub stores : (defs : Defs) (jails slice : List JailDef) (found : List Path) → 
 stores defs jails slice found s texts few same is =
     let P : List JailDef → Type 0 = λ ds. let with : Defs = record { purge = defs.purge; jails = ds } in AreStorableDefs with in
     subst P (sym (is ∙ ap (map (with_watches found)) same)) (defs_stored found texts few defs s)
-
-pub ruleset storing = (stores)

@@ -1,8 +1,7 @@
 -- The jails of a configuration, whether it was an input or changed nothing.
-use Rattle.std.proofs.Common.{ℕ, ◌≡◌, ◌≢◌, ◌↔◌, ◌&&◌, ◌||◌, not, Bool, true, false, IsTrue, List, [], ◌∷◌, Option, Some, None, map, refl, sym, ap, ◌∙◌, subst}
+use Rattle.std.proofs.Common.{ℕ, ◌≡◌, ◌≢◌, ◌↔◌, ◌&&◌, not, Bool, true, false, IsTrue, List, [], ◌∷◌, Option, Some, None, map, refl, sym, ap, ◌∙◌}
 use Rattle.std.specs.List.{list_any}
 use Rattle.std.proofs.lemmas.Bool.{and_parts, or_parts}
-use Rattle.f2b_base.specs.declared.input.What.{What}
 use Rattle.f2b_base.specs.declared.input.What.TheVariants.{Config}
 use Rattle.f2b_base.specs.declared.jail.Defs.{Defs}
 use Rattle.f2b_base.specs.declared.jail.JailDef.{JailDef}
@@ -75,13 +74,13 @@ not_false false is = refl
 
 -- the jails are its own already, and none is idle
 pub unchanged_has : (defs : Defs) (n : Now) (changes : Bool) → AreFitDefs defs → AreWatched n.jails → IsTrue changes ↔ (configured_now defs n ≢ n) → changes ≡ false → HasJails defs n
-unchanged_has defs n changes fit watched is no =
+unchanged_has defs n changes fit watched is stays =
     let own : Defs = defs_now n in
     let same : Bool = are_same_defs defs own in
     let rest : Bool = not n.lanes.stopping && (not (any_idle n) && are_just (lanes_of defs) n.lanes.up) in
     let law = changes_is defs n same (same && rest) fit watched (same_defs_law defs own) refl in
     let all : (same && rest) ≡ true =
-    by_test (same && rest) _ (λ yes. yes) (λ other. absurd (let h : true ≡ false = sym (is.1 (law.0 (ap not other))) ∙ no in cc)) in
+    by_test (same && rest) _ (λ yes. yes) (λ other. absurd (let h : true ≡ false = sym (is.1 (law.0 (ap not other))) ∙ stays in cc)) in
     let parts = and_parts same rest all in
     let more = and_parts (not n.lanes.stopping) (not (any_idle n) && are_just (lanes_of defs) n.lanes.up) parts.1 in
     let busy = and_parts (not (any_idle n)) (are_just (lanes_of defs) n.lanes.up) more.1 in

@@ -89,7 +89,7 @@ fn ready_lines(alloc: Global, now: u64) -> Result<Seq<Bytes>, NoMemory>
 }
 
 // Takes the configuration with the paths that were found, and says that the server is ready.
-#[tactic(auto, using(crate::proofs::BeginLemmas::configuring, run_steps::proofs::StoredLemmas::storing, run_law::proofs::CauseLemmas::counting))]
+#[tactic(auto, using(crate::proofs::BeginLemmas::configuring, crate::proofs::FewLemmas::counting_paths, run_steps::proofs::StoredLemmas::storing, run_law::proofs::CauseLemmas::counting))]
 fn configure<W: World + Disk>(
     alloc: Global,
     world: &mut W,

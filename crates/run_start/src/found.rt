@@ -72,7 +72,6 @@ fn see_paths(paths: &[JailPath])
 }
 
 /// The definitions with the paths that were found in place of their own, each path of a jail once.
-#[tactic(auto, using(crate::proofs::FoundLemmas::storing))]
 pub fn with_paths(alloc: Global, defs: &Defs, found: &[JailPath]) -> Result<Defs, NoMemory>
     requires storable { AreStorableDefs defs.now }
     requires few { AreFew found.now [] }
