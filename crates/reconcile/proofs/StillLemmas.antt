@@ -58,27 +58,25 @@ after_still slot s (e ∷ es) all = ap (λ (t : Slot). slot_after slot t es) (st
 pub slot_still : (slot : ℕ) (g : History) (es : List Event) → AllOf ChangesNoSlot es → slot_of (grown g es) slot ≡ slot_of g slot
 slot_still slot g es all = slot_grown slot g es ∙ after_still slot (slot_of g slot) es all
 
+-- it is at rest where the slots are the same
+pub rest_same : (p : Position) (stored : Stored) (h g : History) → ((slot : ℕ) → slot_of h slot ≡ slot_of g slot) → IsAtRest p stored g → IsAtRest p stored h
+rest_same p stored h g same is = record {
+  content = is.content;
+  past = is.past;
+  slot = is.slot;
+  holds = same p.slot ∙ is.holds;
+  held = is.held;
+  head = is.head;
+  top = is.top;
+  grows = is.grows;
+  beside = same (fresh_slot p) ∙ is.beside;
+  past_held = is.past_held;
+  past_head = is.past_head;
+  older = is.older;
+}
+
 pub on_still : (e : EngineNow) (g : History) (es : List Event) → AllOf ChangesNoSlot es → IsOnDisk e g → IsOnDisk e (grown g es)
-on_still e g es all is =
-    let r = is.rests in
-    record {
-      stored = is.stored;
-      rests = record {
-        content = r.content;
-        past = r.past;
-        slot = r.slot;
-        holds = slot_still e.journal.slot g es all ∙ r.holds;
-        held = r.held;
-        head = r.head;
-        top = r.top;
-        grows = r.grows;
-        beside = slot_still (fresh_slot e.journal) g es all ∙ r.beside;
-        past_held = r.past_held;
-        past_head = r.past_head;
-        older = r.older;
-      };
-      comes = is.comes;
-    }
+on_still e g es all is = record { stored = is.stored; rests = rest_same e.journal is.stored (grown g es) g (λ slot. slot_still slot g es all) is.rests; comes = is.comes }
 
 -- ---- how long slots are
 

@@ -33,11 +33,11 @@ steps-append s [] i = refl
 steps-append s (x ∷ inputs) i = steps-append (step s x) inputs i
 
 -- one more element
-all_of-append : {A : Type 0} (P : A → Type 0) (xs : List A) (x : A) → AllOf P xs → P x → AllOf P (xs ++ x ∷ [])
+pub all_of-append : {A : Type 0} (P : A → Type 0) (xs : List A) (x : A) → AllOf P xs → P x → AllOf P (xs ++ x ∷ [])
 all_of-append P [] x all one = (one, tt)
 all_of-append P (y ∷ xs) x all one = (all.0, all_of-append P xs x all.1 one)
 
-steps_sound : (s : State) (inputs : List Input) → AllOf IsStorableInput inputs → IsSound s → IsSound (steps s inputs)
+pub steps_sound : (s : State) (inputs : List Input) → AllOf IsStorableInput inputs → IsSound s → IsSound (steps s inputs)
 steps_sound s [] all sound = sound
 steps_sound s (x ∷ inputs) all sound = steps_sound (step s x) inputs all.1 (whole_keeps s x (stored_fits x all.0) sound)
 
