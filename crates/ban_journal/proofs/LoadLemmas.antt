@@ -179,9 +179,9 @@ module _ (failed : Bool) (r s : SlotReader) (a b : Standing) (reads : OnlyReads 
 -- ---- what an error tells, and how much is left
 
 -- a fault of a slot is told as one of the load
-pub reads_error : (a b : Standing) (fault : Fault) → OnlyReads (is_slot_fault (Err fault)) a b → OnlyReads (is_fault (Err (load_error fault))) a b
-reads_error a b FaultDisk reads = reads
-reads_error a b FaultMemory reads = reads
+pub reads_error : (X Y : Type 0) (a b : Standing) (fault : Fault) → OnlyReads (is_slot_fault {X = X} (Err fault)) a b → OnlyReads (is_fault {X = Y} (Err (load_error fault))) a b
+reads_error X Y a b FaultDisk reads = reads
+reads_error X Y a b FaultMemory reads = reads
 
 -- a reader that goes on within its slot has less left
 pub fewer_left : (r s : SlotReader) → IsSameSlot r s → IsWithin s.shown → r.shown.place < s.shown.place → bytes_left (with_reader s) < bytes_left (with_reader r)

@@ -1,7 +1,7 @@
 -- What is known of a failure that a line shows: it can be stored.
-use Rattle.std.proofs.Common.{◌≡◌, ℕ, suc, ◌+◌, ◌<◌, ◌≤◌, ◌^◌, ◌/◌, ℤ, pos, negsuc, inl, inr, Bool, true, false, List, [], ◌∷◌, ◌++◌, length, Option, Some, None, IfSome, refl, sym, ap, ◌∙◌, subst, arith, length-append}
+use Rattle.std.proofs.Common.{◌≡◌, ℕ, zero, suc, ◌+◌, ◌<◌, ◌≤◌, ◌^◌, ◌/◌, ℤ, pos, negsuc, inl, inr, Bool, true, false, List, [], ◌∷◌, ◌++◌, length, take, Option, Some, None, IfSome, refl, sym, ap, ◌∙◌, subst, arith}
 use Rattle.std.specs.Prelude.{◌≢◌, nat_le, min, option_map}
-use Rattle.std.specs.List.{cons_option}
+use Rattle.std.specs.List.{cons_option, filter_map}
 use Rattle.std.proofs.lemmas.Bool.{cases_Bool, eqb-false}
 use Rattle.date_detect.specs.Dates.{date_in}
 use Rattle.f2b_base.specs.Addresses.{IsAddr, canonical, is_mapped, read_addr, written_addr}
@@ -122,6 +122,12 @@ all_more P [] None all one = tt
 all_more P [] (Some x) all one = (one, tt)
 all_more P (x ∷ xs) more all one = (all.0, all_more P xs more all.1 one)
 
-pub length_more : {A : Type 0} (n : ℕ) (xs : List A) (more : Option A) → length xs ≤ n → length (xs ++ cons_option more []) ≤ n + 1
-length_more n xs None few = omega (arith, length-append xs [])
-length_more n xs (Some x) few = omega (arith, length-append xs (x ∷ []))
+cons_few : {A : Type 0} (n : ℕ) (more : Option A) (xs : List A) → length xs ≤ n → length (cons_option more xs) ≤ suc n
+cons_few n None xs few = omega arith
+cons_few n (Some x) xs few = omega arith
+
+-- what is found in some of the first lines is no more than there are lines
+pub few_taken : {A B : Type 0} (f : A → Option B) (n : ℕ) (xs : List A) → length (filter_map f (take n xs)) ≤ length xs
+few_taken f zero xs = omega arith
+few_taken f (suc n) [] = omega arith
+few_taken f (suc n) (x ∷ xs) = cons_few (length xs) (f x) (filter_map f (take n xs)) (few_taken f n xs)

@@ -1,5 +1,5 @@
 -- From the first reading of the clock to the first turn.
-use Rattle.std.proofs.Common.{ℕ, ◌≡◌, ◌≢◌, ◌↔◌, ◌≤◌, ◌<◌, ◌^◌, max, min, Bool, true, false, IsTrue, List, [], ◌∷◌, Option, Some, None, map, refl, sym, ap, ◌∙◌, subst, arith}
+use Rattle.std.proofs.Common.{ℕ, ◌≡◌, ◌≢◌, ◌↔◌, ◌≤◌, max, min, Bool, true, false, IsTrue, List, [], ◌∷◌, Option, Some, None, map, refl, sym, ap, ◌∙◌, subst, arith}
 use Rattle.ban_journal.specs.Places.{IsPlaced}
 use Rattle.f2b_base.specs.Limits.{last_moment, latest_reading}
 use Rattle.f2b_base.specs.declared.input.What.{What}
@@ -20,9 +20,9 @@ use Rattle.f2b_world.specs.declared.event.Event.TheVariants.{Clock as ClockRead}
 use Rattle.filter_regex.specs.Rules.{rules_of}
 use Rattle.jail_conf.specs.declared.settings.Settings.{Settings}
 use Rattle.reconcile.specs.Engines.{EngineNow}
+use Rattle.reconcile.specs.Loads.{Loaded}
 use Rattle.run_law.specs.Changes.{config_changes}
 use Rattle.run_law.specs.Law.{Goes, Halts}
-use Rattle.run_law.specs.Loads.{Loaded}
 use Rattle.run_law.specs.News.{News, brings, server_after}
 use Rattle.run_law.specs.Paths.{Naming, Path, with_paths}
 use Rattle.run_law.specs.Points.{AtFirst, Run}
@@ -45,7 +45,7 @@ use Rattle.run_start.proofs.JailLemmas.{awake_kept, definitions_kept, places_sto
 use Rattle.run_start.proofs.WalkLemmas.{walk_fails_on, walk_memory}
 use Rattle.run_steps.proofs.BringLemmas.{unbrought_cause}
 use Rattle.run_steps.proofs.ConfigLemmas.{change_told}
-use Rattle.run_steps.specs.Keeping.{IsPlacedIn, IsStorableAt, KeepsClocked, Makes, TellsChange, input_of, news_of}
+use Rattle.run_steps.specs.Keeping.{IsPlacedIn, KeepsClocked, Makes, TellsChange, input_of, news_of}
 use Rattle.run_steps.specs.Starting.{KeepsLoaded}
 use Rattle.run_steps.specs.declared.clocked.Clocked.{Clocked}
 
@@ -246,8 +246,4 @@ module _ (kept : Clocked) (core : Now) (defs : Defs) (changes : Bool) (same : co
   pub has_unchanged : changes ≡ false → HasJails defs kept.engine.core
   has_unchanged no = subst (HasJails defs) same (unchanged_has defs core changes (fit_defs defs storable) watched is no)
 
--- a configuration that can be stored can be at any moment
-pub stored_config : (kept : Clocked) (defs : Defs) → kept.now ≤ last_moment → kept.word < 2 ^ 64 → AreStorableDefs defs → IsStorableAt kept (Config defs)
-stored_config kept defs now word s = record { secs = now; word = word; what = s }
-
-pub ruleset telling = (fit_defs, tells_input, tells_none, has_unchanged, stored_config)
+pub ruleset telling = (fit_defs, tells_input, tells_none, has_unchanged)

@@ -129,11 +129,11 @@ expanded_found found ps p names few = record {
       by_test (bytes_eq p.jail jail) _
       (λ own.
       let here = of_own jail p.jail (expanded p.watch names) own in
-      let one = of_own jail p.jail (p.watch ∷ []) own in
+      let one : length (watches_at jail (p ∷ [])) ≡ 1 = rw own refl in
       omega (arith, before, more, left, most, here, one))
       (λ other.
       let here = of_other jail p.jail (expanded p.watch names) other in
-      let one = of_other jail p.jail (p.watch ∷ []) other in
+      let one : length (watches_at jail (p ∷ [])) ≡ 0 = rw other refl in
       omega (arith, before, more, left, here, one));
 }
 

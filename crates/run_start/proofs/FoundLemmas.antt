@@ -169,7 +169,7 @@ module _ (found : List Path) (texts : AreTexts found) (few : AreFew found []) wh
         purge = s.purge;
         jails = all_stored defs.jails s.jails;
         names = subst P (sym (names_with defs.jails)) s.names;
-        most = (let same = length-map defs.jails (with_watches found) in
+        most = (let same : length (with_paths defs found).jails ≡ length defs.jails = length-map defs.jails (with_watches found) in
             let few_jails = s.most in
             omega (arith, same, few_jails));
         patterns = subst (λ (ns : List ℕ). sum ns ≤ 512) (sym (patterns_with defs.jails)) s.patterns;

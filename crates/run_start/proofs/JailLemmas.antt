@@ -1,5 +1,5 @@
 -- The jails of a configuration, whether it was an input or changed nothing.
-use Rattle.std.proofs.Common.{ℕ, ◌≡◌, ◌≢◌, ◌↔◌, ◌&&◌, ◌||◌, not, nat_lt, ◌^◌, Bool, true, false, IsTrue, List, [], ◌∷◌, Option, Some, None, map, refl, sym, ap, ◌∙◌, subst}
+use Rattle.std.proofs.Common.{ℕ, ◌≡◌, ◌≢◌, ◌↔◌, ◌&&◌, ◌||◌, not, Bool, true, false, IsTrue, List, [], ◌∷◌, Option, Some, None, map, refl, sym, ap, ◌∙◌, subst}
 use Rattle.std.specs.List.{list_any}
 use Rattle.std.proofs.lemmas.Bool.{and_parts, or_parts}
 use Rattle.f2b_base.specs.declared.input.What.{What}
@@ -25,6 +25,7 @@ use Rattle.f2b_model.proofs.ListLemmas.{by_test}
 use Rattle.f2b_model.proofs.StepLemmas.{all_of-more}
 use Rattle.filter_regex.specs.Rules.{Rules, rules_of}
 use Rattle.jail_core.proofs.ConfigLemmas.{any_idle, changes_is}
+use Rattle.jail_core.proofs.CoreLemmas.{fresh_serials}
 use Rattle.jail_rooms.specs.Same.{are_same_defs}
 use Rattle.jail_rooms.proofs.ConfigureLemmas.{defs_now}
 use Rattle.jail_rooms.proofs.SameLemmas.{same_defs_law}
@@ -56,7 +57,7 @@ module _ (at purge : ℕ) (js : List JailNow) where
 -- behind the step of a configuration the jails are its own, and none is idle
 pub step_has : (n : Now) (secs word : ℕ) (defs : Defs) → is_whole_spent moves_now books_now n ≡ false → HasJails defs (step_now n (record { secs = secs; word = word; what = Config defs }))
 step_has n secs word defs live =
-    let jails_live : is_spent n.jails ≡ false = (or_parts (is_spent n.jails) (nat_lt (2 ^ 62) n.lanes.next_job) live).0 in
+    let jails_live : is_spent n.jails ≡ false = fresh_serials n live in
     let w : JailsNow = at_reading moves_now secs n.jails in
     rw live (rw jails_live (record { definitions = definitions_of w.at defs.purge w.jails defs.jails; awake = busy_all w.at defs.purge w.jails defs.jails }))
 

@@ -1,5 +1,5 @@
 -- The configuration as an input, at the end of the walk over its paths.
-use Rattle.std.specs.Prelude.{◌≡◌, Bool, true, false, List, Option, Some, None, map}
+use Rattle.std.specs.Prelude.{◌≡◌, Bool, true, false, Option, Some, None, map}
 use Rattle.f2b_base.specs.declared.input.What.{What}
 use Rattle.f2b_base.specs.declared.input.What.TheVariants.{Config}
 use Rattle.f2b_base.specs.declared.jail.Defs.{Defs}

@@ -5,8 +5,8 @@ use Rattle.f2b_world.specs.Told.{Standing}
 use Rattle.child_table.specs.Children.{nobody}
 use Rattle.jail_conf.specs.declared.settings.Settings.{Settings}
 use Rattle.reconcile.specs.Engines.{EngineNow}
+use Rattle.reconcile.specs.Loads.{Loaded}
 use Rattle.run_law.specs.Law.{Goes, Halts}
-use Rattle.run_law.specs.Loads.{Loaded}
 use Rattle.run_law.specs.Paths.{Path, with_paths}
 use Rattle.run_law.specs.Points.{AtFirst, Run}
 use Rattle.run_law.specs.Server.{Server, jails}

@@ -1,7 +1,7 @@
 //! The first reading of the clock, and the configuration as an input.
 ghost use Rattle.std.specs.Prelude.{◌≡◌, ◌≤◌, ◌∷◌, [], IfErr, IfOk, IfSome, length, map};
 ghost use Rattle.ban_journal.specs.Places.{IsPlaced};
-ghost use Rattle.f2b_model.specs.Storable.{AreStorableDefs};
+ghost use Rattle.f2b_model.specs.Storable.{AreStorableDefs, IsStorableWhat};
 ghost use Rattle.filter_regex.specs.Rules.{rules_of};
 ghost use Rattle.jail_conf.specs.Laws.{AreWithinLimits};
 ghost use Rattle.run_law.specs.Paths.{paths_of, with_paths};
@@ -13,7 +13,7 @@ ghost use Rattle.run_start.specs.First.{BeginFails, Begins};
 ghost use Rattle.run_start.specs.Followed.{ArePlaces, rules_in};
 ghost use Rattle.run_start.specs.Read.{IsFirstWalk, IsRead};
 ghost use Rattle.run_start.specs.Walks.{IsWild, WalkFails};
-ghost use Rattle.run_steps.specs.Keeping.{IsPlacedIn, IsStorableAt};
+ghost use Rattle.run_steps.specs.Keeping.{IsPlacedIn};
 
 use crate::found::with_paths;
 use crate::naming::name_all;
@@ -71,10 +71,8 @@ fn input(clocked: &Clocked, defs: Defs) -> Option<What>
     requires { AreStorableDefs defs }
     ensures tells { TellsInput clocked.entry.now defs result }
     ensures jails { IsConfiguring defs clocked.entry.now.engine.core result }
-    ensures storable { IfSome result (IsStorableAt clocked.entry.now) }
+    ensures storable { IfSome result IsStorableWhat }
 {
-    // Both are within their bounds by their types, and a contract is told so where they are read.
-    let (_now, _word) = (clocked.now, clocked.word);
     if clocked.engine.core().config_changes(&defs) {
         return Some(What::Config { defs });
     }
@@ -91,7 +89,7 @@ fn ready_lines(alloc: Global, now: u64) -> Result<Seq<Bytes>, NoMemory>
 }
 
 // Takes the configuration with the paths that were found, and says that the server is ready.
-#[tactic(auto, using(crate::proofs::BeginLemmas::configuring, run_law::proofs::CauseLemmas::counting))]
+#[tactic(auto, using(crate::proofs::BeginLemmas::configuring, run_steps::proofs::StoredLemmas::storing, run_law::proofs::CauseLemmas::counting))]
 fn configure<W: World + Disk>(
     alloc: Global,
     world: &mut W,

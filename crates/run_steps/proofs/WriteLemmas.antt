@@ -74,7 +74,7 @@ broken_by limit Spent a b (inl same, still) = absurd (cc)
 broken_by limit Spent a b (inr same, still) = absurd (cc)
 
 -- memory ran out while the input was written, or before
-IsCutShort : Entry → Standing → Standing → Type 0
+abbrev IsCutShort : Entry → Standing → Standing → Type 0
 IsCutShort e a b = ((p : Position) × (ws : List Write) × (e ≡ Written p ws) × Stopped ws a b) ⊎ (b ≡ a)
 
 short_by : (limit : ℕ) (e : Entry) (a b : Standing) → IsWritten limit e a b (Err EngineMemory) → IsCutShort e a b

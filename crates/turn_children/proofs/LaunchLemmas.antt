@@ -50,12 +50,13 @@ no_place now job (Some lane) o is none = absurd (let e : None ≡ Some (start_pl
 abbrev place_if : Running → Job → Now → Bool → Place
 place_if kept job core passed = start_place kept.clocked.now job (cond passed None (check_of core.lanes.up job.id core.lanes.jobs))
 
-module _ (kept : Running) (core : Now) (core_is : core ≡ kept.clocked.engine.core) (job : Job) (passed : Bool) (passed_is : passed ≡ has_passed job.id kept.children) where
+module _ (kept : Running) (job : Job) (passed : Bool) (passed_is : passed ≡ has_passed job.id kept.children) where
   -- a check has passed for this try
   pub launch_passed : (p : Place) → passed ≡ true → p ≡ start_place kept.clocked.now job None → p ≡ place_for kept job
   launch_passed p holds is = is ∙ ap (place_if kept job kept.clocked.engine.core) (sym holds ∙ passed_is)
 
-  module _ (no : passed ≡ false) (o : Option Launch) (is : option_map place_of o ≡ option_map (λ (u : UpLane). start_place kept.clocked.now job (Some u)) (check_of core.lanes.up job.id core.lanes.jobs)) where
+  module _ (core : Now) (core_is : core ≡ kept.clocked.engine.core) (no : passed ≡ false) (o : Option Launch)
+      (is : option_map place_of o ≡ option_map (λ (u : UpLane). start_place kept.clocked.now job (Some u)) (check_of core.lanes.up job.id core.lanes.jobs)) where
     unpassed : start_place kept.clocked.now job (check_of core.lanes.up job.id core.lanes.jobs) ≡ place_for kept job
     unpassed = λ i. place_if kept job (core_is i) ((sym no ∙ passed_is) i)
 
@@ -84,8 +85,9 @@ module _ (kept : Running) (core : Now) (core_is : core ≡ kept.clocked.engine.c
   module _ (room : length kept.children.running < most_children) (jobs : List ℕ) (jobs_are : jobs ≡ jobs_of kept.children.running) where
     due_is : next_job kept ≡ next_due kept.clocked.now jobs core.lanes.jobs
     due_is =
-        ap (job_if kept) (lt-ltb (length kept.children.running) most_children room)
-        ∙ λ i. next_due kept.clocked.now (sym jobs_are i) (sym core_is i).lanes.jobs
+        let same : next_due kept.clocked.now (jobs_of kept.children.running) kept.clocked.engine.core.lanes.jobs ≡ next_due kept.clocked.now jobs core.lanes.jobs =
+        λ i. next_due kept.clocked.now (sym jobs_are i) (sym core_is i).lanes.jobs in
+        ap (job_if kept) (lt-ltb (length kept.children.running) most_children room) ∙ same
 
     pub next_found : (job : Job) (l : Launch) → next_due kept.clocked.now jobs core.lanes.jobs ≡ Some job → place_of l ≡ place_for kept job → IsNextStart kept (Some l)
     next_found job l due is = record { next = ap (λ (q : Place). Some q) is ∙ ap (option_map (place_for kept)) (sym (due_is ∙ due)); by_id = rises }

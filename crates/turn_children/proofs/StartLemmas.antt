@@ -32,11 +32,11 @@ use Rattle.run_law.specs.Starts.{child_started, with_child, without_child}
 use Rattle.run_law.specs.Turn.{start_place, start_point, to_end, to_starts}
 use Rattle.run_law.specs.declared.status.Status.{Status}
 use Rattle.run_law.specs.declared.status.Status.TheVariants.{NoMemory}
-use Rattle.run_law.proofs.CauseLemmas.{steady_call, steady_refl}
+use Rattle.run_law.proofs.CauseLemmas.{steady_call, steady_placed, steady_refl}
 use Rattle.run_law.proofs.EntryLemmas.{saying_starts}
 use Rattle.run_law.proofs.PointLemmas.{goes_trans, halts_after, halts_here, turn_goes}
 use Rattle.run_law.proofs.StageLemmas.{move_fails_here}
-use Rattle.run_steps.specs.Keeping.{IsTimedAlike, KeepsRunning, Makes, news_of}
+use Rattle.run_steps.specs.Keeping.{IsPlacedIn, IsTimedAlike, KeepsRunning, Makes, news_of}
 use Rattle.run_steps.specs.declared.clocked.Clocked.{Clocked}
 use Rattle.run_steps.specs.declared.running.Running.{Running}
 use Rattle.turn_children.specs.Launches.{IsNextStart, next_job, next_start, place_for, place_of}
@@ -207,6 +207,13 @@ module _ (kept : Running) (launch : Launch) (next : IsNextStart kept (Some launc
             let P : Standing → Type 0 = λ x. IsSteady a x in
             subst P (sym asked) (steady_refl a)
 
+    -- the journal stands where it did
+    pub started_placed : (after : Running) → HasStarted launch.child kept after → IsPlacedIn a.told kept.clocked → IsPlacedIn b.told after.clocked
+    started_placed after is placed = subst (IsPlacedIn b.told) (sym is.clocked) (steady_placed kept.clocked.engine.journal a b start_steady placed)
+
+    pub unstarted_placed : (mid : Running) → HasNotStarted launch.child kept mid → IsPlacedIn a.told kept.clocked → IsPlacedIn b.told mid.clocked
+    unstarted_placed mid is placed = subst (IsPlacedIn b.told) (sym is.clocked) (steady_placed kept.clocked.engine.journal a b start_steady placed)
+
     module _ (c : Standing) (mid : Running) (is : answer ≡ StartFailed) (not_now : HasNotStarted launch.child kept mid) where
       -- it could not be started
       pub start_failed : (after : Running) → Brings KeepsRunning b c (news_of [] (Some (end_of launch.child.task launch.child.job NotStarted)) []) mid after → Moves KeepsRunning a c to_starts to_starts kept after
@@ -325,4 +332,4 @@ started_left before after child is = is.left
 pub failed_left : (before mid after : Running) (child : Child) → HasNotStarted child before mid → after.left ≡ mid.left → after.left ≡ before.left
 failed_left before mid after child is same = same ∙ is.left
 
-pub ruleset starting = (start_room, start_apart, start_done, start_lost, start_memory, start_steady, start_failed, start_fails, started_nearer, failed_nearer, started_left, failed_left)
+pub ruleset starting = (start_room, start_apart, start_done, start_lost, start_memory, start_steady, start_failed, start_fails, started_nearer, failed_nearer, started_left, failed_left, started_placed, unstarted_placed)

@@ -1,4 +1,4 @@
-use Rattle.std.proofs.Common.{◌∙◌, sym, subst}
+use Rattle.std.proofs.Common.{false, ◌∙◌, sym, subst}
 use Rattle.slot_reader.specs.Readings.{TellsNext}
 use Rattle.slot_reader.proofs.ReadLemmas.{reads_then}
 use Rattle.slot_reader.proofs.ReadingLemmas.{checked_ended, so_far_more, same_slot_then}
@@ -23,5 +23,5 @@ inputs-preserved g c =
           let told = (g.D.Outside.stands c.next.new.disk).told in
           let tells = subst (TellsNext c.next.new.self v x.0 told) c.in_ok-next.was (c.next.ensures.next v x.0 x.1) in
           so_far_more c.next.new.self v x.0 told c.in_ok-next.next tells none);
-      reads = reads_then (g.D.Outside.stands c.args.disk.now) (g.D.Outside.stands c.inputs.disk) (g.D.Outside.stands c.next.new.disk) c.inputs.invariant.reads c.next.ensures.reads;
+      reads = reads_then false (g.D.Outside.stands c.args.disk.now) (g.D.Outside.stands c.inputs.disk) (g.D.Outside.stands c.next.new.disk) c.inputs.invariant.reads c.in_ok-next.ensures.reads;
     }

@@ -1,4 +1,4 @@
-use Rattle.std.proofs.Common.{◌≡◌, ◌≤◌, length, take}
+use Rattle.std.proofs.Common.{◌≡◌, take}
 use Rattle.f2b_model.specs.Lists.{AllOf}
 use Rattle.f2b_model.specs.Storable.{IsStorableFailure}
 use Rattle.log_set.specs.Searches.{failures_by}
@@ -9,5 +9,4 @@ invariant-loop-line l = record {
   same : l.self ≡ l.initial.self;
   found : l.found ≡ failures_by l.fn.self l.now (take l.line-index l.lines);
   storable : AllOf IsStorableFailure l.found;
-  few : length l.found ≤ l.line-index;
 }
