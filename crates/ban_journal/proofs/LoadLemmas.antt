@@ -117,7 +117,7 @@ module _ (r s : SlotReader) (left : List Input) (now : List ℕ) (is : StandBehi
 
 told_still : (failed : Bool) (P : List ℕ → Type 0) (slot : ℕ) (a b : Standing) → OnlyReads failed a b → IsTold P slot a.told → IsTold P slot b.told
 told_still failed P slot a b reads is h told =
-    let t = told_before failed a.told b.told reads.events h told in
+    let t = told_before failed a.told b.told reads.told h told in
     let Q : List ℕ → Type 0 = λ now. IsHeld now × P now in
     subst Q (ap (λ (s : Slot). s.now) (sym (t.2 slot))) (is t.0 t.1)
 
@@ -139,7 +139,7 @@ module _ (failed : Bool) (r s : SlotReader) (a b : Standing) (reads : OnlyReads 
   -- what was left before, and what the call told of it
   left_then : (is : StandBehind r left now) × IsNext s is.view is.before now next
   left_then =
-      let t = told_before failed a.told b.told reads.events h told in
+      let t = told_before failed a.told b.told reads.told h told in
       let same : content t.0 r.shown.slot ≡ now = ap (λ (x : Slot). x.now) (sym (t.2 r.shown.slot)) ∙ ap (content h) (sym slot) in
       let is = before t.0 t.1 in (
         record { view = is.view; before = is.before; opened = is.opened; read = subst (HasRead r is.view is.before) same is.read; parsed = ap parse_slot (sym same) ∙ is.parsed; inputs = is.inputs },

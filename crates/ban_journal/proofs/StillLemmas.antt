@@ -14,7 +14,7 @@ use Rattle.ban_journal.specs.Places.{IsPlaced, least_bytes}
 module _ (failed : Bool) (a b : Standing) (reads : OnlyReads failed a b) where
   long_still : (slot n : ℕ) → HasLength a.told slot n → HasLength b.told slot n
   long_still slot n long h told =
-      let t = told_before failed a.told b.told reads.events h told in
+      let t = told_before failed a.told b.told reads.told h told in
       let e = long t.0 t.1 in
       omega (arith, e, ap (λ (s : Slot). length s.now) (t.2 slot))
 
@@ -27,12 +27,12 @@ module _ (failed : Bool) (a b : Standing) (reads : OnlyReads failed a b) where
 
   pub settled_still : WhereTold a.told AreSettled → WhereTold b.told AreSettled
   settled_still is h told slot lt =
-      let t = told_before failed a.told b.told reads.events h told in
+      let t = told_before failed a.told b.told reads.told h told in
       t.2 slot ∙ is t.0 t.1 slot lt ∙ ap (λ (s : Slot). settled s.now) (sym (t.2 slot))
 
   pub rests_still : (p : Position) (stored : Stored) → Rests p stored a.told → Rests p stored b.told
   rests_still p stored is h told =
-      let t = told_before failed a.told b.told reads.events h told in
+      let t = told_before failed a.told b.told reads.told h told in
       let r = is t.0 t.1 in
       record {
         content = r.content;

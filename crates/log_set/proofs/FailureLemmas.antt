@@ -16,7 +16,6 @@ use Rattle.filter_regex.specs.Findings.{content, dated, failure, finding, first_
 use Rattle.filter_regex.specs.Rules.{Rules}
 use Rattle.filter_regex.specs.declared.finding.Finding.{Finding}
 use Rattle.filter_regex.specs.declared.finding.Finding.TheVariants.{Failure as Failed}
-use Rattle.filter_regex.specs.declared.part.Hit.{Hit}
 use Rattle.host_ident.specs.Hosts.{host_of}
 
 -- ---- the address
@@ -77,7 +76,7 @@ failure_timely masks now findtime moment index (Some addr) unmapped = elim (case
   | inr counts ↦ rw counts (timed_timely now findtime index addr moment unmapped)
 ]
 
-matched_timely : (masks : List Cidr) (now findtime : ℕ) (moment : ℤ) (text : List ℕ) (found : Option Hit) → IsTimely now (matched masks now findtime moment text found)
+matched_timely : (masks : List Cidr) (now findtime : ℕ) (moment : ℤ) (text : List ℕ) (found : Option _) → IsTimely now (matched masks now findtime moment text found)
 matched_timely masks now findtime moment text None = tt
 matched_timely masks now findtime moment text (Some h) =
     let ip4 = part text h.spans.ip4 in
@@ -93,7 +92,7 @@ dated_timely : (rules : Rules) (masks : List Cidr) (now findtime : ℕ) (rest : 
 dated_timely rules masks now findtime rest None = tt
 dated_timely rules masks now findtime rest (Some moment) = looked_timely rules masks now findtime moment (content rules.pref rest)
 
-unless_timely : (now : ℕ) (found : Option Hit) (otherwise : Finding) → IsTimely now otherwise → IsTimely now (unless_ignored found otherwise)
+unless_timely : (now : ℕ) (found : Option _) (otherwise : Finding) → IsTimely now otherwise → IsTimely now (unless_ignored found otherwise)
 unless_timely now (Some h) otherwise timely = tt
 unless_timely now None otherwise timely = timely
 

@@ -3,7 +3,6 @@ use Rattle.std.proofs.Common.{◌≡◌, ℕ, ◌&&◌, ◌++◌, inl, inr, Bool
 use Rattle.std.specs.Prelude.{bytes_eq}
 use Rattle.std.proofs.Props.{props}
 use Rattle.std.proofs.lemmas.Bool.{cases_Bool}
-use Rattle.std.specs.Coded.{IsProp}
 use Rattle.f2b_model.specs.Storable.{IsJailName}
 use Rattle.log_follow.specs.declared.follower.Follower.{Follower}
 use Rattle.log_set.specs.Followers.{is_same, taken_over, taken_over_by}

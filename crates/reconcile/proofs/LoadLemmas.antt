@@ -25,7 +25,7 @@ use Rattle.ban_journal.specs.Loads.{AreLeft, AreSettled, HasLoaded, IsGiven, IsL
 use Rattle.ban_journal.specs.Places.{IsPlaced}
 use Rattle.ban_journal.specs.Positions.{IsAtTop, top_in}
 use Rattle.slot_reader.specs.Reads.{AreDone, AreReads, IsDone, OnlyReads, content}
-use Rattle.slot_reader.proofs.ReadLemmas.{reads_same, reads_then, told_before}
+use Rattle.slot_reader.proofs.ReadLemmas.{reads_events, reads_same, reads_then, told_before}
 use Rattle.slot_writes.specs.declared.position.Position.{Position}
 use Rattle.slot_writes.specs.Rests.{IsAtRest, nothing_stored}
 use Rattle.reconcile.specs.Engines.{EngineNow, IsOnDisk}
@@ -44,7 +44,7 @@ Same h g = (k : ℕ) → slot_of h k ≡ slot_of g k
 
 module _ (failed : Bool) (a b : Standing) (reads : OnlyReads failed a b) (h : History) (told : b.told ≡ Some h) where
   pub before_reads : (g : History) × (a.told ≡ Some g) × Same h g
-  before_reads = told_before failed a.told b.told reads.events h told
+  before_reads = told_before failed a.told b.told reads.told h told
 
 content_same : (h g : History) → Same h g → content h ≡ content g
 content_same h g same = λ i k. (same k i).now
@@ -61,7 +61,7 @@ all_done_still (e ∷ es) is = (done_still e is.0, all_done_still es is.1)
 -- no slot gets shorter
 pub placed_then : (p : Position) (a b : Standing) → OnlyReads false a b → IsPlaced p a.told → IsPlaced p b.told
 placed_then p a b reads is =
-    placed_still p a.told b.told (adds_weaker (λ g es. AreReads false es) (λ g es. AllOf ChangesNoSlot es) a.told b.told reads.events (λ g es done. all_done_still es done)) is
+    placed_still p a.told b.told (adds_weaker (λ g es. AreReads false es) (λ g es. AllOf ChangesNoSlot es) a.told b.told (reads_events false a b reads) (λ g es done. all_done_still es done)) is
 
 -- ---- inputs that are taken one by one
 

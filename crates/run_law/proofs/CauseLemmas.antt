@@ -28,6 +28,12 @@ steady_call old new event call = record { counts = call.counts.steady; history =
 pub steady_placed : (p : Position) (old new : Standing) → IsSteady old new → IsPlaced p old.told → IsPlaced p new.told
 steady_placed p old new steady is = placed_on p old.told new.told steady.history is
 
+-- and over one call
+pub called_placed : (p : Position) (old new : Standing) (event : Event) → Called old event new → IsPlaced p old.told → IsPlaced p new.told
+called_placed p old new event call is = steady_placed p old new (steady_call old new event call) is
+
+pub ruleset placing = (called_placed)
+
 rose_later : (a b c : ℕ) → a ≤ b → Rose b c → Rose a c
 rose_later a b c le (inl lt) = inl (omega arith)
 rose_later a b c le (inr top) = inr top

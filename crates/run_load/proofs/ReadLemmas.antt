@@ -18,6 +18,7 @@ use Rattle.run_law.specs.Points.{Run}
 use Rattle.run_law.specs.Stages.{IsSteady}
 use Rattle.run_law.proofs.LongLemmas.{goes_on}
 use Rattle.run_steps.specs.Starting.{LeavesSlots}
+use Rattle.slot_reader.proofs.ReadLemmas.{reads_answers, reads_events}
 use Rattle.slot_reader.specs.Reads.{AreBroken, AreDone, AreReads, AreTrue, IsDone, IsFailed, OnlyReads}
 use Rattle.slot_reader.proofs.AnswerLemmas.{true_split}
 
@@ -93,20 +94,11 @@ after_broken r es is =
 
 -- ---- all reads of a load
 
--- the events and their answers
-both_told : (P Q : History → List Event → Type 0) (old new : Option History) → Adds old new P → Adds old new Q → Adds old new (λ g es. P g es × Q g es)
-both_told P Q old None p q = tt
-both_told P Q old (Some h) p q =
-    let first : q.0 ≡ p.0 = same_Some q.0 p.0 (sym q.2 ∙ p.2) in
-    let ends : q.0.events ++ q.1 ≡ p.0.events ++ p.1 = ap (λ (k : History). k.events) (sym q.3 ∙ p.3) in
-    let same : q.1 ≡ p.1 = append_cancel_left p.0.events q.1 p.1 (ap (λ (k : History). k.events ++ q.1) (sym first) ∙ ends) in
-    (p.0, p.1, p.2, p.3, (p.4, subst (Q p.0) same (subst (λ (k : History). Q k q.1) first q.4)))
-
 -- the run stays where it is
 pub reads_stay : (a b : Standing) (r : Run) → IsLoading r.point r.owed → OnlyReads false a b → Goes a.told b.told r r
 reads_stay a b r loading reads = record {
   events = adds_weaker (λ g es. AreReads false es × AreTrue g es) (λ g es. Passes r g es × (run_after r es ≡ r)) a.told b.told
-      (both_told (λ g es. AreReads false es) AreTrue a.told b.told reads.events reads.answers)
+      reads.told
       (λ g es is. (passes_done r g es loading is.0 is.1, after_done r es is.0));
 }
 
@@ -114,13 +106,13 @@ reads_stay a b r loading reads = record {
 pub reads_break : (a b : Standing) (r : Run) → IsLoading r.point r.owed → OnlyReads true a b → Goes a.told b.told r (broken r)
 reads_break a b r loading reads = record {
   events = adds_weaker (λ g es. AreReads true es × AreTrue g es) (λ g es. Passes r g es × (run_after r es ≡ broken r)) a.told b.told
-      (both_told (λ g es. AreReads true es) AreTrue a.told b.told reads.events reads.answers)
+      reads.told
       (λ g es is. (passes_broken r g es loading is.0 is.1, after_broken r es is.0));
 }
 
 -- the slots are left alone
 pub reads_leave : (a b : Standing) → OnlyReads false a b → LeavesSlots a b
-reads_leave a b reads = adds_weaker (λ g es. AreReads false es) (λ g es. AllOf ChangesNoSlot es) a.told b.told reads.events (λ g es done. all_still es done)
+reads_leave a b reads = adds_weaker (λ g es. AreReads false es) (λ g es. AllOf ChangesNoSlot es) a.told b.told (reads_events false a b reads) (λ g es done. all_still es done)
 
 pub reads_steady : (failed : Bool) (a b : Standing) → OnlyReads failed a b → IsSteady a b
-reads_steady failed a b reads = record { counts = reads.steady; history = goes_on AreTrue a.told b.told reads.answers }
+reads_steady failed a b reads = record { counts = reads.steady; history = goes_on AreTrue a.told b.told (reads_answers failed a b reads) }

@@ -100,11 +100,13 @@ fn bring_lines<W: World>(
     before: &[Bytes],
     behind: &[Bytes],
 ) -> Result<Clocked, Status>
+    requires { IsPlacedIn (W.stands world.old).told clocked }
     ensures ok { IfOk result (Brings KeepsClocked (W.stands world.old) (W.stands world.new) (news_of before.now Option.None behind.now) clocked) }
     ensures err { IfErr result (BringFails KeepsClocked (W.stands world.old) (W.stands world.new) (news_of before.now Option.None behind.now) clocked) }
     ensures cause { IfErr result (IsUnsaid (W.stands world.old) (W.stands world.new)) }
     ensures steady { IsSteady (W.stands world.old) (W.stands world.new) }
     ensures same { IfOk result (λ after. after ≡ clocked) }
+    ensures placed { IfOk result (IsPlacedIn (W.stands world.new).told) }
 {
     let mut lines = Seq::new(alloc);
     push_lines(&mut lines, before)?;

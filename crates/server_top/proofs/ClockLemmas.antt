@@ -23,12 +23,14 @@ use Rattle.run_law.specs.Server.{Server, log_jails, read_at}
 use Rattle.run_law.specs.Stages.{Brings, BringFails, IsAt, Moves, MoveFails}
 use Rattle.run_law.specs.Turn.{to_logs}
 use Rattle.run_law.specs.declared.status.Status.{Status}
+use Rattle.ban_journal.specs.Places.{IsPlaced}
+use Rattle.run_law.proofs.CauseLemmas.{called_placed}
 use Rattle.run_law.proofs.EntryLemmas.{saying_logs}
 use Rattle.run_law.proofs.JailLemmas.{tick_jails}
 use Rattle.run_law.proofs.PointLemmas.{says_none, turn_goes}
 use Rattle.run_law.proofs.StageLemmas.{brings_same, brings_told, fails_same, halts_bringing, reaches_brought}
 use Rattle.run_steps.proofs.RunningLemmas.{bring_beside, bring_fails_beside, clocked_as}
-use Rattle.run_steps.specs.Keeping.{KeepsClocked, KeepsRunning, news_of}
+use Rattle.run_steps.specs.Keeping.{IsPlacedIn, KeepsClocked, KeepsRunning, news_of}
 use Rattle.run_steps.specs.declared.clocked.Clocked.{Clocked}
 use Rattle.run_steps.specs.declared.running.Running.{Running}
 use Rattle.server_top.specs.Ticks.{ReadsAt, ReadsClock, at_clock, tick_of}
@@ -102,6 +104,14 @@ running_read before mid answer s reads logs children left keeps =
 pub clock_reads : (a b : Standing) (answer : Reading) (before after : Running) → Called a (Clock answer) b → ReadsAt before.clocked answer after.clocked → after.logs ≡ before.logs → after.children ≡ before.children
     → after.left ≡ before.left → ReadsClock a b before after
 clock_reads a b answer before after call reads logs children left = record { answer = answer; call = call; reads = reads; logs = logs; children = children; left = left }
+
+-- the journal stands where it stood
+pub clock_placed : (a b : Standing) (answer : Reading) (before after : Clocked) → Called a (Clock answer) b → ReadsAt before answer after → IsPlacedIn a.told before → IsPlacedIn b.told after
+clock_placed a b answer before after call reads is =
+    let P : EngineNow → Type 0 = λ e. IsPlaced e.journal b.told in
+    subst P (sym reads.engine) (called_placed before.engine.journal a b (Clock answer) call is)
+
+pub ruleset clocking = (clock_reads, clock_placed)
 
 module _ (a b c : Standing) (before mid : Running) (reads : ReadsClock a b before mid) where
   -- the clock leads to what a tick brings

@@ -34,7 +34,7 @@ fn at_reading(clocked: Clocked, reading: Reading) -> Clocked
 }
 
 // Reads the clock. The logs, the commands that run and the turns that are left stay as they are.
-#[tactic(auto, using(crate::proofs::ClockLemmas::clock_reads, run_law::proofs::CauseLemmas::counting))]
+#[tactic(auto, using(crate::proofs::ClockLemmas::clocking, run_law::proofs::CauseLemmas::counting))]
 fn read<'f, W: World>(world: &mut W, running: Running<'f>) -> Running<'f>
     requires placed { IsPlacedIn (W.stands world.old).told running.clocked }
     ensures reads { ReadsClock (W.stands world.old) (W.stands world.new) running.entry result }

@@ -13,7 +13,7 @@ use run_steps::Running;
 const PAUSE: u32 = 250;
 
 /// The pause of a turn that is not the last.
-#[tactic(auto, using(crate::proofs::PauseLemmas::pausing, run_law::proofs::CauseLemmas::counting))]
+#[tactic(auto, using(crate::proofs::PauseLemmas::pausing, run_law::proofs::CauseLemmas::counting, run_law::proofs::CauseLemmas::placing))]
 pub fn pause<'f, W: Time>(world: &mut W, running: Running<'f>) -> Running<'f>
     requires left { 1 < running.left }
     requires placed { IsPlacedIn (W.stands world.old).told running.clocked }

@@ -9,8 +9,10 @@ use Rattle.f2b_world.specs.Faults.{Fault as Kind, OfDisk, Rose}
 use Rattle.f2b_world.specs.Slots.{Slot, slot_step, slot_after, settled}
 use Rattle.f2b_world.specs.Told.{History, Standing, Called, Adds, IsHonest, fault_of, grown, slot_of}
 use Rattle.f2b_world.proofs.AddsLemmas.{adds_weaker, adds_then, adds_none}
-use Rattle.slot_reader.proofs.AnswerLemmas.{answers_call, answers_none, answers_then}
-use Rattle.slot_reader.specs.Reads.{IsDone, IsFailed, AreDone, AreReads, CountsFault, OnlyReads, IsAllOf, IsPieceAt}
+use Rattle.f2b_world.proofs.AddsLemmas.{grown_twice}
+use Rattle.std.proofs.lemmas.Option.{none-some, same_Some}
+use Rattle.slot_reader.proofs.AnswerLemmas.{true_append}
+use Rattle.slot_reader.specs.Reads.{IsDone, IsFailed, AreDone, AreReads, AreTrue, CountsFault, OnlyReads, IsAllOf, IsPieceAt}
 
 -- ---- no slot changes
 
@@ -42,11 +44,11 @@ pub slots_kept : (failed : Bool) (k : ℕ) (g : History) (es : List Event) → A
 slots_kept failed k g es h = after-append k (settled (g.first k)) g.events es ∙ reads_keep failed k (slot_of g k) es h
 
 -- the slots are those of a history before, by whose end as much was told
-pub told_before : (failed : Bool) (old new : Option History) → Adds old new (λ g es. AreReads failed es) → (h : History) → new ≡ Some h → (g : History) × (old ≡ Some g) × ((k : ℕ) → slot_of h k ≡ slot_of g k)
+pub told_before : (failed : Bool) (old new : Option History) → Adds old new (λ g es. AreReads failed es × AreTrue g es) → (h : History) → new ≡ Some h → (g : History) × (old ≡ Some g) × ((k : ℕ) → slot_of h k ≡ slot_of g k)
 told_before failed old None adds h is = absurd (none-some h is)
 told_before failed old (Some j) adds h is =
     let same : h ≡ grown adds.0 adds.1 = sym (same_Some j h is) ∙ adds.3 in
-    (adds.0, adds.2, λ k. ap (λ (r : History). slot_of r k) same ∙ slots_kept failed k adds.0 adds.1 adds.4)
+    (adds.0, adds.2, λ k. ap (λ (r : History). slot_of r k) same ∙ slots_kept failed k adds.0 adds.1 adds.4.0)
 
 -- ---- one call
 
@@ -61,8 +63,8 @@ call_done : (e : Event) (a b : Standing) → IsDone e → fault_of e ≡ None �
 call_done e a b done no_fault call =
     let still : (kind : Kind) → b.faults kind ≡ a.faults kind = λ kind. call.counts.still kind (λ is. none_is kind (sym no_fault ∙ is)) in
     record {
-      events = adds_weaker _ (λ g es. AreReads false es) a.told b.told call.adds (λ g es is. subst AreDone (sym is.0) (done, tt));
-      answers = answers_call e a b call;
+      told = adds_weaker _ (λ g es. AreReads false es × AreTrue g es) a.told b.told call.adds
+          (λ g es is. (subst AreDone (sym is.0) (done, tt), subst (AreTrue g) (sym is.0) (is.1, call.bounded, tt)));
       leaves = call.leaves;
       steady = call.counts.steady;
       still = λ kind other. still kind;
@@ -72,8 +74,8 @@ call_done e a b done no_fault call =
 -- a call that failed
 call_failed : (e : Event) (a b : Standing) → IsFailed e → fault_of e ≡ Some OfDisk → Called a e b → OnlyReads true a b
 call_failed e a b failed fault call = record {
-  events = adds_weaker _ (λ g es. AreReads true es) a.told b.told call.adds (λ g es is. record { first = []; one = e; parts = is.0; done = tt; failed = failed });
-  answers = answers_call e a b call;
+  told = adds_weaker _ (λ g es. AreReads true es × AreTrue g es) a.told b.told call.adds
+      (λ g es is. (record { first = []; one = e; parts = is.0; done = tt; failed = failed }, subst (AreTrue g) (sym is.0) (is.1, call.bounded, tt)));
   leaves = call.leaves;
   steady = call.counts.steady;
   still = λ kind other. call.counts.still kind (λ is. disk_is_not kind other (sym fault ∙ is));
@@ -94,8 +96,7 @@ read_failed slot at len a b small call = call_failed (DiskRead slot at len Piece
 
 pub reads_none : (a b : Standing) → b ≡ a → OnlyReads false a b
 reads_none a b is = subst (OnlyReads false a) (sym is) (record {
-  events = adds_weaker _ (λ g es. AreReads false es) a.told a.told (adds_none a.told) (λ g es is. subst AreDone (sym is) tt);
-  answers = answers_none a.told;
+  told = adds_weaker _ (λ g es. AreReads false es × AreTrue g es) a.told a.told (adds_none a.told) (λ g es is. (subst AreDone (sym is) tt, subst (AreTrue g) (sym is) tt));
   leaves = record { talk = refl; shelf = refl };
   steady = λ kind. omega arith;
   still = λ kind other. refl;
@@ -120,6 +121,14 @@ read_told slot at len piece a b small call h is =
     let e = DiskRead slot at len (PieceBytes piece) in
     let t = told_by e (λ g. IsHonest g e) a.told b.told small call.adds h is in
     t.1 ∙ ap (λ (s : Slot). take len (drop at s.now)) (sym (t.2 slot))
+
+-- ---- what is told apart
+
+pub reads_events : (failed : Bool) (a b : Standing) → OnlyReads failed a b → Adds a.told b.told (λ g es. AreReads failed es)
+reads_events failed a b reads = adds_weaker (λ g es. AreReads failed es × AreTrue g es) (λ g es. AreReads failed es) a.told b.told reads.told (λ g es is. is.0)
+
+pub reads_answers : (failed : Bool) (a b : Standing) → OnlyReads failed a b → Adds a.told b.told AreTrue
+reads_answers failed a b reads = adds_weaker (λ g es. AreReads failed es × AreTrue g es) AreTrue a.told b.told reads.told (λ g es is. is.1)
 
 pub ruleset reads = (len_done, len_failed, len_told, read_done, read_failed, read_told, reads_none)
 
@@ -146,11 +155,23 @@ counted_on true a b c p q = subst (λ (n : ℕ). Rose n (c.faults OfDisk)) p q
 pub reads_same : (a : Standing) → OnlyReads false a a
 reads_same a = reads_none a a refl
 
+told_then : (failed : Bool) (old mid new : Option History) → Adds old mid (λ g es. AreReads false es × AreTrue g es) → Adds mid new (λ g es. AreReads failed es × AreTrue g es)
+    → Adds old new (λ g es. AreReads failed es × AreTrue g es)
+told_then failed old mid None a b = tt
+told_then failed old None (Some h) a b = absurd (none-some b.0 b.2)
+told_then failed old (Some m) (Some h) a b =
+    let grew : b.0 ≡ grown a.0 a.1 = sym (same_Some m b.0 b.2) ∙ a.3 in (
+      a.0,
+      a.1 ++ b.1,
+      a.2,
+      b.3 ∙ ap (λ (k : History). grown k b.1) grew ∙ grown_twice a.0 a.1 b.1,
+      (reads_on failed a.1 b.1 a.4.0 b.4.0, true_append a.0 a.1 b.1 a.4.1 (subst (λ (k : History). AreTrue k b.1) grew b.4.1)),
+    )
+
 -- What was answered goes before what follows.
 pub reads_then : (failed : Bool) (a b c : Standing) → OnlyReads false a b → OnlyReads failed b c → OnlyReads failed a c
 reads_then failed a b c p q = record {
-  events = adds_then (λ g es. AreReads false es) (λ g es. AreReads failed es) (λ g es. AreReads failed es) a.told b.told c.told p.events q.events (λ g h xs ys x y. reads_on failed xs ys x y);
-  answers = answers_then a.told b.told c.told p.answers q.answers;
+  told = told_then failed a.told b.told c.told p.told q.told;
   leaves = record { talk = q.leaves.talk ∙ p.leaves.talk; shelf = q.leaves.shelf ∙ p.leaves.shelf };
   steady = λ kind. omega (arith, p.steady kind, q.steady kind);
   still = λ kind other. q.still kind other ∙ p.still kind other;

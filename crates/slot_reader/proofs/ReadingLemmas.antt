@@ -68,7 +68,7 @@ module _ (failed : Bool) (r : SlotReader) (w : Window) (a b : Standing) (reads :
   -- what was read stays read while the disk is read and more is shown
   pub reads_kept : (v : View) (inputs : List Input) → Reads r v inputs a.told → Reads here v inputs b.told
   reads_kept v inputs given h is =
-      let t = told_before failed a.told b.told reads.events h is in
+      let t = told_before failed a.told b.told reads.told h is in
       let slots : content h w.slot ≡ content t.0 r.shown.slot = ap (content h) same.slot ∙ ap (λ (s : Slot). s.now) (t.2 r.shown.slot) in
       let old : HasRead r v inputs (content h w.slot) = subst (HasRead r v inputs) (sym slots) (given t.0 t.1) in
       let P : ℕ → Type 0 = λ p. IsFront (start_of r v) inputs (take p (content h w.slot)) in

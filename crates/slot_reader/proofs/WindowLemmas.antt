@@ -45,7 +45,7 @@ over_grown w v now piece at len over at_is piece_is len_is long_is place_is byte
 -- what is shown stays so while the disk is read
 pub shows_still : (failed : Bool) (w : Window) (a b : Standing) → OnlyReads failed a b → Shows w a.told → Shows w b.told
 shows_still failed w a b p shows h is =
-    let t = told_before failed a.told b.told p.events h is in
+    let t = told_before failed a.told b.told p.told h is in
     subst (λ (s : Slot). IsOver w s.now) (sym (t.2 w.slot)) (shows t.0 t.1)
 
 pub shows_moved : (w v : Window) (told : Option History) (count : ℕ) → Shows w told → count ≤ length w.bytes → v.slot ≡ w.slot → v.long ≡ w.long → v.place ≡ w.place + count → v.bytes ≡ drop count w.bytes → Shows v told

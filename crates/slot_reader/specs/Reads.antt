@@ -56,8 +56,7 @@ CountsFault true old new = Rose (old.faults OfDisk) (new.faults OfDisk)
 
 -- The disk was read, up to a call that failed or to the end, and nothing but that was done; where one failed it was counted.
 pub record OnlyReads (failed : Bool) (old new : Standing) : Type 0 where
-  pub events : Adds old.told new.told (λ g es. AreReads failed es)
-  pub answers : Adds old.told new.told AreTrue
+  pub told : Adds old.told new.told (λ g es. AreReads failed es × AreTrue g es)
   pub leaves : Leaves old new
   pub steady : (kind : Kind) → old.faults kind ≤ new.faults kind
   pub still : (kind : Kind) → kind ≢ OfDisk → new.faults kind ≡ old.faults kind

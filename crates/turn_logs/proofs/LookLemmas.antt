@@ -22,7 +22,9 @@ use Rattle.run_law.specs.Stages.{Brings, BringFails, IsAt, IsSteady, MoveFails, 
 use Rattle.run_law.specs.Turn.{to_looks}
 use Rattle.run_law.specs.declared.status.Status.{Status}
 use Rattle.run_law.specs.declared.status.Status.TheVariants.{NoMemory}
-use Rattle.run_law.proofs.CauseLemmas.{steady_call, steady_refl}
+use Rattle.ban_journal.specs.Places.{IsPlaced}
+use Rattle.slot_writes.specs.declared.position.Position.{Position}
+use Rattle.run_law.proofs.CauseLemmas.{steady_call, steady_placed, steady_refl}
 use Rattle.run_law.proofs.EntryLemmas.{saying_looks}
 use Rattle.run_law.proofs.PointLemmas.{goes_refl, goes_trans, halts_after, halts_here, turn_goes}
 use Rattle.run_steps.specs.Keeping.{KeepsRunning, news_of}
@@ -174,4 +176,8 @@ look_steady a b path head from max LookNoMemory asked =
     let P : Standing → Type 0 = λ x. IsSteady a x in
     subst P (sym asked) (steady_refl a)
 
-pub ruleset asking = (answer_at, look_moves, look_fails, look_steady)
+-- and the journal stands where it stood
+pub look_placed : (p : Position) (a b : Standing) (path : List ℕ) (head from max : ℕ) (answer : Look) → Asked a (look_event path head from max answer) b → IsPlaced p a.told → IsPlaced p b.told
+look_placed p a b path head from max answer asked is = steady_placed p a b (look_steady a b path head from max answer asked) is
+
+pub ruleset asking = (answer_at, look_moves, look_fails, look_steady, look_placed)
