@@ -10,7 +10,7 @@ use Rattle.f2b_model.specs.StorableViews.{IsStorableView}
 use Rattle.f2b_model.specs.Views.{spread, gathered, view_of, back}
 use Rattle.f2b_model.specs.Whole.{State, Now, now_of, step, steps, step_now, steps_now}
 use Rattle.f2b_model.proofs.ApartLemmas.{stored_fits}
-use Rattle.f2b_model.proofs.WholeLemmas.{gathered_spread, now_of_back, view_sound, whole_keeps, whole_shows}
+use Rattle.f2b_model.proofs.WholeLemmas.{back_sound, gathered_spread, now_of_back, view_sound, whole_keeps, whole_shows}
 use Rattle.f2b_world.specs.declared.event.Event.{Event}
 use Rattle.f2b_world.specs.declared.event.Event.TheVariants.{DiskWrite, DiskSync}
 use Rattle.f2b_world.specs.Slots.{Slot, settled}
@@ -196,6 +196,9 @@ module _ (limit : ℕ) (l : LoadedJournal) (first core : Now) (b d : Standing) (
         loads = loads_top limit (content found.0) l.journal all_stored (top_in (content found.0)) found.3.0.at found.3.0.means;
         journal = refl;
         core = λ sound. (let view_is = sound all_stored found.3.0.means in core_again all_stored view_is found.3.1.1 core (core_is view_is));
+        sound = λ sound.
+            let view_is = sound all_stored found.3.0.means in
+            back_sound (steps (back l.view) found.3.0.inputs) (steps_sound (back l.view) found.3.0.inputs found.3.1.1 view_is.sound);
       })
 
   pub engine_on_disk : IsStorableView l.view → WhereTold b.told AreSoundAtRest → IsOnDisk engine h

@@ -1,9 +1,7 @@
 -- While the journal of a run is loaded reads leave the run where it is, and one that fails breaks it.
-use Rattle.std.proofs.Common.{ℕ, ◌≡◌, Bool, false, true, List, [], ◌∷◌, ◌++◌, Option, Some, None, refl, sym, ap, ◌∙◌, subst}
-use Rattle.std.proofs.lemmas.List.{append_cancel_left}
-use Rattle.std.proofs.lemmas.Option.{same_Some}
+use Rattle.std.proofs.Common.{◌≡◌, Bool, false, true, List, [], ◌∷◌, refl, sym, ap, ◌∙◌, subst}
 use Rattle.f2b_model.specs.Lists.{AllOf}
-use Rattle.f2b_world.specs.Told.{Adds, History, Standing, grown}
+use Rattle.f2b_world.specs.Told.{History, Standing, grown}
 use Rattle.f2b_world.specs.Walks.{after, Along}
 use Rattle.f2b_world.specs.declared.answer.Len.TheVariants.{Bytes as LenIs, Failed as LenFailed}
 use Rattle.f2b_world.specs.declared.answer.Piece.TheVariants.{Bytes as PieceIs, Failed as PieceFailed}

@@ -2,7 +2,9 @@
 use Rattle.std.proofs.Common.{ℕ, ◌≡◌, ◌++◌, false, true, List, [], ◌∷◌, Option, Some, None, Result, Ok, Err, refl, sym, ap, ◌∙◌, subst}
 use Rattle.f2b_base.specs.declared.input.Input.{Input}
 use Rattle.f2b_world.specs.Told.{History, Standing}
-use Rattle.ban_journal.specs.declared.load_error.LoadError.TheVariants.{NotAJournal as NoSuchJournal}
+use Rattle.ban_journal.specs.declared.load_error.LoadError.{LoadError}
+use Rattle.ban_journal.specs.declared.load_error.LoadError.TheVariants.{DiskFault as LostDisk, NotAJournal as NoSuchJournal, NoMemory as NoRoom}
+use Rattle.ban_journal.specs.Loads.{is_fault}
 use Rattle.jail_conf.specs.declared.settings.Settings.{Settings}
 use Rattle.reconcile.specs.Engines.{EngineNow}
 use Rattle.reconcile.specs.LoadedEngines.{IsEngineLoaded}
@@ -21,7 +23,7 @@ use Rattle.run_law.specs.declared.status.Status.TheVariants.{DiskFault, NoMemory
 use Rattle.run_law.proofs.CauseLemmas.{refused_cause}
 use Rattle.run_law.proofs.PointLemmas.{halts_after, halts_here}
 use Rattle.run_steps.proofs.StartLemmas.{holds_on}
-use Rattle.run_load.specs.Loading.{IsUnloaded, ReadFails, ReadsTo}
+use Rattle.run_load.specs.Loading.{IsEnded, IsUnloaded, ReadFails, ReadsTo, status_of}
 use Rattle.run_load.proofs.ReadLemmas.{reads_break, reads_leave, reads_stay, reads_steady}
 use Rattle.slot_reader.specs.Reads.{OnlyReads, content}
 
@@ -56,7 +58,7 @@ pub read_all : (a b : Standing) (limit : ℕ) (engine : EngineNow) → OnlyReads
 read_all a b limit engine reads comes = record { reads = reads; comes = comes }
 
 -- one could not be read
-pub read_broke : (a b c : Standing) (plan : Plan) (status : Status) → OnlyReads true a b → Refuses b c 0 DiskFault status → ReadFails a c plan status
+read_broke : (a b c : Standing) (plan : Plan) (status : Status) → OnlyReads true a b → Refuses b c 0 DiskFault status → ReadFails a c plan status
 read_broke a b c plan status reads refuses = record {
   runs = λ settings r still is.
       let named = store_named settings r in
@@ -77,7 +79,7 @@ refused_so a b plan slot at reads none settings r still is (Some h) told =
     let goes : Q b.told (store_named settings r) = reads_stay a b (store_named settings r) (named_loading settings r still) reads in
     subst (Q (Some h)) (ap (λ (o : Result Loaded (ℕ × ℕ)). loads o settings r) comes) (subst (λ (o : Option History). Q o (store_named settings r)) told goes)
 
-pub read_none : (a b c : Standing) (plan : Plan) (slot at : ℕ) (status : Status) → OnlyReads false a b → WhereTold b.told (λ g. IsEngineLoaded plan.limit (content g) (Err (NoSuchJournal slot at)))
+read_none : (a b c : Standing) (plan : Plan) (slot at : ℕ) (status : Status) → OnlyReads false a b → WhereTold b.told (λ g. IsEngineLoaded plan.limit (content g) (Err (NoSuchJournal slot at)))
     → Refuses b c 0 (NotAJournal slot at) status → ReadFails a c plan status
 read_none a b c plan slot at status reads none refuses = record {
   runs = λ settings r still is.
@@ -85,19 +87,32 @@ read_none a b c plan slot at status reads none refuses = record {
 }
 
 -- memory ran out
-pub read_short : (a b : Standing) (plan : Plan) → OnlyReads false a b → ReadFails a b plan NoMemory
+read_short : (a b : Standing) (plan : Plan) → OnlyReads false a b → ReadFails a b plan NoMemory
 read_short a b plan reads = record {
   runs = λ settings r still is.
       let named = store_named settings r in
       halts_after a.told b.told b.told named named NoMemory (reads_stay a b named (named_loading settings r still) reads) (halts_here b.told named);
 }
 
+-- the answer of a load, and the runs that end behind it
+abbrev failed : LoadError → Result EngineNow LoadError
+failed e = Err e
+
+pub read_ended : (a b c : Standing) (plan : Plan) (e : LoadError) (status : Status) → OnlyReads (is_fault (failed e)) a b → WhereTold b.told (λ g. IsEngineLoaded plan.limit (content g) (failed e))
+    → IsEnded e b c status → ReadFails a c plan status
+read_ended a b c plan LostDisk status reads comes ended = read_broke a b c plan status reads ended
+read_ended a b c plan (NoSuchJournal slot at) status reads comes ended = read_none a b c plan slot at status reads comes ended
+read_ended a b c plan NoRoom status reads comes ended =
+    subst (λ (s : Status). ReadFails a c plan s) (sym ended.0) (subst (λ (d : Standing). ReadFails a d plan NoMemory) (sym ended.1) (read_short a b plan reads))
+
 -- ---- causes
 
-pub broke_cause : (a b c : Standing) (status : Status) → OnlyReads true a b → IsSteady b c → IsRefusedAs b c DiskFault status → HasCause a c status
-broke_cause a b c status reads steady seen = refused_cause a b c DiskFault status reads.counted (reads_steady true a b reads) steady seen
+own_cause : (a b : Standing) (e : LoadError) → OnlyReads (is_fault (failed e)) a b → HasCause a b (status_of e)
+own_cause a b LostDisk reads = reads.counted
+own_cause a b (NoSuchJournal slot at) reads = tt
+own_cause a b NoRoom reads = tt
 
-pub none_cause : (a b c : Standing) (slot at : ℕ) (status : Status) → OnlyReads false a b → IsSteady b c → IsRefusedAs b c (NotAJournal slot at) status → HasCause a c status
-none_cause a b c slot at status reads steady seen = refused_cause a b c (NotAJournal slot at) status tt (reads_steady false a b reads) steady seen
+pub read_cause : (a b c : Standing) (e : LoadError) (status : Status) → OnlyReads (is_fault (failed e)) a b → IsSteady b c → IsRefusedAs b c (status_of e) status → HasCause a c status
+read_cause a b c e status reads steady seen = refused_cause a b c (status_of e) status (own_cause a b e reads) (reads_steady (is_fault (failed e)) a b reads) steady seen
 
-pub ruleset reading = (read_all, read_broke, read_none, read_short, reads_steady, broke_cause, none_cause)
+pub ruleset reading = (read_all, read_ended, read_cause, reads_steady)

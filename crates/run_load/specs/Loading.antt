@@ -1,6 +1,8 @@
 -- What loading the journal of a run hands up: the run comes to the first reading of the clock with what its slots come to, or ends.
-use Rattle.std.specs.Prelude.{ℕ, ◌≡◌, false, Option, Some, None, Ok}
+use Rattle.std.specs.Prelude.{ℕ, ◌≡◌, false, Option, None, Ok}
 use Rattle.f2b_world.specs.Told.{History, Standing}
+use Rattle.ban_journal.specs.declared.load_error.LoadError.{LoadError}
+use Rattle.ban_journal.specs.declared.load_error.LoadError.TheVariants.{DiskFault as LostDisk, NotAJournal as NoSuchJournal, NoMemory as NoRoom}
 use Rattle.jail_conf.specs.declared.settings.Settings.{Settings}
 use Rattle.reconcile.specs.Engines.{EngineNow}
 use Rattle.reconcile.specs.LoadedEngines.{IsLoadedEngine}
@@ -8,11 +10,12 @@ use Rattle.reconcile.specs.Loads.{AreSound, Loaded, loaded}
 use Rattle.reconcile.specs.Opens.{WhereTold}
 use Rattle.run_law.specs.Law.{Halts}
 use Rattle.run_law.specs.Points.{AtFirst, AtStore, Run}
-use Rattle.run_law.specs.Stages.{IsAt, IsStill}
+use Rattle.run_law.specs.Stages.{IsAt, IsStill, Refuses}
 use Rattle.run_law.specs.Start.{store_named}
 use Rattle.run_law.specs.Stops.{HoldsThese}
 use Rattle.run_law.specs.declared.plan.Plan.{Plan}
 use Rattle.run_law.specs.declared.status.Status.{Status}
+use Rattle.run_law.specs.declared.status.Status.TheVariants.{DiskFault, NoMemory, NotAJournal}
 use Rattle.run_steps.specs.Starting.{Arrives, KeepsLoaded}
 use Rattle.slot_reader.specs.Reads.{OnlyReads, content}
 
@@ -43,6 +46,16 @@ pub record LoadFails (old new : Standing) (plan : Plan) (settings : Settings) (s
 pub record ReadsTo (old new : Standing) (limit : ℕ) (engine : EngineNow) : Type 0 where
   pub reads : OnlyReads false old new
   pub comes : WhereTold new.told (λ g. IsLoadedEngine limit (content g) engine)
+
+abbrev pub status_of : LoadError → Status
+status_of LostDisk = DiskFault
+status_of (NoSuchJournal slot at) = NotAJournal slot at
+status_of NoRoom = NoMemory
+
+-- why they were not loaded is said before the run ends, but for want of memory
+abbrev pub IsEnded : LoadError → Standing → Standing → Status → Type 0
+IsEnded NoRoom old new status = (status ≡ NoMemory) × (new ≡ old)
+IsEnded error old new status = Refuses old new 0 (status_of error) status
 
 -- the run ends while they are read
 pub record ReadFails (old new : Standing) (plan : Plan) (status : Status) : Type 0 where

@@ -1,8 +1,8 @@
 //! The journal of a run.
 ghost use Rattle.std.specs.Prelude.{IfErr, IfOk};
 ghost use Rattle.ban_journal.specs.Places.{IsPlaced};
-ghost use Rattle.run_law.specs.Stages.{HasCause, IsSteady};
-ghost use Rattle.run_load.specs.Loading.{LoadFails, LoadsTo, ReadFails, ReadsTo};
+ghost use Rattle.run_law.specs.Stages.{HasCause, IsRefusedAs, IsSteady};
+ghost use Rattle.run_load.specs.Loading.{IsEnded, LoadFails, LoadsTo, ReadFails, ReadsTo, status_of};
 
 use f2b_world::{Disk, Store, StoreAnswer, World};
 use jail_conf::Settings;
@@ -10,6 +10,23 @@ use reconcile::{Engine, LoadError};
 use run_law::{Plan, Status};
 use run_steps::refuse;
 use std::alloc::Global;
+
+// Says why the slots were not loaded, and gives the status that the run ends with.
+#[tactic(auto, using(run_law::proofs::CauseLemmas::counting, run_law::proofs::CauseLemmas::refused))]
+fn end_load<W: World>(alloc: Global, world: &mut W, error: LoadError) -> Status
+    ensures ends { IsEnded error (W.stands world.old) (W.stands world.new) result }
+    ensures cause { IsRefusedAs (W.stands world.old) (W.stands world.new) (status_of error) result }
+    ensures steady { IsSteady (W.stands world.old) (W.stands world.new) }
+{
+    // No clock was read yet: the line has the second 0.
+    match error {
+        LoadError::DiskFault => refuse(alloc, world, 0, Status::DiskFault),
+        LoadError::NotAJournal { slot, at } => {
+            refuse(alloc, world, 0, Status::NotAJournal { slot, at })
+        }
+        LoadError::NoMemory => Status::NoMemory,
+    }
+}
 
 // Loads what the slots hold, which were named.
 #[tactic(auto, using(crate::proofs::SlotLemmas::reading, run_law::proofs::CauseLemmas::counting))]
@@ -20,14 +37,9 @@ fn read_slots<W: World + Disk>(alloc: Global, world: &mut W, plan: &Plan) -> Res
     ensures steady { IsSteady (W.stands world.old) (W.stands world.new) }
     ensures placed { IfOk result (λ engine. IsPlaced engine.journal (W.stands world.new).told) }
 {
-    // No clock was read yet: a line has the second 0.
     match Engine::load(alloc, world, plan.limit) {
         Ok(engine) => Ok(engine),
-        Err(LoadError::DiskFault) => Err(refuse(alloc, world, 0, Status::DiskFault)),
-        Err(LoadError::NotAJournal { slot, at }) => {
-            Err(refuse(alloc, world, 0, Status::NotAJournal { slot, at }))
-        }
-        Err(LoadError::NoMemory) => Err(Status::NoMemory),
+        Err(error) => Err(end_load(alloc, world, error)),
     }
 }
 
