@@ -34,7 +34,7 @@ use Rattle.reconcile.specs.LoadedEngines.{IsLoadedEngine, IsEngineLoaded, AreSou
 use Rattle.reconcile.specs.Loads.{Loaded, loaded, loaded_as, loaded_from, view_by, AreSound}
 use Rattle.reconcile.specs.Opens.{WhereTold}
 use Rattle.reconcile.proofs.StillLemmas.{placed_still, rest_same}
-use Rattle.reconcile.proofs.ViewLemmas.{all_of-append, steps_sound}
+use Rattle.reconcile.proofs.ViewLemmas.{all_of-append, back_now, steps_sound}
 
 -- ---- while slots are read
 
@@ -86,7 +86,7 @@ none_taken begin s told all left g is = (record { before = []; left = all; parts
 
 module _ (begin core : Now) (all : List Input) (p : Part begin all core) where
   -- the next one is taken
-  one_taken : (next : Now) (i : Input) (rest : List Input) → p.left ≡ i ∷ rest → next ≡ step_now core i → IsStorableInput i → Part begin all next
+  abbrev one_taken : (next : Now) (i : Input) (rest : List Input) → p.left ≡ i ∷ rest → next ≡ step_now core i → IsStorableInput i → Part begin all next
   one_taken next i rest first is storable = record {
     before = p.before ++ i ∷ [];
     left = rest;
@@ -138,7 +138,7 @@ steps_shown s (i ∷ inputs) storable sound =
 
 -- a sound state is the one that its view gives back, as far as its middle state shows
 now_again : (s : State) → IsSound s → now_of (back (view_of s)) ≡ now_of s
-now_again s sound = now_of_back (view_of s) (view_sound s sound) ∙ gathered_spread (now_of s)
+now_again s sound = back_now (view_of s) (view_sound s sound) ∙ gathered_spread (now_of s)
 
 module _ (stored : Stored) (sound : IsSoundView stored.view) (storable : AllOf IsStorableInput stored.inputs) (core : Now) (is : core ≡ steps_now (gathered stored.view) stored.inputs) where
   abbrev reached : State
@@ -146,7 +146,7 @@ module _ (stored : Stored) (sound : IsSoundView stored.view) (storable : AllOf I
 
   core_reached : core ≡ now_of reached
   core_reached =
-      is ∙ ap (λ (n : Now). steps_now n stored.inputs) (sym (now_of_back stored.view sound)) ∙ sym (steps_shown (back stored.view) stored.inputs storable sound.sound)
+      is ∙ ap (λ (n : Now). steps_now n stored.inputs) (sym (back_now stored.view sound)) ∙ sym (steps_shown (back stored.view) stored.inputs storable sound.sound)
 
   core_again : core ≡ now_of (back (view_by stored))
   core_again = core_reached ∙ sym (now_again reached (steps_sound (back stored.view) stored.inputs storable sound.sound))

@@ -62,7 +62,7 @@ steps_watch s (x ∷ inputs) all sound a =
 now_is : (s : State) (n : Now) → view_of s ≡ spread n → now_of s ≡ n
 now_is s n same = sym (gathered_spread (now_of s)) ∙ ap gathered same ∙ gathered_spread n
 
-back_now : (v : View) → IsSoundView v → now_of (back v) ≡ gathered v
+pub back_now : (v : View) → IsSoundView v → now_of (back v) ≡ gathered v
 back_now v is = sym (gathered_spread (now_of (back v))) ∙ ap gathered is.same
 
 -- what always holds of the jails of a sound state

@@ -18,13 +18,12 @@ use jail_core::Core;
 use std::alloc::Global;
 
 /// The state after an input that was stored. What it tells is not told again.
-#[tactic(auto, using(crate::proofs::TakenLemmas::storable_taken))]
-fn after(core: Core, input: &Input) -> Result<Core, NoMemory>
-    requires { IsStorableInput input.now }
-    ensures core { IfOk result (λ after. after ≡ step_now core input.now) }
+fn after(core: Core, input: Input) -> Result<Core, NoMemory>
+    requires { IsStorableInput input }
+    ensures core { IfOk result (λ after. after ≡ step_now core input) }
     ensures storable { IsStorable core → IfOk result IsStorable }
 {
-    let (after, _told) = core.take(input)?;
+    let (after, _told) = core.take(&input)?;
     Ok(after)
 }
 
@@ -43,10 +42,12 @@ fn after_all<D: Disk>(
 {
     let mut inputs = inputs;
     let mut core = core;
-    'inputs: while let Some(input) = inputs.next(alloc, disk)? {
-        core = after(core, &input)?;
+    'inputs: loop {
+        match inputs.next(alloc, disk)? {
+            Some(input) => core = after(core, input)?,
+            None => return Ok(core),
+        }
     }
-    Ok(core)
 }
 
 impl Engine {

@@ -12,8 +12,8 @@ abbrev pub invariant-inputs : goal.invariant-inputs
 invariant-inputs g l = record {
   there : AreThere l.inputs (g.D.Outside.stands l.disk).told;
   storable : IsStorable l.core;
-  taken : (all : List Input) → WhereTold (g.D.Outside.stands l.initial.disk).told (λ h. AreLeft l.initial.inputs all (content h))
-      → WhereTold (g.D.Outside.stands l.disk).told (λ h. IsPartTaken l.initial.core all l.core l.inputs (content h));
+  taken : (all : List Input) → WhereTold (g.D.Outside.stands l.initial.disk).told (λ h. AreLeft l.fn.inputs all (content h))
+      → WhereTold (g.D.Outside.stands l.disk).told (λ h. IsPartTaken l.fn.core all l.core l.inputs (content h));
   reads : OnlyReads false (g.D.Outside.stands l.initial.disk) (g.D.Outside.stands l.disk);
 }
 

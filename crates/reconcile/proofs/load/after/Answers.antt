@@ -1,0 +1,5 @@
+use Rattle.reconcile.proofs.TakenLemmas.{storable_taken}
+use Rattle.reconcile.proofs.load.after.Goals as goal
+
+pub take-requires : goal.take-requires
+take-requires c = storable_taken c.args.input c.requires
