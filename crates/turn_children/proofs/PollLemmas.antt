@@ -9,7 +9,6 @@ use Rattle.f2b_model.proofs.ListLemmas.{by_test}
 use Rattle.f2b_world.specs.Told.{Called, History, Standing}
 use Rattle.f2b_world.specs.declared.answer.PollAnswer.{PollAnswer}
 use Rattle.f2b_world.specs.declared.answer.PollAnswer.TheVariants.{Running as StillRuns, Ended as PollEnded, Failed}
-use Rattle.f2b_world.specs.declared.event.Event.{Event}
 use Rattle.f2b_world.specs.declared.event.Event.TheVariants.{ChildPoll, ChildKill}
 use Rattle.child_table.specs.Children.{Children, ended, passed_by}
 use Rattle.child_table.specs.Late.{is_late}
@@ -24,12 +23,10 @@ use Rattle.run_law.specs.Stages.{Brings, BringFails, IsAt, MoveFails, Moves, Rea
 use Rattle.run_law.specs.Turn.{to_accept, to_polls}
 use Rattle.run_law.specs.declared.status.Status.{Status}
 use Rattle.run_law.specs.declared.status.Status.TheVariants.{NoMemory}
-use Rattle.run_law.proofs.CauseLemmas.{steady_call, steady_placed}
 use Rattle.run_law.proofs.EntryLemmas.{saying_polls}
 use Rattle.run_law.proofs.PointLemmas.{goes_refl, goes_trans, halts_after, halts_here, turn_goes}
 use Rattle.run_law.proofs.StageLemmas.{move_fails_on, moves_trans}
 use Rattle.run_steps.specs.Keeping.{IsPlacedIn, KeepsRunning, news_of}
-use Rattle.run_steps.specs.declared.clocked.Clocked.{Clocked}
 use Rattle.run_steps.specs.declared.running.Running.{Running}
 use Rattle.turn_children.specs.Polling.{EndBrings, EndFails, HasPassed, IsGone, at_kill, outcome_of, place_behind}
 
@@ -283,10 +280,6 @@ fewer_behind before place child next behind within next_is is =
     let one : place + 1 ≡ behind = (goes_behind before.clocked.now place child behind (sym next_is ∙ is)).1 in
     omega (arith, within, one)
 
--- over a call the journal stands where it did
-pub called_placed : (a b : Standing) (event : Event) (kept : Clocked) → Called a event b → IsPlacedIn a.told kept → IsPlacedIn b.told kept
-called_placed a b event kept call placed = steady_placed kept.engine.journal a b (steady_call a b event call) placed
+pub ruleset killing = (kill_moves, kill_fails)
 
-pub ruleset killing = (kill_moves, kill_fails, called_placed)
-
-pub ruleset polling = (poll_ended, poll_fails, poll_on, poll_killed, poll_kill_fails, fewer_gone, fewer_behind, called_placed)
+pub ruleset polling = (poll_ended, poll_fails, poll_on, poll_killed, poll_kill_fails, fewer_gone, fewer_behind)

@@ -87,7 +87,7 @@ fn child_ended<'f, W: World + Disk>(
 }
 
 // The child at a place is late, and is ended.
-#[tactic(auto, using(crate::proofs::PollLemmas::killing, run_law::proofs::CauseLemmas::counting))]
+#[tactic(auto, using(crate::proofs::PollLemmas::killing, run_law::proofs::CauseLemmas::counting, run_law::proofs::CauseLemmas::placing))]
 fn kill<'f, W: World + Disk + Children>(
     alloc: Global,
     world: &mut W,
@@ -112,7 +112,7 @@ fn kill<'f, W: World + Disk + Children>(
 }
 
 /// Asks the child at a place whether it has ended, ends it where it is late, and gives the place to go on from.
-#[tactic(auto, using(crate::proofs::PollLemmas::polling, run_law::proofs::CauseLemmas::counting))]
+#[tactic(auto, using(crate::proofs::PollLemmas::polling, run_law::proofs::CauseLemmas::counting, run_law::proofs::CauseLemmas::placing))]
 pub(crate) fn poll<'f, W: World + Disk + Children>(
     alloc: Global,
     world: &mut W,
