@@ -10,7 +10,7 @@ use Rattle.f2b_model.specs.StorableViews.{IsStorableView}
 use Rattle.f2b_model.specs.Views.{spread, gathered, view_of, back}
 use Rattle.f2b_model.specs.Whole.{State, Now, now_of, step, steps, step_now, steps_now}
 use Rattle.f2b_model.proofs.ApartLemmas.{stored_fits}
-use Rattle.f2b_model.proofs.WholeLemmas.{back_sound, gathered_spread, now_of_back, view_sound, whole_keeps, whole_shows}
+use Rattle.f2b_model.proofs.WholeLemmas.{back_sound, gathered_spread, view_sound, whole_keeps, whole_shows}
 use Rattle.f2b_world.specs.declared.event.Event.{Event}
 use Rattle.f2b_world.specs.declared.event.Event.TheVariants.{DiskWrite, DiskSync}
 use Rattle.f2b_world.specs.Slots.{Slot, settled}
