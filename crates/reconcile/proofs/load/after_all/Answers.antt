@@ -23,9 +23,9 @@ inputs-preserved g c =
     let storable = subst (λ (x : Option Input). IfSome x IsStorableInput) c.in-Some.is c.in_ok-input.ensures.storable in
     record {
       there = c.next.ensures.there;
-      storable = c.in_ok-core.ensures.storable c.inputs.invariant.storable;
+      storable = c.in_ok-core-in-Some.ensures.storable c.inputs.invariant.storable;
       taken = λ all left.
-          then_taken c.args.core c.inputs.core all c.inputs.inputs c.next.new.self false a b c.in_ok-input.ensures.reads (c.inputs.invariant.taken all left) c.in_ok-core.core c.in-Some.input given c.in_ok-core.ensures.core
+          then_taken c.args.core c.inputs.core all c.inputs.inputs c.next.new.self false a b c.in_ok-input.ensures.reads (c.inputs.invariant.taken all left) c.in_ok-core-in-Some.core c.in-Some.input given c.in_ok-core-in-Some.ensures.core
           storable;
       reads = reads_then false (g.D.Outside.stands c.args.disk.now) a b c.inputs.invariant.reads c.in_ok-input.ensures.reads;
     }
@@ -44,11 +44,11 @@ returns-in_err-input-clause-reads g c =
     let p = err_from_is_err_and c.from_residual.result c.from_residual.ensures.1 in
     rw (p.1, p.2) (reads_then _ (g.D.Outside.stands c.args.disk.now) a b c.inputs.invariant.reads c.in_err-input.ensures.reads)
 
-pub returns-in_err-core-clause-reads : goal.returns-in_err-core-clause-reads
-returns-in_err-core-clause-reads g c =
+pub returns-in_err-core-in-Some-clause-reads : goal.returns-in_err-core-in-Some-clause-reads
+returns-in_err-core-in-Some-clause-reads g c =
     let a = g.D.Outside.stands c.inputs.disk in
     let b = g.D.Outside.stands c.next.new.disk in
-    let p = err_from_is_err_and c.from_residual-in_err-core.result c.from_residual-in_err-core.ensures.1 in
+    let p = err_from_is_err_and c.from_residual-in_err-core-in-Some.result c.from_residual-in_err-core-in-Some.ensures.1 in
     rw (p.1, p.2) (reads_then false (g.D.Outside.stands c.args.disk.now) a b c.inputs.invariant.reads c.in_ok-input.ensures.reads)
 
 pub returns-in-None-clause-taken : goal.returns-in-None-clause-taken
