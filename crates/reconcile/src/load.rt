@@ -11,7 +11,7 @@ ghost use Rattle.reconcile.specs.Opens.{WhereTold};
 ghost use Rattle.slot_reader.specs.Reads.{OnlyReads, content};
 
 use crate::engine::Engine;
-use ban_journal::{Journal, LoadError, Loaded, StoredInputs};
+use ban_journal::{Journal, LoadError, StoredInputs};
 use f2b_base::{Input, NoMemory};
 use f2b_world::Disk;
 use jail_core::Core;
@@ -59,13 +59,12 @@ impl Engine {
         ensures on_disk { WhereTold (D.stands disk.old).told AreSoundAtRest → IfOk result (λ e. WhereTold (D.stands disk.new).told (IsOnDisk e)) }
         ensures reads { OnlyReads (is_fault result) (D.stands disk.old) (D.stands disk.new) }
     {
-        let Loaded {
-            journal,
-            view,
-            inputs,
-        } = Journal::load(alloc, disk, limit)?;
-        let core = Core::of(alloc, &view)?;
-        let core = after_all(alloc, disk, core, inputs)?;
-        Ok(Engine { journal, core })
+        let loaded = Journal::load(alloc, disk, limit)?;
+        let core = Core::of(alloc, &loaded.view)?;
+        let core = after_all(alloc, disk, core, loaded.inputs)?;
+        Ok(Engine {
+            journal: loaded.journal,
+            core,
+        })
     }
 }
