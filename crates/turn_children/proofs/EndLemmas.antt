@@ -1,5 +1,5 @@
 -- The end of a child, as an input.
-use Rattle.std.proofs.Common.{ℕ, ℤ, pos, negsuc, ◌≡◌, [], Some, sym, subst, arith, w64, FitsSigned}
+use Rattle.std.proofs.Common.{ℕ, ℤ, pos, negsuc, ◌≡◌, [], Some, subst, arith, w64, FitsSigned}
 use Rattle.std.proofs.lemmas.Int.{ints}
 use Rattle.f2b_base.specs.declared.input.What.{What}
 use Rattle.f2b_base.specs.declared.job.Outcome.{Outcome}

@@ -15,7 +15,7 @@ use Rattle.lane_moves.specs.CheckText.{check_text, check_text_of}
 use Rattle.run_law.specs.Points.{Place, AtStart}
 use Rattle.run_law.specs.Turn.{start_place}
 use Rattle.run_steps.specs.declared.running.Running.{Running}
-use Rattle.turn_children.specs.Launches.{IsNextStart, next_job, next_start, place_for, place_of}
+use Rattle.turn_children.specs.Launches.{IsNextStart, next_job, place_for, place_of}
 use Rattle.turn_children.specs.declared.launch.Launch.{Launch}
 
 -- ---- the check of a lane

@@ -7,7 +7,7 @@ use Rattle.f2b_base.specs.declared.job.Job.{Job}
 use Rattle.f2b_base.specs.declared.job.Outcome.TheVariants.{NotStarted}
 use Rattle.f2b_base.specs.declared.job.UpLane.{UpLane}
 use Rattle.f2b_model.specs.Checks.{check_of}
-use Rattle.f2b_model.specs.Jobs.{AreById, is_head, next_due}
+use Rattle.f2b_model.specs.Jobs.{is_head, next_due}
 use Rattle.f2b_model.specs.Lists.{placed}
 use Rattle.f2b_model.specs.Starts.{checks_left, jobs_then, tries_left, unchecked, unstarted}
 use Rattle.f2b_model.specs.Whole.{Now, step_now}
