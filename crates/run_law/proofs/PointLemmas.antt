@@ -66,7 +66,7 @@ paid_call plan (Over (PatternRefused jail place kind)) = refl
 paid_call plan (Over NumbersSpent) = refl
 paid_call plan (Over NoMemory) = refl
 
-next_at : (r : Run) (there : Point) → IsAt r there → next_call r ≡ point_call r.plan there
+pub next_at : (r : Run) (there : Point) → IsAt r there → next_call r ≡ point_call r.plan there
 next_at r there at =
     written_call r.writes (call_of r.plan r.point r.owed) at.still.written ∙ ap (λ (lines : List (List ℕ)). call_of r.plan r.point lines) at.still.paid ∙ paid_call r.plan r.point ∙ ap (λ (p : Point). point_call r.plan p) at.point
 

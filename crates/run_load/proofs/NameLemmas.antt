@@ -49,7 +49,7 @@ module _ (a b : Standing) (plan : Plan) (settings : Settings) (call : Called a (
           arrives = record {
             to = first;
             goes = goes_trans a.told b.told c.told r first first (subst (λ (x : Run). Goes a.told b.told r x) named (named_goes r at)) (reads_stay b c first tt read.reads);
-            at = record { point = refl; still = at.still };
+            at = record { point = refl; still = record { written = at.still.written; paid = at.still.paid } };
             asked = is.asked;
             slots = refl;
             unclosed = refl;

@@ -65,7 +65,7 @@ module _ (a b : Standing) (plan : Plan) (event : Event) (from : Point) (call : C
     runs = λ r is at. record {
       to = goes_to there r;
       goes = leads r (goes_to there r) is at (to r);
-      at = record { point = refl; still = at.still };
+      at = record { point = refl; still = record { written = at.still.written; paid = at.still.paid } };
       asked = is;
       slots = refl;
       unclosed = refl;

@@ -79,7 +79,7 @@ module _ (d : JailDef) (settings : Settings) (left : List Pattern) where
   passes (p ∷ ps) r g at =
       let event : Event = Make p.1 WasBuilt in
       let P : Run → Type 0 = λ s. Passes s (grown g (event ∷ [])) (built ps) in
-      let there : IsAt (come ps r) (at_first ps) = record { point = refl; still = at.still } in (
+      let there : IsAt (come ps r) (at_first ps) = record { point = refl; still = record { written = at.still.written; paid = at.still.paid } } in (
         record { holds = tt; allowed = may_make p ps r event at refl; honest = tt; bounded = tt },
         subst P (sym (feed_built p ps r at)) (passes ps (come ps r) (grown g (event ∷ [])) there),
       )
@@ -87,7 +87,7 @@ module _ (d : JailDef) (settings : Settings) (left : List Pattern) where
   comes_to : (ps : List Placed) (r : Run) → IsAt r (at_first ps) → run_after r (built ps) ≡ come [] r
   comes_to [] r at = come_at [] r at
   comes_to (p ∷ ps) r at =
-      let there : IsAt (come ps r) (at_first ps) = record { point = refl; still = at.still } in
+      let there : IsAt (come ps r) (at_first ps) = record { point = refl; still = record { written = at.still.written; paid = at.still.paid } } in
       ap (λ (s : Run). run_after s (built ps)) (feed_built p ps r at) ∙ comes_to ps (come ps r) there
 
   -- a pattern that was refused ends the run
@@ -152,7 +152,7 @@ module _ (d : JailDef) (settings : Settings) (left : List Pattern) where
       let there = divided_at ps w.before rest r w.order at in
       let mid : Run = come d settings (behind rest) [] r in
       let reached : run_after r (built w.before) ≡ mid = comes_to d settings (behind rest) w.before r there in
-      let here : IsAt mid (at_first d settings left rest) = record { point = refl; still = at.still } in
+      let here : IsAt mid (at_first d settings left rest) = record { point = refl; still = record { written = at.still.written; paid = at.still.paid } } in
       let P : Run → Type 0 = λ s. Passes s (grown adds.0 (built w.before)) (event ∷ []) in
       let Q : List Event → Type 0 = λ es. Passes r adds.0 es in
       let along : Passes r adds.0 (built w.before ++ event ∷ []) =
@@ -173,7 +173,7 @@ jail_built old new d rules builds = record {
     runs = λ r is at. record {
       to = come d settings left [] r;
       goes = goes_through d settings left old.told new.told (patterns (rules_of d)) r at builds.told;
-      at = record { point = refl; still = at.still };
+      at = record { point = refl; still = record { written = at.still.written; paid = at.still.paid } };
       asked = is;
       slots = refl;
       unclosed = refl;
