@@ -39,3 +39,9 @@ returns-clause-on_disk g c = λ rests h told.
     let l : Loaded = c.in_ok-loaded.loaded in
     engine_on_disk c.args.limit l c.in_ok-core.core c.in_ok-core-2.core b d c.in_ok-loaded.ensures.loaded c.in_ok-core.ensures.sound c.in_ok-core-2.ensures.reads c.in_ok-core-2.ensures.taken h told
     c.in_ok-loaded.ensures.storable (rests_then false a b c.in_ok-loaded.ensures.reads rests))
+
+pub returns-clause-reads : goal.returns-clause-reads
+returns-clause-reads g c =
+    let b = g.D.Outside.stands c.load.new.disk in
+    let d = g.D.Outside.stands c.after_all.new.disk in
+    reads_then false (g.D.Outside.stands c.args.disk.now) b d c.in_ok-loaded.ensures.reads c.in_ok-core-2.ensures.reads
