@@ -1,5 +1,5 @@
 //! The words of the command line.
-ghost use Rattle.std.specs.Prelude.{◌≡◌, IfOk, map, option_map, string_bytes};
+ghost use Rattle.std.specs.Prelude.{◌≡◌, IfOk, Some, map, option_map, string_bytes};
 ghost use Rattle.run_law.specs.Words.{once, plan_in, plan_of, with_option, with_options};
 ghost use Rattle.server_top.specs.Options.{asked_of};
 
@@ -35,7 +35,7 @@ fn once(alloc: Global, before: Option<u64>, text: &str) -> Result<Option<u64>, N
 }
 
 fn with_turns(alloc: Global, text: &str, asked: Options) -> Result<Option<Options>, NoMemory>
-    ensures { IfOk result (λ o. option_map asked_of o ≡ option_map (λ n. record { turns = Option.Some n; limit = asked.limit }) (once asked.turns text.now)) }
+    ensures { IfOk result (λ o. option_map asked_of o ≡ option_map (λ n. record { turns = Some n; limit = asked.limit }) (once asked.turns text.now)) }
 {
     match once(alloc, asked.turns, text)? {
         Some(turns) => Ok(Some(Options {
@@ -47,7 +47,7 @@ fn with_turns(alloc: Global, text: &str, asked: Options) -> Result<Option<Option
 }
 
 fn with_limit(alloc: Global, text: &str, asked: Options) -> Result<Option<Options>, NoMemory>
-    ensures { IfOk result (λ o. option_map asked_of o ≡ option_map (λ n. record { turns = asked.turns; limit = Option.Some n }) (once asked.limit text.now)) }
+    ensures { IfOk result (λ o. option_map asked_of o ≡ option_map (λ n. record { turns = asked.turns; limit = Some n }) (once asked.limit text.now)) }
 {
     match once(alloc, asked.limit, text)? {
         Some(limit) => Ok(Some(Options {
