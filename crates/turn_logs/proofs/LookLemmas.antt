@@ -92,7 +92,7 @@ module _ (a b : Standing) (i : ℕ) (before : Running) (lines : List (List ℕ))
 -- of a log that is not there nothing is said
 pub absent_brings : (a : Standing) (i : ℕ) (before : Running) → LookBrings a a i Absent before before
 absent_brings a i before = record {
-  runs = λ r s l l_is at keeps. record { to = looked Absent l i s r; server = s; goes = goes_refl a.told (looked Absent l i s r); at = record { point = refl; still = at.still }; keeps = keeps };
+  runs = λ r s l l_is at keeps. record { to = looked Absent l i s r; server = s; goes = goes_refl a.told (looked Absent l i s r); at = record { point = refl; still = record { written = at.still.written; paid = at.still.paid } }; keeps = keeps };
 }
 
 -- memory ran out behind the look
