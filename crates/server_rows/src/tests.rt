@@ -124,13 +124,13 @@ const STARTS: [Row; 11] = [
     },
     // There is no room for the configuration.
     Row {
-        words: "--conf /c --journal-limit 100 --turns 3",
+        words: "--conf /c --journal-limit 50 --turns 3",
         conf: WEB,
         log: &[],
         readings: &[1000],
         fails: &[],
         status: 7,
-        said: "1000 ERROR journal full: 151 of 100\n",
+        said: "1000 ERROR journal full: 84 of 50\n",
     },
     // Each option stands there once.
     Row {
