@@ -41,7 +41,7 @@ pause_moves a b before after some call clocked logs children left = record {
         to = paused s r;
         server = t;
         goes = pause_goes a b r s call at;
-        at = record { point = next_is n s (omega (arith, some, is)); still = at.still };
+        at = record { point = next_is n s (omega (arith, some, is)); still = record { written = at.still.written; paid = at.still.paid } };
         keeps = subst P same keeps_next;
       };
 }
