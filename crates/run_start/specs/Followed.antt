@@ -4,6 +4,7 @@ use Rattle.f2b_base.specs.declared.view.JailView.{JailView}
 use Rattle.f2b_base.specs.declared.view.WatchView.{WatchView}
 use Rattle.f2b_model.specs.Lists.{AllOf}
 use Rattle.f2b_model.specs.State.{Jail}
+use Rattle.f2b_model.specs.Storable.{IsJailName}
 use Rattle.f2b_model.specs.declared.jail_now.JailNow.{JailNow}
 use Rattle.filter_regex.specs.Rules.{Rules, rules_of}
 use Rattle.log_follow.specs.Watches.{IsPlace}
@@ -29,6 +30,10 @@ HasPlaces j = AreWatchesOfPlaces j.watches
 
 abbrev pub ArePlaces : Clocked → Type 0
 ArePlaces kept = AllOf HasPlaces kept.engine.core.jails.jails
+
+-- each of these jails has a name that a jail can have
+abbrev pub AreNamed : List JailView → Type 0
+AreNamed vs = AllOf (λ (v : JailView). IsJailName v.name) vs
 
 -- the logs of no jail rest
 abbrev pub AreAwake : List Jail → Type 0

@@ -1,7 +1,8 @@
 //! The logs of the jails.
 ghost use Rattle.std.specs.Prelude.{◌≡◌, IfOk, OnOk, flat_map, map};
+ghost use Rattle.f2b_model.specs.Storable.{IsJailName};
 ghost use Rattle.run_law.specs.Logs.{log_begun};
-ghost use Rattle.run_start.specs.Followed.{AddsLogs, ArePlaces, AreViewsOfPlaces, AreWatchesOfPlaces, FollowsAll, logs_at, rules_in};
+ghost use Rattle.run_start.specs.Followed.{AddsLogs, AreNamed, ArePlaces, AreViewsOfPlaces, AreWatchesOfPlaces, FollowsAll, logs_at, rules_in};
 
 use f2b_base::{JailView, NoMemory, Text, WatchView};
 use filter_regex::Filter;
@@ -17,7 +18,8 @@ fn add_watches(
     jail: &Text,
     watches: &[WatchView],
 ) -> Result<(), NoMemory>
-    requires { AreWatchesOfPlaces watches.now }
+    requires named { IsJailName jail.now }
+    requires places { AreWatchesOfPlaces watches.now }
     ensures { OnOk result (AddsLogs set.old set.new (map (log_begun jail.now) watches.now)) }
 {
     for watch in watches {
@@ -29,7 +31,8 @@ fn add_watches(
 // Follows the logs of these jails, behind those that are followed.
 #[tactic(auto, using(crate::proofs::FollowLemmas::adding))]
 fn add_jails(alloc: Global, set: &mut LogSet<'_>, jails: &[JailView]) -> Result<(), NoMemory>
-    requires { AreViewsOfPlaces jails.now }
+    requires named { AreNamed jails.now }
+    requires places { AreViewsOfPlaces jails.now }
     ensures { OnOk result (AddsLogs set.old set.new (flat_map logs_at jails.now)) }
 {
     for jail in jails {
