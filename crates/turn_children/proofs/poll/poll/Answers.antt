@@ -1,4 +1,6 @@
 use Rattle.std.proofs.lemmas.Result.{err_from_is_err_and}
+use Rattle.f2b_world.specs.declared.event.Event.TheVariants.{ChildPoll}
+use Rattle.run_law.proofs.CauseLemmas.{called_placed}
 use Rattle.turn_children.proofs.PollLemmas.{poll_ended, poll_fails}
 use Rattle.turn_children.proofs.poll.poll.Goals as goal
 
@@ -14,3 +16,13 @@ returns-in_ok-running-in-Some-clause-ok g c =
     poll_ended c.args.running c.args.place c.at-child.result c.at-child.ensures c.requires.within
     (g.W.Outside.stands c.args.world.now) (g.W.Outside.stands c.child_poll.new.self) c.child_poll.result c.child_poll.ensures c.outcome_of.result c.outcome_of.ensures
     (g.W.Outside.stands c.child_ended.new.world) c.in-Some.outcome c.in-Some.is c.in_ok-running-in-Some.running c.in_ok-running-in-Some.ensures.ok
+
+pub child_ended-requires-clause-placed : goal.child_ended-requires-clause-placed
+child_ended-requires-clause-placed g c =
+    called_placed c.args.running.clocked.engine.journal (g.W.Outside.stands c.args.world.now) (g.W.Outside.stands c.child_poll.new.self) (ChildPoll c.at-child.result.job c.child_poll.result)
+    c.child_poll.ensures c.requires.placed
+
+pub kill-requires-clause-placed : goal.kill-requires-clause-placed
+kill-requires-clause-placed g c =
+    called_placed c.args.running.clocked.engine.journal (g.W.Outside.stands c.args.world.now) (g.W.Outside.stands c.child_poll.new.self) (ChildPoll c.at-child.result.job c.child_poll.result)
+    c.child_poll.ensures c.requires.placed
