@@ -67,7 +67,7 @@ module _ (a : Standing) (place : ℕ) (child : Child) (outcome : Outcome) (befor
             to = ended_as true outcome child place s r;
             server = gone_passed child.job place s;
             goes = goes_refl a.told (ended_as true outcome child place s r);
-            at = record { point = refl; still = at.still };
+            at = record { point = refl; still = record { written = at.still.written; paid = at.still.paid } };
             keeps = passed_keeps before after place child.job s passed keeps;
           });
     }
@@ -246,7 +246,7 @@ module _ (before : Running) (place : ℕ) (child : Child) (there : slice_get bef
                   to = polled StillRuns child place s r;
                   server = s;
                   goes = still_goes r s (sym told ∙ none) at_poll keeps;
-                  at = record { point = ap (λ (l : Bool). still_point l place s) lates ∙ point s; still = at.still };
+                  at = record { point = ap (λ (l : Bool). still_point l place s) lates ∙ point s; still = record { written = at.still.written; paid = at.still.paid } };
                   keeps = keeps;
                 };
           }

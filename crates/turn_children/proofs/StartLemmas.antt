@@ -176,7 +176,7 @@ module _ (kept : Running) (launch : Launch) (next : IsNextStart kept (Some launc
             to = child_started Started launch.child s r;
             server = with_child launch.child s;
             goes = start_goes a b Started r s (answered Started is) at_start;
-            at = record { point = refl; still = at.still };
+            at = record { point = refl; still = record { written = at.still.written; paid = at.still.paid } };
             keeps = started_keeps kept after launch.child s runs_now keeps;
           };
     }
