@@ -1,5 +1,5 @@
 -- Options of the command line, one behind the other.
-use Rattle.std.proofs.Common.{ℕ, ◌≡◌, List, ◌∷◌, Option, Some, Result, Ok, Err, IfOk, sym, ap, ◌∙◌, subst}
+use Rattle.std.proofs.Common.{ℕ, ◌≡◌, ◌≤◌, List, [], ◌∷◌, length, map, drop, get_or, Option, Some, Result, Ok, Err, IfOk, sym, ap, ◌∙◌, subst, arith}
 use Rattle.std.specs.Prelude.{option_and_then, option_map}
 use Rattle.run_law.specs.Words.{Asked, with_option, with_options}
 use Rattle.server_top.specs.Options.{asked_of}
@@ -12,3 +12,13 @@ options_on r words rest name text a b is asked h =
     ap (λ (o : Option Asked). option_and_then (with_options rest) o) asked ∙ sym (ap (λ (ws : List (List ℕ)). with_options ws a) is) in
     let P : Option Asked → Type 0 = λ x. IfOk r (λ o. option_map asked_of o ≡ x) in
     subst P same h
+
+-- words of which there are two at least begin with those two
+pub two_words : {S : Type 0} (f : S → List ℕ) (words : List S) (x y : S) (name text : List ℕ) → 2 ≤ length words → x ≡ get_or words 0 x → y ≡ get_or words 1 y → name ≡ f x → text ≡ f y
+    → map f words ≡ name ∷ text ∷ map f (drop 2 words)
+two_words f [] x y name text long is other first second = absurd (let none : ⊥ = omega (arith, long) in none)
+two_words f (a ∷ []) x y name text long is other first second = absurd (let none : ⊥ = omega (arith, long) in none)
+two_words f (a ∷ b ∷ words) x y name text long is other first second =
+    let p : f a ≡ name = sym (first ∙ ap f is) in
+    let q : f b ≡ text = sym (second ∙ ap f other) in
+    λ i. p i ∷ q i ∷ map f words
