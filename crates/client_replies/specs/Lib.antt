@@ -1,4 +1,7 @@
 pub mod Refusals
+pub mod Banned
 pub mod Changes
 pub mod Texts
 pub mod Replies
+pub mod Known
+pub mod Meant

@@ -1,10 +1,12 @@
 -- Why a request is refused by the state.
-use Rattle.std.specs.Prelude.{ℕ, ◌&&◌, not, Bool, true, false, List, ◌++◌, Option, Some, None, codes, if◌then◌else◌, is_some}
+use Rattle.std.specs.Prelude.{ℕ, ◌&&◌, Bool, true, false, List, ◌++◌, Option, Some, None, option_and_then, codes, if◌then◌else◌}
 use Rattle.f2b_model.specs.Steps.{find_jail, moves_now}
 use Rattle.f2b_model.specs.Whole.{Now}
 use Rattle.f2b_model.specs.declared.jail_now.JailNow.{JailNow}
 use Rattle.client_words.specs.declared.request.Request.{Request}
-use Rattle.client_words.specs.declared.request.Request.TheVariants.{Ping, Status, StatusOf, Banned, UnbanAll, Unban, Reload, Stop, SetBanip, SetUnbanip, SetAttempt, AddIgnore, DelIgnore, SetFindtime, SetBantime, SetMaxretry, SetIdle, GetBanip, GetFindtime, GetBantime, GetMaxretry, GetIgnoreip, GetLogpath, GetFailregex}
+use Rattle.client_words.specs.declared.request.Request.TheVariants.{StatusOf, UnbanAll, Unban, Reload, SetBanip, SetUnbanip, SetAttempt, AddIgnore, DelIgnore, SetFindtime, SetBantime, SetMaxretry, SetIdle, GetBanip, GetFindtime, GetBantime, GetMaxretry, GetIgnoreip, GetLogpath, GetFailregex}
+
+-- ---- jails that are not there
 
 -- the jail that a request names, if it names one
 abbrev pub named : Request → Option (List ℕ)
@@ -27,7 +29,25 @@ named (GetLogpath jail) = Some jail
 named (GetFailregex jail) = Some jail
 named _ = None
 
--- whether a request changes something, or may
+-- the jail of a name
+abbrev pub jail_in : Now → List ℕ → Option JailNow
+jail_in now name = find_jail moves_now name now.jails.jails
+
+-- this name, where it is no jail's
+abbrev pub unless_there : Option JailNow → List ℕ → Option (List ℕ)
+unless_there None name = Some name
+unless_there (Some j) name = None
+
+-- the name that a request names and no jail has
+abbrev pub missing : Now → Request → Option (List ℕ)
+missing now request = option_and_then (λ name. unless_there (jail_in now name) name) (named request)
+
+abbrev pub no_jail_text : List ℕ → List ℕ
+no_jail_text name = codes "Sorry but the jail '" ++ name ++ codes "' does not exist"
+
+-- ---- while the server is stopping
+
+-- whether a request changes something, or may; a stop that was asked for can be asked for again
 abbrev pub is_change : Request → Bool
 is_change UnbanAll = true
 is_change (Unban addrs) = true
@@ -43,30 +63,16 @@ is_change (SetMaxretry jail number) = true
 is_change (SetIdle jail idle) = true
 is_change _ = false
 
--- the jail of a name
-abbrev pub jail_in : Now → List ℕ → Option JailNow
-jail_in now name = find_jail moves_now name now.jails.jails
+-- whether a request would change something while the server is stopping
+abbrev pub comes_late : Now → Request → Bool
+comes_late now request = now.lanes.stopping && is_change request
 
-abbrev pub no_jail_text : List ℕ → List ℕ
-no_jail_text name = codes "Sorry but the jail '" ++ name ++ codes "' does not exist"
+-- ---- refusals
 
-abbrev pub missing_jail : Option JailNow → List ℕ → Option (List ℕ)
-missing_jail None name = Some (no_jail_text name)
-missing_jail (Some jail) name = None
+abbrev pub refusal_by : (missing : Option (List ℕ)) → (late : Bool) → Option (List ℕ)
+refusal_by (Some name) late = Some (no_jail_text name)
+refusal_by None late = if late then Some (codes "Server is stopping") else None
 
--- the refusal of a request that names a jail which is not there
-abbrev pub no_jail : Now → Option (List ℕ) → Option (List ℕ)
-no_jail now None = None
-no_jail now (Some name) = missing_jail (jail_in now name) name
-
--- the refusal of what would change something while the server is stopping
-abbrev pub no_change : Now → Request → Option (List ℕ)
-no_change now request = if now.lanes.stopping && is_change request then Some (codes "Server is stopping") else None
-
-abbrev pub or_else : Option (List ℕ) → Option (List ℕ) → Option (List ℕ)
-or_else (Some text) other = Some text
-or_else None other = other
-
--- the first refusal of a request, if it has one: that there is no such jail comes before that the server is stopping
+-- Why a request is refused, if it is: that there is no such jail comes before that the server is stopping.
 unfoldable pub refusal : Now → Request → Option (List ℕ)
-refusal now request = or_else (no_jail now (named request)) (no_change now request)
+refusal now request = refusal_by (missing now request) (comes_late now request)

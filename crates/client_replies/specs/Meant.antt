@@ -1,0 +1,25 @@
+-- What code knows of the jail of a name, and of the addresses that a request means.
+use Rattle.std.specs.Prelude.{ℕ, ⊥, List, Option, Some, None, option_map}
+use Rattle.f2b_base.specs.declared.addr.Addr.{Addr}
+use Rattle.f2b_base.specs.declared.ban.Ban.{Ban}
+use Rattle.f2b_base.specs.declared.jail.JailDef.{JailDef}
+use Rattle.f2b_model.specs.Whole.{Now}
+use Rattle.f2b_model.specs.declared.jail_now.JailNow.{JailNow}
+use Rattle.client_replies.specs.Banned.{is_among}
+use Rattle.client_replies.specs.Known.{IsKnown}
+use Rattle.client_replies.specs.Refusals.{jail_in}
+use Rattle.client_replies.specs.declared.known.Known.{Known}
+
+-- the bans of the jail of a name
+abbrev pub bans_at : Now → List ℕ → Option (List Ban)
+bans_at now name = option_map (λ (j : JailNow). j.bans) (jail_in now name)
+
+-- its definition
+abbrev pub definition_at : Now → List ℕ → Option JailDef
+definition_at now name = option_map (λ (j : JailNow). j.definition) (jail_in now name)
+
+-- The addresses that a request means are known: these, or all.
+abbrev pub IsWhom : Option Known → Option (List Addr) → Type 0
+IsWhom None None = Unit {0}
+IsWhom (Some known) (Some addrs) = IsKnown known (is_among addrs)
+IsWhom _ _ = ⊥

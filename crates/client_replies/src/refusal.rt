@@ -1,0 +1,109 @@
+//! Why a request is refused by the state.
+ghost use Rattle.std.specs.Prelude.{◌≡◌, IfOk, is_some};
+ghost use Rattle.std.specs.Option.{option_copied};
+ghost use Rattle.client_replies.specs.Refusals.{comes_late, is_change, missing, named, no_jail_text, refusal};
+
+use client_words::Request;
+use f2b_base::{NoMemory, Text};
+use jail_core::Core;
+use std::alloc::Global;
+
+/// The jail that a request names, if it names one.
+pub(crate) fn named(request: &Request) -> Option<&Text>
+    ensures { option_copied result ≡ named request.now }
+{
+    match request {
+        Request::StatusOf { jail }
+        | Request::SetBanip { jail, .. }
+        | Request::SetUnbanip { jail, .. }
+        | Request::SetAttempt { jail, .. }
+        | Request::AddIgnore { jail, .. }
+        | Request::DelIgnore { jail, .. }
+        | Request::SetFindtime { jail, .. }
+        | Request::SetBantime { jail, .. }
+        | Request::SetMaxretry { jail, .. }
+        | Request::SetIdle { jail, .. }
+        | Request::GetBanip { jail }
+        | Request::GetFindtime { jail }
+        | Request::GetBantime { jail }
+        | Request::GetMaxretry { jail }
+        | Request::GetIgnoreip { jail }
+        | Request::GetLogpath { jail }
+        | Request::GetFailregex { jail } => Some(jail),
+        _ => None,
+    }
+}
+
+/// Whether a request changes something, or may.
+fn is_change(request: &Request) -> bool
+    ensures { result ≡ is_change request.now }
+{
+    matches!(
+        request,
+        Request::UnbanAll
+            | Request::Unban { .. }
+            | Request::Reload
+            | Request::SetBanip { .. }
+            | Request::SetUnbanip { .. }
+            | Request::SetAttempt { .. }
+            | Request::AddIgnore { .. }
+            | Request::DelIgnore { .. }
+            | Request::SetFindtime { .. }
+            | Request::SetBantime { .. }
+            | Request::SetMaxretry { .. }
+            | Request::SetIdle { .. }
+    )
+}
+
+/// The name of the jail that a request names, where no such jail is there.
+fn missing<'a>(core: &Core, request: &'a Request) -> Option<&'a Text>
+    ensures { option_copied result ≡ missing core.now request.now }
+{
+    let name = named(request)?;
+    match core.jail(name.as_str()) {
+        Some(_) => None,
+        None => Some(name),
+    }
+}
+
+fn no_jail_text(alloc: Global, name: &Text) -> Result<Text, NoMemory>
+    ensures { IfOk result (λ text. text ≡ no_jail_text name.now) }
+{
+    let mut text = Text::from_str(alloc, "Sorry but the jail '")?;
+    text.push_str(name.as_str())?;
+    text.push_str("' does not exist")?;
+    Ok(text)
+}
+
+/// Whether a request would change something while the server is stopping.
+fn comes_late(core: &Core, request: &Request) -> bool
+    ensures { result ≡ comes_late core.now request.now }
+{
+    core.is_stopping() && is_change(request)
+}
+
+/// Whether a request is refused. Takes no memory.
+#[tactic(auto, unfolding(crate::specs::Refusals::refusal))]
+pub(crate) fn is_refused(core: &Core, request: &Request) -> bool
+    ensures { result ≡ is_some (refusal core.now request.now) }
+{
+    missing(core, request).is_some() || comes_late(core, request)
+}
+
+/// Why a request is refused, if it is.
+#[tactic(auto, unfolding(crate::specs::Refusals::refusal))]
+pub(crate) fn refusal(
+    alloc: Global,
+    core: &Core,
+    request: &Request,
+) -> Result<Option<Text>, NoMemory>
+    ensures { IfOk result (λ text. text ≡ refusal core.now request.now) }
+{
+    if let Some(name) = missing(core, request) {
+        return Ok(Some(no_jail_text(alloc, name)?));
+    }
+    if comes_late(core, request) {
+        return Ok(Some(Text::from_str(alloc, "Server is stopping")?));
+    }
+    Ok(None)
+}
