@@ -1,3 +1,4 @@
-pub mod Verbs
-pub mod Values
 pub mod Commands
+pub mod Refusals
+pub mod Values
+pub mod Verbs

@@ -1,52 +1,56 @@
--- The values that words spell: names of jails, addresses, masks, times and numbers.
-use Rattle.std.specs.Prelude.{◌≡◌, ℕ, zero, ◌+◌, List, [], ◌∷◌, Option, Some, None, option_and_then, Result, Ok, Err, ℤ, pos}
+-- The values that words spell, each with what is told of a word that spells none.
+use Rattle.std.specs.Prelude.{◌≡◌, ℕ, ◌+◌, Bool, List, [], ◌∷◌, Result, Ok, Err, ℤ, if◌then◌else◌}
 use Rattle.f2b_base.specs.Addresses.{read_addr}
+use Rattle.f2b_base.specs.Masks.{read_cidr}
 use Rattle.f2b_base.specs.declared.addr.Addr.{Addr}
-use Rattle.ini_interp.specs.Lines.{trimmed}
-use Rattle.jail_conf.specs.Times.{counted, time_word}
-use Rattle.jail_conf.specs.Words.{if_between, if_from, number}
+use Rattle.f2b_base.specs.declared.addr.Cidr.{Cidr}
+use Rattle.jail_conf.specs.declared.conf_error.ConfKind.{ConfKind}
+use Rattle.jail_conf.specs.Items.{Item}
+use Rattle.jail_conf.specs.Jails.{is_jail_name}
+use Rattle.jail_conf.specs.Table as table
+use Rattle.jail_conf.specs.Then.{◌>>=◌, or_refuse}
 use Rattle.client_words.specs.declared.error.CommandError.{CommandError}
-use Rattle.client_words.specs.declared.error.CommandError.TheVariants as errors
+use Rattle.client_words.specs.declared.error.CommandError.TheVariants.{BadJailName, BadAddress, BadNumber, NoMemory}
 
--- ---- results
-
--- what comes of a value, where there is one
-infixl 10 ◌>>=◌
-abbrev pub ◌>>=◌ : {A B : Type 0} → Result A CommandError → (A → Result B CommandError) → Result B CommandError
-(Ok x) >>= f = f x
-(Err error) >>= f = Err error
-
--- the value, or this is wrong
-abbrev pub or_refuse : {A : Type 0} → CommandError → Option A → Result A CommandError
-or_refuse error None = Err error
-or_refuse error (Some x) = Ok x
-
--- What a function returned is this, unless memory ran out.
+-- What a call gave is what is defined, unless memory ran out.
 abbrev pub Gives : {A : Type 0} → Result A CommandError → Result A CommandError → Type 0
-Gives (Err errors.NoMemory) said = Unit {0}
-Gives result said = result ≡ said
+Gives defined (Err NoMemory) = Unit {0}
+Gives defined given = given ≡ defined
 
--- ---- values
+-- a name that a jail can have
+abbrev pub jail_name : List ℕ → Result (List ℕ) CommandError
+jail_name word = if is_jail_name word then Ok word else Err BadJailName
 
--- the addresses that words spell, or the place of the first word that spells none; the first of them stands at that place
-abbrev pub addrs_from : ℕ → List (List ℕ) → Result (List Addr) CommandError
-addrs_from place [] = Ok []
-addrs_from place (word ∷ words) =
-    or_refuse (errors.BadAddress place) (read_addr word) >>= λ addr. addrs_from (place + 1) words >>= λ addrs. Ok (addr ∷ addrs)
+-- ---- addresses
 
--- a time of 1 second at least
-abbrev pub findtime_of : List ℕ → Option ℕ
-findtime_of word = option_and_then (if_from 1) (option_and_then counted (time_word word))
+-- the address that the word at a place spells
+abbrev pub address : ℕ → List ℕ → Result Addr CommandError
+address place word = or_refuse (BadAddress place) (read_addr word)
 
-abbrev pub if_some : ℤ → Option ℤ
-if_some (pos zero) = None
-if_some seconds = Some seconds
+-- the mask that the word at a place spells: some first bits of an address, or all of them
+abbrev pub mask : ℕ → List ℕ → Result Cidr CommandError
+mask place word = or_refuse (BadAddress place) (read_cidr word)
 
--- a time that is not 0; a negative one never ends
-abbrev pub bantime_of : List ℕ → Option ℤ
-bantime_of word = option_and_then if_some (time_word word)
+-- the addresses that words spell, the first of which stands at that place
+abbrev pub addresses : ℕ → List (List ℕ) → Result (List Addr) CommandError
+addresses place [] = Ok []
+addresses place (word ∷ words) = do
+  first ← address place word
+  others ← addresses (place + 1) words
+  Ok (first ∷ others)
 
--- a number of 1 to 100,000
+-- ---- times and numbers
 
-abbrev pub maxretry_of : List ℕ → Option ℕ
-maxretry_of word = option_and_then (if_between 1 100_000) (number (trimmed word))
+abbrev pub or_bad_number : {A : Type 0} → Result A ConfKind → Result A CommandError
+or_bad_number (Ok value) = Ok value
+or_bad_number (Err kind) = Err BadNumber
+
+-- a word is read as the text of that item in a configuration
+abbrev pub findtime : List ℕ → Result ℕ CommandError
+findtime word = or_bad_number (table.findtime.reading word)
+
+abbrev pub bantime : List ℕ → Result ℤ CommandError
+bantime word = or_bad_number (table.bantime.reading word)
+
+abbrev pub maxretry : List ℕ → Result ℕ CommandError
+maxretry word = or_bad_number (table.maxretry.reading word)

@@ -1,79 +1,101 @@
--- Which request words name, and how many words it has.
-use Rattle.std.specs.Prelude.{ℕ, Bool, true, false, ◌==◌, nat_le, List, [], ◌∷◌, Option, Some, None, option_map, option_and_then, codes, if◌then◌else◌}
-use Rattle.std.specs.Str.{bytes_eq}
+-- The table of verbs: which words name one, and how many words a command with it has.
+use Rattle.std.specs.Prelude.{ℕ, Bool, true, false, ◌==◌, nat_le, List, [], ◌∷◌, find, Option, Some, None, option_map, is_none, Result, Ok, Err, bytes_eq, codes, if◌then◌else◌}
+use Rattle.jail_conf.specs.Then.{◌>>=◌, ◌>>◌, or_refuse, refuse_if}
+use Rattle.client_words.specs.declared.error.CommandError.{CommandError}
+use Rattle.client_words.specs.declared.error.CommandError.TheVariants.{Unknown, WrongCount}
 use Rattle.client_words.specs.declared.verb.Item.{Item}
-use Rattle.client_words.specs.declared.verb.Item.TheVariants.{OfBans, OfFindtime, OfBantime, OfMaxretry, OfIgnored, OfLogs, OfPatterns}
+use Rattle.client_words.specs.declared.verb.Item.TheVariants as get
 use Rattle.client_words.specs.declared.verb.Setting.{Setting}
-use Rattle.client_words.specs.declared.verb.Setting.TheVariants.{Banip, Unbanip, Attempt, Addignoreip, Delignoreip, Findtime, Bantime, Maxretry, Idle}
+use Rattle.client_words.specs.declared.verb.Setting.TheVariants as set
 use Rattle.client_words.specs.declared.verb.Verb.{Verb}
-use Rattle.client_words.specs.declared.verb.Verb.TheVariants.{Ping, Status, Banned, Unban, Reload, Stop, Set, Get, Nothing}
+use Rattle.client_words.specs.declared.verb.Verb.TheVariants.{Ping, Status, Banned, Unban, Reload, Stop, Set, Get}
 
--- what `set` sets
-abbrev pub setting_of : List ℕ → Option Setting
-setting_of word =
-    if bytes_eq word (codes "banip") then Some Banip
-    else if bytes_eq word (codes "unbanip") then Some Unbanip
-    else if bytes_eq word (codes "attempt") then Some Attempt
-    else if bytes_eq word (codes "addignoreip") then Some Addignoreip
-    else if bytes_eq word (codes "delignoreip") then Some Delignoreip
-    else if bytes_eq word (codes "findtime") then Some Findtime
-    else if bytes_eq word (codes "bantime") then Some Bantime
-    else if bytes_eq word (codes "maxretry") then Some Maxretry
-    else if bytes_eq word (codes "idle") then Some Idle
-    else None
+-- what a table has for a word
+abbrev pub named_in : {A : Type 0} → List (List ℕ × A) → List ℕ → Option A
+named_in rows word = option_map (λ row. row.1) (find (λ row. bytes_eq row.0 word) rows)
 
--- what `get` gets
-abbrev pub item_of : List ℕ → Option Item
-item_of word =
-    if bytes_eq word (codes "banip") then Some OfBans
-    else if bytes_eq word (codes "findtime") then Some OfFindtime
-    else if bytes_eq word (codes "bantime") then Some OfBantime
-    else if bytes_eq word (codes "maxretry") then Some OfMaxretry
-    else if bytes_eq word (codes "ignoreip") then Some OfIgnored
-    else if bytes_eq word (codes "logpath") then Some OfLogs
-    else if bytes_eq word (codes "failregex") then Some OfPatterns
-    else None
+-- ---- names
 
--- whether a jail is to be idle
-abbrev pub idle_of : List ℕ → Option Bool
-idle_of word = if bytes_eq word (codes "on") then Some true else if bytes_eq word (codes "off") then Some false else None
+-- by the first word; `set` and `get` are named by the third one as well
+abbrev pub verbs : List (List ℕ × Verb)
+verbs =
+    (codes "ping", Ping)
+    ∷ (codes "status", Status)
+    ∷ (codes "banned", Banned)
+    ∷ (codes "unban", Unban)
+    ∷ (codes "reload", Reload)
+    ∷ (codes "stop", Stop)
+    ∷ []
 
--- the word behind `idle` is `on` or `off`, where there is one
-abbrev pub set_with : List (List ℕ) → Setting → Option Verb
-set_with (value ∷ values) Idle = option_map (λ idle. Set Idle) (idle_of value)
-set_with values setting = Some (Set setting)
+-- by the third word of `set`
+abbrev pub settings : List (List ℕ × Setting)
+settings =
+    (codes "banip", set.Banip)
+    ∷ (codes "unbanip", set.Unbanip)
+    ∷ (codes "attempt", set.Attempt)
+    ∷ (codes "addignoreip", set.Addignoreip)
+    ∷ (codes "delignoreip", set.Delignoreip)
+    ∷ (codes "findtime", set.Findtime)
+    ∷ (codes "bantime", set.Bantime)
+    ∷ (codes "maxretry", set.Maxretry)
+    ∷ (codes "idle", set.Idle)
+    ∷ []
 
-abbrev pub set_verb : List (List ℕ) → Option Verb
-set_verb (jail ∷ word ∷ values) = option_and_then (set_with values) (setting_of word)
-set_verb _ = Some Nothing
+-- by the third word of `get`
+abbrev pub items : List (List ℕ × Item)
+items =
+    (codes "banip", get.Banip)
+    ∷ (codes "findtime", get.Findtime)
+    ∷ (codes "bantime", get.Bantime)
+    ∷ (codes "maxretry", get.Maxretry)
+    ∷ (codes "ignoreip", get.Ignoreip)
+    ∷ (codes "logpath", get.Logpath)
+    ∷ (codes "failregex", get.Failregex)
+    ∷ []
 
-abbrev pub get_verb : List (List ℕ) → Option Verb
-get_verb (jail ∷ word ∷ values) = option_map Get (item_of word)
-get_verb _ = Some Nothing
+-- by the word behind `idle`
+abbrev pub switches : List (List ℕ × Bool)
+switches = (codes "on", true) ∷ (codes "off", false) ∷ []
 
--- what words ask for, by the first of them and those behind it
-unfoldable pub verb_of : List ℕ → List (List ℕ) → Option Verb
-verb_of first others =
-    if bytes_eq first (codes "ping") then Some Ping
-    else if bytes_eq first (codes "status") then Some Status
-    else if bytes_eq first (codes "banned") then Some Banned
-    else if bytes_eq first (codes "unban") then Some Unban
-    else if bytes_eq first (codes "reload") then Some Reload
-    else if bytes_eq first (codes "stop") then Some Stop
-    else if bytes_eq first (codes "set") then set_verb others
-    else if bytes_eq first (codes "get") then get_verb others
-    else None
+-- ---- the verb of a command
 
--- whether a request has so many words behind its first
+-- a word that stands behind `idle` and is no switch
+abbrev pub has_unknown_switch : Setting → List (List ℕ) → Bool
+has_unknown_switch set.Idle (word ∷ _) = is_none (named_in switches word)
+has_unknown_switch _ _ = false
+
+abbrev pub set_verb : List (List ℕ) → Result Verb CommandError
+set_verb (_ ∷ _ ∷ word ∷ values) = do
+  setting ← or_refuse Unknown (named_in settings word)
+  refuse_if (has_unknown_switch setting values) Unknown
+  Ok (Set setting)
+set_verb _ = Err WrongCount
+
+abbrev pub get_verb : List (List ℕ) → Result Verb CommandError
+get_verb (_ ∷ _ ∷ word ∷ _) = do
+  item ← or_refuse Unknown (named_in items word)
+  Ok (Get item)
+get_verb _ = Err WrongCount
+
+-- The verb that words name. One that is there and stands in no table is an unknown command, and one that is not there a wrong count.
+unfoldable pub verb_of : List (List ℕ) → Result Verb CommandError
+verb_of [] = Err WrongCount
+verb_of (first ∷ others) =
+    if bytes_eq first (codes "set") then set_verb (first ∷ others)
+    else if bytes_eq first (codes "get") then get_verb (first ∷ others)
+    else or_refuse Unknown (named_in verbs first)
+
+-- ---- counts
+
+-- how many words a command has, with those that name it
 abbrev pub fits_count : Verb → ℕ → Bool
-fits_count Ping count = count == 0
-fits_count Status count = nat_le count 1
-fits_count Banned count = count == 0
-fits_count Unban count = nat_le 1 count
-fits_count Reload count = count == 0
-fits_count Stop count = count == 0
-fits_count (Set Banip) count = nat_le 3 count
-fits_count (Set Unbanip) count = nat_le 3 count
-fits_count (Set setting) count = count == 3
-fits_count (Get item) count = count == 2
-fits_count Nothing count = false
+fits_count Ping count = count == 1
+fits_count Status count = nat_le count 2
+fits_count Banned count = count == 1
+fits_count Unban count = nat_le 2 count
+fits_count Reload count = count == 1
+fits_count Stop count = count == 1
+fits_count (Set set.Banip) count = nat_le 4 count
+fits_count (Set set.Unbanip) count = nat_le 4 count
+fits_count (Set _) count = count == 4
+fits_count (Get _) count = count == 3

@@ -1,23 +1,25 @@
-//! The words of an administrator, as requests.
+//! The words of an administrator as requests.
 //!
-//! A request is named by its first word, and those of `set` and `get` by their third one. `command` gives the request with the values
-//! that its words spell, or the first thing that is wrong with them. Nothing here knows a jail that is there, or what a request does.
+//! A client sends a list of words. `command` makes of them the one request that they spell, with its values, or tells what is wrong with
+//! them first: that they name no command, that they are too few or too many, that a jail can have no such name, and then which value is
+//! none. `CommandError::refusal` is what the client is told. Nothing here knows a connection, which jails there are, or what a request
+//! does.
 //!
 //! ```text
-//! set sshd banip 192.0.2.7       // Request::SetBanip { jail, addrs }
-//! set sshd findtime 5q           // CommandError::BadNumber
-//! set nojail banip 1.2.3         // CommandError::BadAddress(4): the fourth word, whether there is such a jail or not
+//! set sshd banip 192.0.2.7        // Request::SetBanip { jail, addrs }
+//! set nojail banip 1.2.3          // Bad address: word 4, whether there is such a jail or not
+//! set sshd findtime 5q            // Bad number
+//! set sshd nothing                // Invalid command
 //! ```
 #![tactic(auto)]
 
-mod addresses;
-mod command;
+mod commands;
 mod error;
-mod names;
 mod numbers;
 mod request;
+mod values;
 mod verb;
 
-pub use command::command;
+pub use commands::command;
 pub use error::CommandError;
 pub use request::Request;

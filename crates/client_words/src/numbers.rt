@@ -1,12 +1,33 @@
-//! Times and numbers that words spell.
+//! Times and numbers that words spell, as the items of a configuration read them.
 ghost use Rattle.std.specs.Prelude.{◌≡◌, ◌+◌, ◌*◌, ◌-◌, ◌^◌, min, option_map, IsTrue};
 ghost use Rattle.std.specs.Char.{digit_value, is_ascii_digit};
-ghost use Rattle.ini_interp.specs.Lines.{is_blank, trimmed, trimmed_end, trimmed_start};
+ghost use Rattle.ini_interp.specs.Lines.{is_blank, trimmed_end, trimmed_start};
 ghost use Rattle.jail_conf.specs.Words.{number};
-ghost use Rattle.client_words.specs.Values.{bantime_of, findtime_of, maxretry_of};
+ghost use Rattle.client_words.specs.Values.{bantime, findtime, maxretry};
 
+use crate::error::CommandError;
 use f2b_base::Text;
 use jail_conf::str2sec;
+
+/// A time of 1 second at least.
+pub(crate) fn findtime(word: &Text) -> Result<u64, CommandError>
+    ensures { result ≡ findtime word.now }
+{
+    match str2sec(word.as_str()) {
+        Some(secs) if secs >= 1 => Ok(secs as u64),
+        _ => Err(CommandError::BadNumber),
+    }
+}
+
+/// A time that is not 0.
+pub(crate) fn bantime(word: &Text) -> Result<i64, CommandError>
+    ensures { result ≡ bantime word.now }
+{
+    match str2sec(word.as_str()) {
+        Some(secs) if secs != 0 => Ok(secs),
+        _ => Err(CommandError::BadNumber),
+    }
+}
 
 fn is_blank(byte: u8) -> bool
     ensures { result ≡ is_blank byte }
@@ -64,26 +85,12 @@ fn number(text: &[u8]) -> Option<u64>
     Some(value)
 }
 
-/// A time of 1 second at least.
-pub(crate) fn findtime_of(word: &Text) -> Option<u64>
-    ensures { result ≡ findtime_of word.now }
-{
-    match str2sec(word.as_str()) {
-        Some(secs) if secs >= 1 => Some(secs as u64),
-        _ => None,
-    }
-}
-
-/// A time that is not 0.
-pub(crate) fn bantime_of(word: &Text) -> Option<i64>
-    ensures { result ≡ bantime_of word.now }
-{
-    str2sec(word.as_str()).filter(|secs| *secs != 0)
-}
-
 /// A number of 1 to 100,000.
-pub(crate) fn maxretry_of(word: &Text) -> Option<u64>
-    ensures { result ≡ maxretry_of word.now }
+pub(crate) fn maxretry(word: &Text) -> Result<u64, CommandError>
+    ensures { result ≡ maxretry word.now }
 {
-    number(trim_start(trim_end(word.as_str().as_bytes()))).filter(|n| 1 <= *n && *n <= 100_000)
+    match number(trim_start(trim_end(word.as_str().as_bytes()))) {
+        Some(number) if 1 <= number && number <= 100_000 => Ok(number),
+        _ => Err(CommandError::BadNumber),
+    }
 }

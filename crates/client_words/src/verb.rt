@@ -1,7 +1,8 @@
-//! Which request words name.
+//! Which command words name, and how many words it has.
 ghost use Rattle.std.specs.Prelude.{◌≡◌};
-ghost use Rattle.client_words.specs.Verbs.{fits_count, get_verb, idle_of, item_of, set_verb, setting_of, verb_of};
+ghost use Rattle.client_words.specs.Verbs.{fits_count, get_verb, has_unknown_switch, items, named_in, set_verb, settings, switches, verb_of, verbs};
 
+use crate::error::CommandError;
 use f2b_base::Text;
 
 /// What `set` sets.
@@ -21,13 +22,13 @@ pub(crate) enum Setting {
 /// What `get` gets.
 #[derive(Clone, Copy)]
 pub(crate) enum Item {
-    OfBans,
-    OfFindtime,
-    OfBantime,
-    OfMaxretry,
-    OfIgnored,
-    OfLogs,
-    OfPatterns,
+    Banip,
+    Findtime,
+    Bantime,
+    Maxretry,
+    Ignoreip,
+    Logpath,
+    Failregex,
 }
 
 /// What words ask for, before their values are read.
@@ -41,134 +42,124 @@ pub(crate) enum Verb {
     Stop,
     Set(Setting),
     Get(Item),
-    /// `set` or `get` of nothing: its third word is not there.
-    Nothing,
 }
 
-fn setting_of(word: &str) -> Option<Setting>
-    ensures { result ≡ setting_of word.now }
+/// The verb that a first word names alone.
+fn verb_named(word: &str) -> Option<Verb>
+    ensures { result ≡ named_in verbs word.now }
 {
-    if word == "banip" {
-        Some(Setting::Banip)
-    } else if word == "unbanip" {
-        Some(Setting::Unbanip)
-    } else if word == "attempt" {
-        Some(Setting::Attempt)
-    } else if word == "addignoreip" {
-        Some(Setting::Addignoreip)
-    } else if word == "delignoreip" {
-        Some(Setting::Delignoreip)
-    } else if word == "findtime" {
-        Some(Setting::Findtime)
-    } else if word == "bantime" {
-        Some(Setting::Bantime)
-    } else if word == "maxretry" {
-        Some(Setting::Maxretry)
-    } else if word == "idle" {
-        Some(Setting::Idle)
-    } else {
-        None
+    match word {
+        "ping" => Some(Verb::Ping),
+        "status" => Some(Verb::Status),
+        "banned" => Some(Verb::Banned),
+        "unban" => Some(Verb::Unban),
+        "reload" => Some(Verb::Reload),
+        "stop" => Some(Verb::Stop),
+        _ => None,
     }
 }
 
-fn item_of(word: &str) -> Option<Item>
-    ensures { result ≡ item_of word.now }
+fn setting_named(word: &str) -> Option<Setting>
+    ensures { result ≡ named_in settings word.now }
 {
-    if word == "banip" {
-        Some(Item::OfBans)
-    } else if word == "findtime" {
-        Some(Item::OfFindtime)
-    } else if word == "bantime" {
-        Some(Item::OfBantime)
-    } else if word == "maxretry" {
-        Some(Item::OfMaxretry)
-    } else if word == "ignoreip" {
-        Some(Item::OfIgnored)
-    } else if word == "logpath" {
-        Some(Item::OfLogs)
-    } else if word == "failregex" {
-        Some(Item::OfPatterns)
-    } else {
-        None
+    match word {
+        "banip" => Some(Setting::Banip),
+        "unbanip" => Some(Setting::Unbanip),
+        "attempt" => Some(Setting::Attempt),
+        "addignoreip" => Some(Setting::Addignoreip),
+        "delignoreip" => Some(Setting::Delignoreip),
+        "findtime" => Some(Setting::Findtime),
+        "bantime" => Some(Setting::Bantime),
+        "maxretry" => Some(Setting::Maxretry),
+        "idle" => Some(Setting::Idle),
+        _ => None,
+    }
+}
+
+fn item_named(word: &str) -> Option<Item>
+    ensures { result ≡ named_in items word.now }
+{
+    match word {
+        "banip" => Some(Item::Banip),
+        "findtime" => Some(Item::Findtime),
+        "bantime" => Some(Item::Bantime),
+        "maxretry" => Some(Item::Maxretry),
+        "ignoreip" => Some(Item::Ignoreip),
+        "logpath" => Some(Item::Logpath),
+        "failregex" => Some(Item::Failregex),
+        _ => None,
     }
 }
 
 /// Whether a jail is to be idle, by the word that says so.
-pub(crate) fn idle_of(word: &str) -> Option<bool>
-    ensures { result ≡ idle_of word.now }
+pub(crate) fn switch_named(word: &str) -> Option<bool>
+    ensures { result ≡ named_in switches word.now }
 {
-    if word == "on" {
-        Some(true)
-    } else if word == "off" {
-        Some(false)
-    } else {
-        None
+    match word {
+        "on" => Some(true),
+        "off" => Some(false),
+        _ => None,
     }
 }
 
-/// What `set` is to set, by the words behind it.
-fn set_verb(others: &[Text]) -> Option<Verb>
-    ensures { result ≡ set_verb others.now }
+/// Whether a word stands behind `idle` and is no switch.
+fn has_unknown_switch(setting: Setting, values: &[Text]) -> bool
+    ensures { result ≡ has_unknown_switch setting values.now }
 {
-    let [_, word, values @ ..] = others else {
-        return Some(Verb::Nothing);
+    match (setting, values) {
+        (Setting::Idle, [word, ..]) => switch_named(word.as_str()).is_none(),
+        _ => false,
+    }
+}
+
+fn set_verb(words: &[Text]) -> Result<Verb, CommandError>
+    ensures { result ≡ set_verb words.now }
+{
+    let [_, _, word, values @ ..] = words else {
+        return Err(CommandError::WrongCount);
     };
-    let setting = setting_of(word.as_str())?;
-    match values {
-        [value, ..] if matches!(setting, Setting::Idle) => {
-            idle_of(value.as_str())?;
-            Some(Verb::Set(setting))
-        }
-        _ => Some(Verb::Set(setting)),
+    let setting = setting_named(word.as_str()).ok_or(CommandError::Unknown)?;
+    if has_unknown_switch(setting, values) {
+        return Err(CommandError::Unknown);
     }
+    Ok(Verb::Set(setting))
 }
 
-/// What `get` is to get, by the words behind it.
-fn get_verb(others: &[Text]) -> Option<Verb>
-    ensures { result ≡ get_verb others.now }
+fn get_verb(words: &[Text]) -> Result<Verb, CommandError>
+    ensures { result ≡ get_verb words.now }
 {
-    match others {
-        [_, word, ..] => Some(Verb::Get(item_of(word.as_str())?)),
-        _ => Some(Verb::Nothing),
-    }
+    let [_, _, word, ..] = words else {
+        return Err(CommandError::WrongCount);
+    };
+    let item = item_named(word.as_str()).ok_or(CommandError::Unknown)?;
+    Ok(Verb::Get(item))
 }
 
-/// The request that words name, by the first of them and those behind it.
-pub(crate) fn verb_of(first: &str, others: &[Text]) -> Option<Verb>
-    ensures { result ≡ verb_of first.now others.now }
+/// The verb that words name. One that is there and names none is an unknown command, and one that is not there a wrong count.
+#[tactic(auto, unfolding(crate::specs::Verbs::verb_of))]
+pub(crate) fn verb_of(words: &[Text]) -> Result<Verb, CommandError>
+    ensures { result ≡ verb_of words.now }
 {
-    if first == "ping" {
-        Some(Verb::Ping)
-    } else if first == "status" {
-        Some(Verb::Status)
-    } else if first == "banned" {
-        Some(Verb::Banned)
-    } else if first == "unban" {
-        Some(Verb::Unban)
-    } else if first == "reload" {
-        Some(Verb::Reload)
-    } else if first == "stop" {
-        Some(Verb::Stop)
-    } else if first == "set" {
-        set_verb(others)
-    } else if first == "get" {
-        get_verb(others)
-    } else {
-        None
+    let [first, ..] = words else {
+        return Err(CommandError::WrongCount);
+    };
+    match first.as_str() {
+        "set" => set_verb(words),
+        "get" => get_verb(words),
+        word => verb_named(word).ok_or(CommandError::Unknown),
     }
 }
 
-/// Whether a request has so many words behind its first.
+/// Whether a command with this verb has so many words.
 pub(crate) fn fits_count(verb: Verb, count: usize) -> bool
     ensures { result ≡ fits_count verb count }
 {
     match verb {
-        Verb::Ping | Verb::Banned | Verb::Reload | Verb::Stop => count == 0,
-        Verb::Status => count <= 1,
-        Verb::Unban => count >= 1,
-        Verb::Set(Setting::Banip | Setting::Unbanip) => count >= 3,
-        Verb::Set(_) => count == 3,
-        Verb::Get(_) => count == 2,
-        Verb::Nothing => false,
+        Verb::Ping | Verb::Banned | Verb::Reload | Verb::Stop => count == 1,
+        Verb::Status => count <= 2,
+        Verb::Unban => count >= 2,
+        Verb::Set(Setting::Banip | Setting::Unbanip) => count >= 4,
+        Verb::Set(_) => count == 4,
+        Verb::Get(_) => count == 3,
     }
 }

@@ -1,0 +1,34 @@
+//! What comes of words.
+use client_words::command;
+use f2b_base::{Seq, Text};
+use std::alloc::Global;
+use std::test::Fail;
+
+/// How the request of words prints, or what a client is told of them.
+pub(crate) fn told(alloc: Global, words: &Seq<Text>) -> Result<String, Fail> {
+    match command(alloc, words) {
+        Ok(request) => Ok(format!(in alloc; "{request:?}")?),
+        Err(error) => {
+            let text = error.refusal(alloc)?;
+            Ok(String::from_str(alloc, text.as_str())?)
+        }
+    }
+}
+
+/// The same of a line whose words have one blank between them.
+pub(crate) fn told_of_line(alloc: Global, line: &str) -> Result<String, Fail> {
+    let mut words = Seq::new(alloc);
+    for word in line.split(' ') {
+        words.push(Text::from_str(alloc, word)?)?;
+    }
+    told(alloc, &words)
+}
+
+/// The same of words that have blanks.
+pub(crate) fn told_of_words(alloc: Global, words: &[&str]) -> Result<String, Fail> {
+    let mut seq = Seq::new(alloc);
+    for word in words {
+        seq.push(Text::from_str(alloc, word)?)?;
+    }
+    told(alloc, &seq)
+}
