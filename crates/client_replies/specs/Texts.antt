@@ -9,6 +9,7 @@ use Rattle.f2b_base.specs.declared.addr.Cidr.{Cidr}
 use Rattle.f2b_base.specs.declared.ban.Ban.{Ban}
 use Rattle.f2b_base.specs.declared.jail.JailDef.{JailDef}
 use Rattle.f2b_base.specs.declared.jail.WatchDef.{WatchDef}
+use Rattle.f2b_base.specs.declared.view.JailView.{JailView}
 use Rattle.f2b_model.specs.declared.jail_now.JailNow.{JailNow}
 use Rattle.jail_moves.specs.declared.totals.Totals.{Totals}
 use Rattle.jail_rooms.specs.Shown.{lately_in, totals_of}
@@ -52,13 +53,18 @@ idle_text false = codes "off"
 
 -- ---- all jails
 
--- the name of a jail
+abbrev pub def_name : JailDef → List ℕ
+def_name d = d.name
+
 abbrev pub name_of : JailNow → List ℕ
-name_of j = j.definition.name
+name_of j = def_name j.definition
 
 -- `JAIL: a b c`
 unfoldable pub line_of : (name : List ℕ) → List Ban → List ℕ
 line_of name bans = name ++ codes ": " ++ bans_text (codes " ") bans
+
+abbrev pub view_line : JailView → List ℕ
+view_line v = line_of v.name v.bans
 
 abbrev pub banned_line : JailNow → List ℕ
 banned_line j = line_of (name_of j) j.bans

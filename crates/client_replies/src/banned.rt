@@ -4,24 +4,31 @@ ghost use Rattle.std.specs.List.{sum_by};
 ghost use Rattle.f2b_base.specs.declared.addr.Addr.{Addr};
 ghost use Rattle.f2b_base.specs.declared.view.JailView.{JailView};
 ghost use Rattle.client_replies.specs.Banned.{count_meant, ended};
-ghost use Rattle.client_replies.specs.Meant.{IsWhom, bans_at};
+ghost use Rattle.client_replies.specs.Meant.{IsWhom, bans_at, bans_named};
 
 use crate::known::Known;
 use f2b_base::{Addr, Ban, JailView, NoMemory, Plain, Seq, Text};
 use jail_core::Core;
 use std::alloc::Global;
 
-/// A copy of the bans of the jail of a name, by their serials, if there is such a jail.
-pub(crate) fn bans_in(core: &Core, name: &Text) -> Result<Option<Seq<Ban>>, NoMemory>
-    ensures { IfOk result (λ bans. bans ≡ bans_at core.now name.now) }
+/// A copy of the bans of the first of these jails with a name.
+fn bans_named(jails: &[JailView], name: &Text) -> Result<Option<Seq<Ban>>, NoMemory>
+    ensures { IfOk result (λ bans. bans ≡ bans_named name.now jails.now) }
 {
-    let view = core.view()?;
-    for jail in view.jails.as_slice() {
+    for jail in jails {
         if jail.name == *name {
             return Ok(Some(jail.bans.copy()?));
         }
     }
     Ok(None)
+}
+
+/// A copy of the bans of the jail of a name, by their serials, if there is such a jail.
+pub(crate) fn bans_in(core: &Core, name: &Text) -> Result<Option<Seq<Ban>>, NoMemory>
+    ensures { IfOk result (λ bans. bans ≡ bans_at core.now name.now) }
+{
+    let view = core.view()?;
+    bans_named(view.jails.as_slice(), name)
 }
 
 /// The addresses that a request means, to be looked up: these, or all.

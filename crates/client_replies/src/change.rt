@@ -39,14 +39,14 @@ fn is_same(one: bool, other: bool) -> bool
     if one { other } else { !other }
 }
 
-fn is_mask(one: &Cidr, other: &Cidr) -> bool
+pub(crate) fn is_mask(one: &Cidr, other: &Cidr) -> bool
     ensures { result ≡ same_cidr one.now other.now }
 {
     one.base.same(other.base) && one.bits == other.bits
 }
 
 /// Whether a mask is one of those that a jail never bans.
-fn has_mask(cidr: &Cidr, definition: &JailDef) -> bool
+pub(crate) fn has_mask(cidr: &Cidr, definition: &JailDef) -> bool
     ensures { result ≡ has_mask cidr.now definition.now }
 {
     definition

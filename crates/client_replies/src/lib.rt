@@ -16,5 +16,9 @@ mod banned;
 mod change;
 mod known;
 mod refusal;
+mod replies;
+mod status;
+mod text;
 
 pub use change::effect;
+pub use replies::reply;

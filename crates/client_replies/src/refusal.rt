@@ -13,24 +13,30 @@ pub(crate) fn named(request: &Request) -> Option<&Text>
     ensures { option_copied result ≡ named request.now }
 {
     match request {
-        Request::StatusOf { jail }
-        | Request::SetBanip { jail, .. }
-        | Request::SetUnbanip { jail, .. }
-        | Request::SetAttempt { jail, .. }
-        | Request::AddIgnore { jail, .. }
-        | Request::DelIgnore { jail, .. }
-        | Request::SetFindtime { jail, .. }
-        | Request::SetBantime { jail, .. }
-        | Request::SetMaxretry { jail, .. }
-        | Request::SetIdle { jail, .. }
-        | Request::GetBanip { jail }
-        | Request::GetFindtime { jail }
-        | Request::GetBantime { jail }
-        | Request::GetMaxretry { jail }
-        | Request::GetIgnoreip { jail }
-        | Request::GetLogpath { jail }
-        | Request::GetFailregex { jail } => Some(jail),
-        _ => None,
+        Request::StatusOf { jail } => Some(jail),
+        Request::SetBanip { jail, .. } => Some(jail),
+        Request::SetUnbanip { jail, .. } => Some(jail),
+        Request::SetAttempt { jail, .. } => Some(jail),
+        Request::AddIgnore { jail, .. } => Some(jail),
+        Request::DelIgnore { jail, .. } => Some(jail),
+        Request::SetFindtime { jail, .. } => Some(jail),
+        Request::SetBantime { jail, .. } => Some(jail),
+        Request::SetMaxretry { jail, .. } => Some(jail),
+        Request::SetIdle { jail, .. } => Some(jail),
+        Request::GetBanip { jail } => Some(jail),
+        Request::GetFindtime { jail } => Some(jail),
+        Request::GetBantime { jail } => Some(jail),
+        Request::GetMaxretry { jail } => Some(jail),
+        Request::GetIgnoreip { jail } => Some(jail),
+        Request::GetLogpath { jail } => Some(jail),
+        Request::GetFailregex { jail } => Some(jail),
+        Request::Ping
+        | Request::Status
+        | Request::Banned
+        | Request::UnbanAll
+        | Request::Unban { .. }
+        | Request::Reload
+        | Request::Stop => None,
     }
 }
 
