@@ -1,3 +1,4 @@
 pub mod KnownLemmas
 pub mod BannedLemmas
 pub mod TextLemmas
+pub mod BoundLemmas

@@ -50,15 +50,15 @@ change_in j (request.SetBanip jail addrs) = ban_of jail (new_addrs j.bans addrs)
 change_in j (request.SetUnbanip jail addrs) = if_any (ended_in (Some addrs) j) (what.Unban (Some jail) (Some addrs))
 change_in j (request.SetAttempt jail addr) = unless (is_banned addr j.bans) (what.Attempt jail addr)
 change_in j (request.SetIdle jail idle) = unless (is_same idle j.idle) (what.Idle jail idle)
-change_in j request = change_of_definition j.definition request
+change_in j asked = change_of_definition j.definition asked
 
 -- what changes in all, or in the jail that is named
 abbrev pub change_of : Now → Request → Option What
 change_of now request.UnbanAll = if_any (ended None now) (what.Unban None None)
 change_of now (request.Unban addrs) = if_any (ended (Some addrs) now) (what.Unban None (Some addrs))
 change_of now request.Stop = unless now.lanes.stopping what.Stop
-change_of now request = option_and_then (λ (j : JailNow). change_in j request) (option_and_then (jail_in now) (named request))
+change_of now asked = option_and_then (λ (j : JailNow). change_in j asked) (option_and_then (jail_in now) (named asked))
 
 -- The input that a request makes, where it is not refused and something changes. That of a reload is made of the configuration that is read.
 unfoldable pub effect : Now → Request → Option What
-effect now request = if is_some (refusal now request) then None else change_of now request
+effect now asked = if is_some (refusal now asked) then None else change_of now asked

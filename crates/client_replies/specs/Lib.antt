@@ -5,3 +5,4 @@ pub mod Texts
 pub mod Replies
 pub mod Known
 pub mod Meant
+pub mod Bounds

@@ -42,7 +42,7 @@ text_in moment j (request.SetBanip jail addrs) = decimal (length (new_addrs j.ba
 text_in moment j (request.SetUnbanip jail addrs) = decimal (ended_in (Some addrs) j)
 text_in moment j (request.SetAttempt jail addr) = counted_text (is_banned addr j.bans)
 text_in moment j (request.GetBanip jail) = bans_text (codes "\n") j.bans
-text_in moment j request = text_of_definition j.definition request
+text_in moment j asked = text_of_definition j.definition asked
 
 -- what is replied to a request that is not refused
 abbrev pub text_of : (moment : ℕ) → Now → Request → List ℕ
@@ -53,7 +53,7 @@ text_of moment now request.UnbanAll = decimal (ended None now)
 text_of moment now (request.Unban addrs) = decimal (ended (Some addrs) now)
 text_of moment now request.Reload = codes "OK"
 text_of moment now request.Stop = codes "Shutdown begun"
-text_of moment now request = option_map_or (λ (j : JailNow). text_in moment j request) [] (option_and_then (jail_in now) (named request))
+text_of moment now asked = option_map_or (λ (j : JailNow). text_in moment j asked) [] (option_and_then (jail_in now) (named asked))
 
 abbrev pub refused : List ℕ → Answer
 refused text = record { accepted = false; text = text }
@@ -68,4 +68,4 @@ answer None text = accepted text
 
 -- The reply at a moment, which is at least the state's own. To a reload it is what is replied where the configuration that is read is taken.
 unfoldable pub reply : (moment : ℕ) → Now → Request → Answer
-reply moment now request = answer (refusal now request) (text_of (max now.jails.at moment) now request)
+reply moment now asked = answer (refusal now asked) (text_of (max now.jails.at moment) now asked)

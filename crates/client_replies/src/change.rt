@@ -1,12 +1,12 @@
 //! What a request changes.
-ghost use Rattle.std.specs.Prelude.{◌≡◌, IfOk, option_and_then};
+ghost use Rattle.std.specs.Prelude.{◌≡◌, List, None, Some, IfOk, IfSome, option_and_then};
 ghost use Rattle.f2b_base.specs.declared.ban.Ban.{Ban};
 ghost use Rattle.f2b_base.specs.declared.jail.JailDef.{JailDef};
 ghost use Rattle.f2b_base.specs.declared.input.What.TheVariants as what;
 ghost use Rattle.f2b_model.specs.Moves.{is_banned, same_cidr};
 ghost use Rattle.f2b_model.specs.declared.jail_now.JailNow.{JailNow};
-ghost use Rattle.std.specs.Prelude.{List, Some, None};
 ghost use Rattle.client_replies.specs.Banned.{count_meant, ended, new_addrs};
+ghost use Rattle.client_replies.specs.Bounds.{IsBoundedRequest, IsTakenWhat};
 ghost use Rattle.client_replies.specs.Changes.{ban_of, change_of, change_of_definition, effect, has_mask, if_any, is_same, unless};
 ghost use Rattle.client_replies.specs.Meant.{bans_at, definition_at};
 ghost use Rattle.client_replies.specs.Refusals.{jail_in, named};
@@ -229,10 +229,11 @@ fn change_of(alloc: Global, core: &Core, request: &Request) -> Result<Option<Wha
 }
 
 /// The input that a request makes, or `None` where it changes nothing or is refused. A reload's is made of the configuration that is
-/// read, and is not made here.
+/// read, and is not made here. That of a request within bounds can be taken and stored.
 #[tactic(auto, unfolding(crate::specs::Changes::effect))]
 pub fn effect(alloc: Global, core: &Core, request: &Request) -> Result<Option<What>, NoMemory>
-    ensures { IfOk result (λ what. what ≡ effect core.now request.now) }
+    ensures what { IfOk result (λ what. what ≡ effect core.now request.now) }
+    ensures taken { IsBoundedRequest request.now → IfOk result (λ what. IfSome what IsTakenWhat) }
 {
     if is_refused(core, request) {
         return Ok(None);
