@@ -1,11 +1,10 @@
 -- The values that words spell, each with what is told of a word that spells none.
-use Rattle.std.specs.Prelude.{◌≡◌, ℕ, ◌+◌, Bool, List, [], ◌∷◌, Result, Ok, Err, ℤ, if◌then◌else◌}
+use Rattle.std.specs.Prelude.{◌≡◌, ◌≢◌, ℕ, ◌+◌, List, [], ◌∷◌, Result, Ok, Err, ℤ, if◌then◌else◌}
 use Rattle.f2b_base.specs.Addresses.{read_addr}
 use Rattle.f2b_base.specs.Masks.{read_cidr}
 use Rattle.f2b_base.specs.declared.addr.Addr.{Addr}
 use Rattle.f2b_base.specs.declared.addr.Cidr.{Cidr}
 use Rattle.jail_conf.specs.declared.conf_error.ConfKind.{ConfKind}
-use Rattle.jail_conf.specs.Items.{Item}
 use Rattle.jail_conf.specs.Jails.{is_jail_name}
 use Rattle.jail_conf.specs.Table as table
 use Rattle.jail_conf.specs.Then.{◌>>=◌, or_refuse}
@@ -14,8 +13,8 @@ use Rattle.client_words.specs.declared.error.CommandError.TheVariants.{BadJailNa
 
 -- What a call gave is what is defined, unless memory ran out.
 abbrev pub Gives : {A : Type 0} → Result A CommandError → Result A CommandError → Type 0
-Gives defined (Err NoMemory) = Unit {0}
-Gives defined given = given ≡ defined
+Gives defined (Ok value) = Ok value ≡ defined
+Gives defined (Err error) = error ≢ NoMemory → Err error ≡ defined
 
 -- a name that a jail can have
 abbrev pub jail_name : List ℕ → Result (List ℕ) CommandError

@@ -40,10 +40,10 @@ fn set_one(setting: Setting, jail: Text, word: &Text) -> Result<Request, Command
             let number = maxretry(word)?;
             Ok(Request::SetMaxretry { jail, number })
         }
-        Setting::Idle => {
-            let idle = switch_named(word.as_str()).ok_or(CommandError::Unknown)?;
-            Ok(Request::SetIdle { jail, idle })
-        }
+        Setting::Idle => match switch_named(word.as_str()) {
+            Some(idle) => Ok(Request::SetIdle { jail, idle }),
+            None => Err(CommandError::Unknown),
+        },
         Setting::Banip | Setting::Unbanip => Err(CommandError::WrongCount),
     }
 }

@@ -41,14 +41,20 @@ pub(crate) fn jail_name(word: &Text) -> Result<Text, CommandError>
 pub(crate) fn address(place: u32, word: &Text) -> Result<Addr, CommandError>
     ensures { result ≡ address place word.now }
 {
-    Addr::read(word.as_str().as_bytes()).ok_or(CommandError::BadAddress(place))
+    match Addr::read(word.as_str().as_bytes()) {
+        Some(addr) => Ok(addr),
+        None => Err(CommandError::BadAddress(place)),
+    }
 }
 
 /// The mask that the word at a place spells.
 pub(crate) fn mask(place: u32, word: &Text) -> Result<Cidr, CommandError>
     ensures { result ≡ mask place word.now }
 {
-    Cidr::read(word.as_str().as_bytes()).ok_or(CommandError::BadAddress(place))
+    match Cidr::read(word.as_str().as_bytes()) {
+        Some(cidr) => Ok(cidr),
+        None => Err(CommandError::BadAddress(place)),
+    }
 }
 
 /// The addresses that words spell, of which the first stands at that place.

@@ -118,7 +118,9 @@ fn set_verb(words: &[Text]) -> Result<Verb, CommandError>
     let [_, _, word, values @ ..] = words else {
         return Err(CommandError::WrongCount);
     };
-    let setting = setting_named(word.as_str()).ok_or(CommandError::Unknown)?;
+    let Some(setting) = setting_named(word.as_str()) else {
+        return Err(CommandError::Unknown);
+    };
     if has_unknown_switch(setting, values) {
         return Err(CommandError::Unknown);
     }
@@ -131,8 +133,10 @@ fn get_verb(words: &[Text]) -> Result<Verb, CommandError>
     let [_, _, word, ..] = words else {
         return Err(CommandError::WrongCount);
     };
-    let item = item_named(word.as_str()).ok_or(CommandError::Unknown)?;
-    Ok(Verb::Get(item))
+    match item_named(word.as_str()) {
+        Some(item) => Ok(Verb::Get(item)),
+        None => Err(CommandError::Unknown),
+    }
 }
 
 /// The verb that words name. One that is there and names none is an unknown command, and one that is not there a wrong count.
@@ -146,7 +150,10 @@ pub(crate) fn verb_of(words: &[Text]) -> Result<Verb, CommandError>
     match first.as_str() {
         "set" => set_verb(words),
         "get" => get_verb(words),
-        word => verb_named(word).ok_or(CommandError::Unknown),
+        word => match verb_named(word) {
+            Some(verb) => Ok(verb),
+            None => Err(CommandError::Unknown),
+        },
     }
 }
 
