@@ -1,7 +1,7 @@
 -- Bans that are counted and found in what a view shows.
 use Rattle.std.proofs.Common.{◌≡◌, ℕ, ◌+◌, List, [], ◌∷◌, map, Option, Some, None, refl, sym, ◌∙◌, ap}
 use Rattle.std.specs.List.{sum_by}
-use Rattle.std.specs.Option.{option_map, option_and_then}
+use Rattle.std.specs.Option.{option_map, option_and_then, option_map_or}
 use Rattle.std.specs.Str.{bytes_eq}
 use Rattle.std.proofs.lemmas.List.Folds.{fold-map}
 use Rattle.f2b_base.specs.declared.addr.Addr.{Addr}
@@ -25,3 +25,7 @@ ended_shown addrs js = fold-map (λ (n : ℕ) (v : JailView). n + count_meant ad
 pub through : {A B C : Type 0} (f : A → B) (h : B → Option C) (o : Option A) → option_and_then h (option_map f o) ≡ option_and_then (λ x. h (f x)) o
 through f h None = refl
 through f h (Some x) = refl
+
+pub through_or : {A B C : Type 0} (f : A → B) (h : B → C) (o : Option A) (d : C) → option_map_or h (option_map f o) d ≡ option_map_or (λ x. h (f x)) o d
+through_or f h None d = refl
+through_or f h (Some x) d = refl

@@ -24,6 +24,7 @@ fn bans_named(jails: &[JailView], name: &Text) -> Result<Option<Seq<Ban>>, NoMem
 }
 
 /// A copy of the bans of the jail of a name, by their serials, if there is such a jail.
+#[tactic(auto, using(crate::proofs::BannedLemmas::named_shown))]
 pub(crate) fn bans_in(core: &Core, name: &Text) -> Result<Option<Seq<Ban>>, NoMemory>
     ensures { IfOk result (λ bans. bans ≡ bans_at core.now name.now) }
 {
@@ -64,6 +65,7 @@ fn count_all(whom: &Option<Known>, jails: &[JailView]) -> u128
 }
 
 /// How many bans of all jails a request means: those of these addresses, or all.
+#[tactic(auto, using(crate::proofs::BannedLemmas::ended_shown))]
 pub(crate) fn ended(alloc: Global, core: &Core, addrs: &Option<Seq<Addr>>) -> Result<u128, NoMemory>
     ensures { IfOk result (λ count. count ≡ ended addrs.now core.now) }
 {

@@ -213,6 +213,7 @@ fn idle_change(core: &Core, jail: &Text, idle: bool) -> Result<Option<What>, NoM
 }
 
 /// What changes in all jails, or in the one that a request names.
+#[tactic(auto, using(crate::proofs::BannedLemmas::through))]
 fn change_of(alloc: Global, core: &Core, request: &Request) -> Result<Option<What>, NoMemory>
     ensures { IfOk result (λ change. change ≡ change_of core.now request.now) }
 {
@@ -230,7 +231,7 @@ fn change_of(alloc: Global, core: &Core, request: &Request) -> Result<Option<Wha
 
 /// The input that a request makes, or `None` where it changes nothing or is refused. A reload's is made of the configuration that is
 /// read, and is not made here. That of a request within bounds can be taken and stored.
-#[tactic(auto, unfolding(crate::specs::Changes::effect))]
+#[tactic(auto, using(crate::proofs::BoundLemmas::effect_taken), unfolding(crate::specs::Changes::effect))]
 pub fn effect(alloc: Global, core: &Core, request: &Request) -> Result<Option<What>, NoMemory>
     ensures what { IfOk result (λ what. what ≡ effect core.now request.now) }
     ensures taken { IsBoundedRequest request.now → IfOk result (λ what. IfSome what IsTakenWhat) }

@@ -156,6 +156,7 @@ fn ended_text(alloc: Global, core: &Core, addrs: &Option<Seq<Addr>>) -> Result<T
 }
 
 /// What is replied to a request that is not refused.
+#[tactic(auto, using(crate::proofs::BannedLemmas::through_or))]
 fn text_of(alloc: Global, core: &Core, now: u64, request: &Request) -> Result<Text, NoMemory>
     ensures { IfOk result (λ text. text ≡ text_of (max core.now.jails.at now) core.now request.now) }
 {

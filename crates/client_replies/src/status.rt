@@ -75,6 +75,7 @@ fn jail_text(
 }
 
 /// Nine lines of the jail of a name, if there is one, at a moment, which is at least the core's own.
+#[tactic(auto, using(crate::proofs::TextLemmas::nothing_shown, crate::proofs::TextLemmas::status_shown))]
 pub(crate) fn status_of(alloc: Global, core: &Core, now: u64, name: &Text) -> Result<Text, NoMemory>
     ensures { IfOk result (λ text. text ≡ option_map_or (status_of (max core.now.jails.at now)) (jail_in core.now name.now) []) }
 {
@@ -92,7 +93,7 @@ pub(crate) fn status_of(alloc: Global, core: &Core, now: u64, name: &Text) -> Re
 }
 
 /// How many jails there are, and their names.
-#[tactic(auto, unfolding(crate::specs::Texts::jails_text))]
+#[tactic(auto, using(crate::proofs::TextLemmas::count_shown, crate::proofs::TextLemmas::names_shown), unfolding(crate::specs::Texts::jails_text))]
 pub(crate) fn jails_text(alloc: Global, core: &Core) -> Result<Text, NoMemory>
     ensures { IfOk result (λ text. text ≡ jails_text core.now.jails.jails) }
 {
@@ -105,7 +106,7 @@ pub(crate) fn jails_text(alloc: Global, core: &Core) -> Result<Text, NoMemory>
 }
 
 /// A line for each jail: its name, and who is banned in it.
-#[tactic(auto, unfolding(crate::specs::Texts::banned_text))]
+#[tactic(auto, using(crate::proofs::TextLemmas::lines_shown), unfolding(crate::specs::Texts::banned_text))]
 pub(crate) fn banned_text(alloc: Global, core: &Core) -> Result<Text, NoMemory>
     ensures { IfOk result (λ text. text ≡ banned_text core.now.jails.jails) }
 {
