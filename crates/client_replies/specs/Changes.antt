@@ -1,6 +1,6 @@
 -- What a request changes: the input that it makes.
 use Rattle.std.specs.Prelude.{ℕ, ◌==◌, Bool, true, false, not, List, length, Option, Some, None, option_and_then, is_some, if◌then◌else◌}
-use Rattle.std.specs.Prelude.{int_eq}
+use Rattle.std.specs.Ordering.{int_eq}
 use Rattle.std.specs.List.{list_any}
 use Rattle.f2b_base.specs.declared.addr.Addr.{Addr}
 use Rattle.f2b_base.specs.declared.addr.Cidr.{Cidr}

@@ -1,5 +1,5 @@
 -- What code knows of the jail of a name, and of the addresses that a request means.
-use Rattle.std.specs.Prelude.{ℕ, cond, ⊥, List, [], ◌∷◌, Option, Some, None, option_map, bytes_eq}
+use Rattle.std.specs.Prelude.{ℕ, cond, List, [], ◌∷◌, Option, Some, None, option_map, bytes_eq}
 use Rattle.f2b_base.specs.declared.addr.Addr.{Addr}
 use Rattle.f2b_base.specs.declared.ban.Ban.{Ban}
 use Rattle.f2b_base.specs.declared.jail.JailDef.{JailDef}

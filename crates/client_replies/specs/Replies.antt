@@ -53,7 +53,7 @@ text_of moment now request.UnbanAll = decimal (ended None now)
 text_of moment now (request.Unban addrs) = decimal (ended (Some addrs) now)
 text_of moment now request.Reload = codes "OK"
 text_of moment now request.Stop = codes "Shutdown begun"
-text_of moment now asked = option_map_or (λ (j : JailNow). text_in moment j asked) [] (option_and_then (jail_in now) (named asked))
+text_of moment now asked = option_map_or (λ (j : JailNow). text_in moment j asked) (option_and_then (jail_in now) (named asked)) []
 
 abbrev pub refused : List ℕ → Answer
 refused text = record { accepted = false; text = text }
