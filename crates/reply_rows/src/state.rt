@@ -1,7 +1,9 @@
 //! The states that requests are asked of.
-ghost use Rattle.std.specs.Prelude.{◌≡◌, ◌≤◌, IfOk};
-ghost use Rattle.f2b_base.specs.Limits.{last_moment};
-ghost use Rattle.f2b_model.specs.Bounds.{IsBounded, IsTakenInput};
+ghost use Rattle.std.specs.Prelude.{◌≡◌, [], codes, length, IfOk};
+ghost use Rattle.f2b_base.specs.Span.{IsRule};
+ghost use Rattle.f2b_model.specs.Bounds.{IsBounded, IsBoundedWhat, IsTakenInput};
+ghost use Rattle.f2b_model.specs.Sound.{IsFitWhat};
+ghost use Rattle.reply_rows.specs.States.{AreApart};
 
 use f2b_base::{
     Addr, BanRule, Cidr, DEFAULT_PURGE, DateSpec, Defs, Input, JailDef, NoMemory, Seq, Text,
@@ -23,7 +25,9 @@ pub(crate) const NINE: Addr = Addr::V4(0xc000_0209);
 pub(crate) const OF_IPV6: Addr = Addr::V6(0x2001_0db8_0000_0000_0000_0000_0000_0001);
 
 /// Ten minutes for each ban.
-fn rule(alloc: Global) -> BanRule {
+fn rule(alloc: Global) -> BanRule
+    ensures { IsRule result }
+{
     BanRule {
         base: 600,
         increment: false,
@@ -35,7 +39,12 @@ fn rule(alloc: Global) -> BanRule {
 }
 
 /// A jail that has no logs, no patterns and no masks.
-fn bare(alloc: Global, name: &str) -> Result<JailDef, NoMemory> {
+fn bare(alloc: Global, name: &str) -> Result<JailDef, NoMemory>
+    ensures bounded { IfOk result IsBounded }
+    ensures name { IfOk result (λ d. d.name ≡ name.now) }
+    ensures watches { IfOk result (λ d. d.watches ≡ []) }
+    ensures actions { IfOk result (λ d. d.actions ≡ []) }
+{
     Ok(JailDef {
         name: Text::from_str(alloc, name)?,
         watches: Seq::new(alloc),
@@ -53,22 +62,35 @@ fn bare(alloc: Global, name: &str) -> Result<JailDef, NoMemory> {
     })
 }
 
-/// The logs of these paths.
-fn logs(alloc: Global, paths: &[&str]) -> Result<Seq<WatchDef>, NoMemory> {
+/// The log of a path.
+fn log(alloc: Global, path: &str) -> Result<WatchDef, NoMemory>
+    ensures { IfOk result (λ log. log.path ≡ path.now) }
+{
+    Ok(WatchDef {
+        path: Text::from_str(alloc, path)?,
+        tail: true,
+    })
+}
+
+/// Two logs.
+fn logs(alloc: Global) -> Result<Seq<WatchDef>, NoMemory>
+    ensures { IfOk result AreApart }
+{
     let mut logs = Seq::new(alloc);
-    for path in paths {
-        logs.push(WatchDef {
-            path: Text::from_str(alloc, path)?,
-            tail: true,
-        })?;
-    }
+    logs.push(log(alloc, "/var/log/auth.log")?)?;
+    logs.push(log(alloc, "/var/log/a b.log")?)?;
     Ok(logs)
 }
 
 /// A jail that has two logs, two patterns and three masks.
-fn full(alloc: Global) -> Result<JailDef, NoMemory> {
+fn full(alloc: Global) -> Result<JailDef, NoMemory>
+    ensures bounded { IfOk result IsBounded }
+    ensures name { IfOk result (λ d. d.name ≡ codes "sshd") }
+    ensures watches { IfOk result (λ d. AreApart d.watches) }
+    ensures actions { IfOk result (λ d. d.actions ≡ []) }
+{
     let mut jail = bare(alloc, "sshd")?;
-    jail.watches = logs(alloc, &["/var/log/auth.log", "/var/log/a b.log"])?;
+    jail.watches = logs(alloc)?;
     jail.fail.push(Text::from_str(alloc, "^x <HOST>$")?)?;
     jail.fail.push(Text::from_str(alloc, "^y <HOST>$")?)?;
     jail.ignore.push(Cidr {
@@ -87,7 +109,10 @@ fn full(alloc: Global) -> Result<JailDef, NoMemory> {
 }
 
 /// A configuration of two jails.
-fn configuration(alloc: Global) -> Result<What, NoMemory> {
+fn configuration(alloc: Global) -> Result<What, NoMemory>
+    ensures fit { IfOk result IsFitWhat }
+    ensures bounded { IfOk result IsBoundedWhat }
+{
     let mut jails = Seq::new(alloc);
     jails.push(full(alloc)?)?;
     jails.push(bare(alloc, "web")?)?;
@@ -99,12 +124,24 @@ fn configuration(alloc: Global) -> Result<What, NoMemory> {
     })
 }
 
-fn take(core: Core, secs: u64, what: What) -> Result<Core, NoMemory> {
-    let (core, _) = core.take(&Input {
-        secs,
+/// What happened, and when.
+fn input(secs: u32, what: What) -> Input
+    requires fit { IsFitWhat what }
+    requires bounded { IsBoundedWhat what }
+    ensures { IsTakenInput result }
+{
+    Input {
+        secs: u64::from(secs),
         word: 0,
         what,
-    })?;
+    }
+}
+
+fn take(core: Core, secs: u32, what: What) -> Result<Core, NoMemory>
+    requires fit { IsFitWhat what }
+    requires bounded { IsBoundedWhat what }
+{
+    let (core, _) = core.take(&input(secs, what))?;
     Ok(core)
 }
 
@@ -120,7 +157,7 @@ fn ban(alloc: Global, core: Core, jail: &str, addr: Addr) -> Result<Core, NoMemo
     take(core, 1100, What::Ban { jail, addrs })
 }
 
-fn fail(alloc: Global, core: Core, secs: u64, addr: Addr) -> Result<Core, NoMemory> {
+fn fail(alloc: Global, core: Core, secs: u32, addr: Addr) -> Result<Core, NoMemory> {
     let jail = Text::from_str(alloc, "sshd")?;
     take(core, secs, What::Attempt { jail, addr })
 }
