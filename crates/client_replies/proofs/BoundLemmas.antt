@@ -1,5 +1,5 @@
 -- The input of a request within bounds is within bounds.
-use Rattle.std.proofs.Common.{◌≡◌, ℕ, suc, ◌+◌, ◌<◌, ◌≤◌, Bool, true, false, ◌||◌, List, [], ◌∷◌, length, Option, Some, None, ℤ, refl, sym, ◌∙◌, ap, arith}
+use Rattle.std.proofs.Common.{◌≡◌, ℕ, ◌<◌, ◌≤◌, Bool, true, false, ◌==◌, ◌||◌, List, [], ◌∷◌, length, Option, Some, None, ℤ, refl, sym, ◌∙◌, ap, arith}
 use Rattle.std.specs.Prelude.{◌≤ℤ◌, pos, negsuc}
 use Rattle.std.specs.List.{list_any}
 use Rattle.std.specs.Option.{IfSome, is_some, option_and_then}
@@ -81,8 +81,7 @@ base_bounded (pos secs) h = omega (arith, ints)
 base_bounded (negsuc n) h = omega (arith, ints)
 
 some_if_any : (P : What → Type 0) (count : ℕ) (happens : What) → P happens → IfSome (if_any count happens) P
-some_if_any P 0 happens is = tt
-some_if_any P (suc n) happens is = is
+some_if_any P count happens is = by_test (count == 0) _ (λ none. rw none tt) (λ some. rw some is)
 
 some_unless : (P : What → Type 0) (already : Bool) (happens : What) → P happens → IfSome (unless already happens) P
 some_unless P true happens is = tt

@@ -2,3 +2,4 @@ pub mod KnownLemmas
 pub mod BannedLemmas
 pub mod TextLemmas
 pub mod BoundLemmas
+pub mod RefusalLemmas

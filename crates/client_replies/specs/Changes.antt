@@ -27,9 +27,9 @@ unless already happens = if already then None else Some happens
 abbrev pub ban_of : List ℕ → (addrs : List Addr) → Option What
 ban_of jail addrs = if_any (length addrs) (what.Ban jail addrs)
 
--- whether a mask is one of those that a jail never bans
-abbrev pub has_mask : Cidr → JailDef → Bool
-has_mask cidr d = list_any (same_cidr cidr) d.ignore
+-- whether a mask is one of these
+abbrev pub has_mask : Cidr → List Cidr → Bool
+has_mask cidr masks = list_any (same_cidr cidr) masks
 
 abbrev pub is_same : Bool → Bool → Bool
 is_same true b = b
@@ -37,8 +37,8 @@ is_same false b = not b
 
 -- what changes of a definition
 abbrev pub change_of_definition : JailDef → Request → Option What
-change_of_definition d (request.AddIgnore jail cidr) = unless (has_mask cidr d) (what.Ignore jail cidr true)
-change_of_definition d (request.DelIgnore jail cidr) = unless (not (has_mask cidr d)) (what.Ignore jail cidr false)
+change_of_definition d (request.AddIgnore jail cidr) = unless (has_mask cidr d.ignore) (what.Ignore jail cidr true)
+change_of_definition d (request.DelIgnore jail cidr) = unless (not (has_mask cidr d.ignore)) (what.Ignore jail cidr false)
 change_of_definition d (request.SetFindtime jail secs) = unless (secs == d.findtime) (what.Findtime jail secs)
 change_of_definition d (request.SetBantime jail secs) = unless (int_eq secs d.rule.base) (what.Bantime jail secs)
 change_of_definition d (request.SetMaxretry jail number) = unless (number == d.maxretry) (what.Maxretry jail number)

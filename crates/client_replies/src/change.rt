@@ -3,19 +3,20 @@ ghost use Rattle.std.specs.Prelude.{◌≡◌, List, None, Some, IfOk, IfSome, o
 ghost use Rattle.f2b_base.specs.declared.ban.Ban.{Ban};
 ghost use Rattle.f2b_base.specs.declared.jail.JailDef.{JailDef};
 ghost use Rattle.f2b_base.specs.declared.input.What.TheVariants as what;
-ghost use Rattle.f2b_model.specs.Moves.{is_banned, same_cidr};
+ghost use Rattle.f2b_model.specs.Moves.{is_banned};
 ghost use Rattle.f2b_model.specs.declared.jail_now.JailNow.{JailNow};
 ghost use Rattle.client_replies.specs.Banned.{count_meant, ended, new_addrs};
 ghost use Rattle.client_replies.specs.Bounds.{IsBoundedRequest, IsTakenWhat};
-ghost use Rattle.client_replies.specs.Changes.{ban_of, change_of, change_of_definition, effect, has_mask, if_any, is_same, unless};
+ghost use Rattle.client_replies.specs.Changes.{ban_of, change_of, change_of_definition, effect, if_any, is_same, unless};
 ghost use Rattle.client_replies.specs.Meant.{bans_at, definition_at};
 ghost use Rattle.client_replies.specs.Refusals.{jail_in, named};
 
 use crate::banned::{bans_in, count_meant, ended, whom};
 use crate::known::new_addrs;
+use crate::masks::has_mask;
 use crate::refusal::{is_refused, named};
 use client_words::Request;
-use f2b_base::{Addr, Ban, Cidr, JailDef, NoMemory, Plain, Seq, Text, What};
+use f2b_base::{Addr, Ban, JailDef, NoMemory, Plain, Seq, Text, What};
 use jail_core::Core;
 use std::alloc::Global;
 
@@ -39,23 +40,6 @@ fn is_same(one: bool, other: bool) -> bool
     if one { other } else { !other }
 }
 
-pub(crate) fn is_mask(one: &Cidr, other: &Cidr) -> bool
-    ensures { result ≡ same_cidr one.now other.now }
-{
-    one.base.same(other.base) && one.bits == other.bits
-}
-
-/// Whether a mask is one of those that a jail never bans.
-pub(crate) fn has_mask(cidr: &Cidr, definition: &JailDef) -> bool
-    ensures { result ≡ has_mask cidr.now definition.now }
-{
-    definition
-        .ignore
-        .as_slice()
-        .iter()
-        .any(|other| is_mask(cidr, other))
-}
-
 /// Whether one of these bans is the address's.
 pub(crate) fn is_banned(addr: Addr, bans: &[Ban]) -> bool
     ensures { result ≡ is_banned addr bans.now }
@@ -69,7 +53,7 @@ fn change_of_definition(definition: &JailDef, request: &Request) -> Result<Optio
 {
     match request {
         Request::AddIgnore { jail, cidr } => Ok(unless(
-            has_mask(cidr, definition),
+            has_mask(cidr, definition.ignore.as_slice()),
             What::Ignore {
                 jail: jail.copy()?,
                 cidr: *cidr,
@@ -77,7 +61,7 @@ fn change_of_definition(definition: &JailDef, request: &Request) -> Result<Optio
             },
         )),
         Request::DelIgnore { jail, cidr } => Ok(unless(
-            !has_mask(cidr, definition),
+            !has_mask(cidr, definition.ignore.as_slice()),
             What::Ignore {
                 jail: jail.copy()?,
                 cidr: *cidr,

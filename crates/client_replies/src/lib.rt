@@ -15,6 +15,7 @@
 mod banned;
 mod change;
 mod known;
+mod masks;
 mod refusal;
 mod replies;
 mod status;

@@ -62,6 +62,7 @@ fn is_change(request: &Request) -> bool
 }
 
 /// The name of the jail that a request names, where no such jail is there.
+#[tactic(auto, using(crate::proofs::RefusalLemmas::is_there, crate::proofs::RefusalLemmas::is_gone))]
 fn missing<'a>(core: &Core, request: &'a Request) -> Option<&'a Text>
     ensures { option_copied result ≡ missing core.now request.now }
 {
@@ -89,11 +90,14 @@ fn comes_late(core: &Core, request: &Request) -> bool
 }
 
 /// Whether a request is refused. Takes no memory.
-#[tactic(auto, unfolding(crate::specs::Refusals::refusal))]
+#[tactic(auto, using(crate::proofs::RefusalLemmas::late_is), unfolding(crate::specs::Refusals::refusal))]
 pub(crate) fn is_refused(core: &Core, request: &Request) -> bool
     ensures { result ≡ is_some (refusal core.now request.now) }
 {
-    missing(core, request).is_some() || comes_late(core, request)
+    match missing(core, request) {
+        Some(_) => true,
+        None => comes_late(core, request),
+    }
 }
 
 /// Why a request is refused, if it is.

@@ -6,22 +6,23 @@ ghost use Rattle.std.specs.Option.{option_map_or};
 ghost use Rattle.client_frames.specs.Frames.{most_text};
 ghost use Rattle.f2b_base.specs.declared.ban.Ban.{Ban};
 ghost use Rattle.f2b_base.specs.declared.jail.JailDef.{JailDef};
-ghost use Rattle.f2b_model.specs.Moves.{ignored, is_banned};
+ghost use Rattle.f2b_model.specs.Moves.{is_banned};
 ghost use Rattle.client_replies.specs.Banned.{count_meant, ended, new_addrs};
 ghost use Rattle.client_replies.specs.Meant.{bans_at, definition_at};
 ghost use Rattle.client_replies.specs.Refusals.{named};
 ghost use Rattle.client_replies.specs.Replies.{accepted, counted_text, refused, reply, text_of, text_of_definition};
-ghost use Rattle.client_replies.specs.Texts.{bans_text, idle_text, masks_text};
+ghost use Rattle.client_replies.specs.Texts.{bans_text, idle_text};
 
 use crate::banned::{bans_in, count_meant, ended, whom};
-use crate::change::{has_mask, is_banned, is_mask};
+use crate::change::is_banned;
 use crate::known::new_addrs;
+use crate::masks::{masks_with, masks_without};
 use crate::refusal::{named, refusal};
 use crate::status::{banned_text, jails_text, status_of};
 use crate::text::{Listed, number_text, push_joined, signed_text};
 use client_frames::Answer;
 use client_words::Request;
-use f2b_base::{Addr, Ban, Cidr, JailDef, NoMemory, Plain, Seq, Text};
+use f2b_base::{Addr, JailDef, NoMemory, Plain, Seq, Text};
 use jail_core::Core;
 use std::alloc::Global;
 
@@ -37,28 +38,17 @@ fn joined<T: Listed>(alloc: Global, between: &str, items: &[T]) -> Result<Text, 
     Ok(text)
 }
 
-/// The masks that a jail never bans, once one was added at the end unless it is there, or each equal one was taken out.
-fn masks_after(
-    alloc: Global,
-    definition: &JailDef,
-    cidr: &Cidr,
-    add: bool,
-) -> Result<Text, NoMemory>
-    ensures { IfOk result (λ text. text ≡ masks_text (ignored cidr.now add definition.now).ignore) }
+fn idle_text(idle: bool) -> &'static str
+    ensures { result.now ≡ idle_text idle }
 {
-    let mut masks = definition.ignore.copy()?;
-    if !add {
-        masks.retain(|other| !is_mask(cidr, other));
-    } else if !has_mask(cidr, definition) {
-        masks.push(*cidr)?;
-    }
-    joined(alloc, " ", masks.as_slice())
+    if idle { "on" } else { "off" }
 }
 
-fn idle_text(alloc: Global, idle: bool) -> Result<Text, NoMemory>
-    ensures { IfOk result (λ text. text ≡ idle_text idle) }
+/// Whether one failure more of an address is counted, as a number.
+fn counted_text(banned: bool) -> &'static str
+    ensures { result.now ≡ counted_text banned }
 {
-    Text::from_str(alloc, if idle { "on" } else { "off" })
+    if banned { "0" } else { "1" }
 }
 
 /// What is replied of a definition, or of what a request makes of it.
@@ -70,12 +60,18 @@ fn text_of_definition(
     ensures { IfOk result (λ text. text ≡ text_of_definition definition.now request.now) }
 {
     match request {
-        Request::AddIgnore { cidr, .. } => masks_after(alloc, definition, cidr, true),
-        Request::DelIgnore { cidr, .. } => masks_after(alloc, definition, cidr, false),
+        Request::AddIgnore { cidr, .. } => {
+            let masks = masks_with(&definition.ignore, cidr)?;
+            joined(alloc, " ", masks.as_slice())
+        }
+        Request::DelIgnore { cidr, .. } => {
+            let masks = masks_without(&definition.ignore, cidr)?;
+            joined(alloc, " ", masks.as_slice())
+        }
         Request::SetFindtime { secs, .. } => number_text(alloc, u128::from(*secs)),
         Request::SetBantime { secs, .. } => signed_text(alloc, *secs),
         Request::SetMaxretry { number, .. } => number_text(alloc, u128::from(*number)),
-        Request::SetIdle { idle, .. } => idle_text(alloc, *idle),
+        Request::SetIdle { idle, .. } => Text::from_str(alloc, idle_text(*idle)),
         Request::GetFindtime { .. } => number_text(alloc, u128::from(definition.findtime)),
         Request::GetBantime { .. } => signed_text(alloc, definition.rule.base),
         Request::GetMaxretry { .. } => number_text(alloc, u128::from(definition.maxretry)),
@@ -135,7 +131,7 @@ fn attempt_text(alloc: Global, core: &Core, jail: &Text, addr: Addr) -> Result<T
         return Ok(Text::new(alloc));
     };
     let banned = is_banned(addr, bans.as_slice());
-    Text::from_str(alloc, if banned { "0" } else { "1" })
+    Text::from_str(alloc, counted_text(banned))
 }
 
 /// Who is banned in a jail, an address a line.
