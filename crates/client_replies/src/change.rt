@@ -8,8 +8,8 @@ ghost use Rattle.f2b_model.specs.declared.jail_now.JailNow.{JailNow};
 ghost use Rattle.client_replies.specs.Banned.{count_meant, ended, new_addrs};
 ghost use Rattle.client_replies.specs.Bounds.{IsBoundedRequest, IsTakenWhat};
 ghost use Rattle.client_replies.specs.Changes.{ban_of, change_of, change_of_definition, effect, if_any, is_same, unless};
-ghost use Rattle.client_replies.specs.Meant.{bans_at, definition_at};
-ghost use Rattle.client_replies.specs.Refusals.{jail_in, named};
+ghost use Rattle.client_replies.specs.Meant.{bans_at, definition_named};
+ghost use Rattle.client_replies.specs.Refusals.{jail_in};
 
 use crate::banned::{bans_in, count_meant, ended, whom};
 use crate::known::new_addrs;
@@ -95,7 +95,7 @@ fn change_of_definition(definition: &JailDef, request: &Request) -> Result<Optio
 
 /// What changes of the definition of the jail that a request names.
 fn definition_change(core: &Core, request: &Request) -> Result<Option<What>, NoMemory>
-    ensures { IfOk result (λ change. change ≡ option_and_then (λ (d : JailDef). change_of_definition d request.now) (option_and_then (definition_at core.now) (named request.now))) }
+    ensures { IfOk result (λ change. change ≡ option_and_then (λ (d : JailDef). change_of_definition d request.now) (definition_named core.now request.now)) }
 {
     let Some(name) = named(request) else {
         return Ok(None);
@@ -217,8 +217,8 @@ fn change_of(alloc: Global, core: &Core, request: &Request) -> Result<Option<Wha
 /// read, and is not made here. That of a request within bounds can be taken and stored.
 #[tactic(auto, using(crate::proofs::BoundLemmas::effect_taken), unfolding(crate::specs::Changes::effect))]
 pub fn effect(alloc: Global, core: &Core, request: &Request) -> Result<Option<What>, NoMemory>
-    ensures what { IfOk result (λ what. what ≡ effect core.now request.now) }
-    ensures taken { IsBoundedRequest request.now → IfOk result (λ what. IfSome what IsTakenWhat) }
+    ensures made { IfOk result (λ made. made ≡ effect core.now request.now) }
+    ensures taken { IsBoundedRequest request.now → IfOk result (λ made. IfSome made IsTakenWhat) }
 {
     if is_refused(core, request) {
         return Ok(None);

@@ -1,5 +1,5 @@
 //! What a request is replied.
-ghost use Rattle.std.specs.Prelude.{◌≡◌, [], List, Some, IfOk, codes, length, max, option_and_then};
+ghost use Rattle.std.specs.Prelude.{◌≡◌, [], List, Some, IfOk, codes, length, max};
 ghost use Rattle.std.specs.List.{join_by};
 ghost use Rattle.std.specs.Fmt.{decimal};
 ghost use Rattle.std.specs.Option.{option_map_or};
@@ -8,8 +8,7 @@ ghost use Rattle.f2b_base.specs.declared.ban.Ban.{Ban};
 ghost use Rattle.f2b_base.specs.declared.jail.JailDef.{JailDef};
 ghost use Rattle.f2b_model.specs.Moves.{is_banned};
 ghost use Rattle.client_replies.specs.Banned.{count_meant, ended, new_addrs};
-ghost use Rattle.client_replies.specs.Meant.{bans_at, definition_at};
-ghost use Rattle.client_replies.specs.Refusals.{named};
+ghost use Rattle.client_replies.specs.Meant.{bans_at, definition_named};
 ghost use Rattle.client_replies.specs.Replies.{accepted, counted_text, refused, reply, text_of, text_of_definition};
 ghost use Rattle.client_replies.specs.Texts.{bans_text, idle_text};
 
@@ -84,7 +83,7 @@ fn text_of_definition(
 
 /// What is replied of the definition of the jail that a request names, if there is one.
 fn definition_text(alloc: Global, core: &Core, request: &Request) -> Result<Text, NoMemory>
-    ensures { IfOk result (λ text. text ≡ option_map_or (λ (d : JailDef). text_of_definition d request.now) (option_and_then (definition_at core.now) (named request.now)) []) }
+    ensures { IfOk result (λ text. text ≡ option_map_or (λ (d : JailDef). text_of_definition d request.now) (definition_named core.now request.now) []) }
 {
     let Some(name) = named(request) else {
         return Ok(Text::new(alloc));
