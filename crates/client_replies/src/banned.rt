@@ -43,6 +43,7 @@ pub(crate) fn whom(alloc: Global, addrs: &Option<Seq<Addr>>) -> Result<Option<Kn
 }
 
 /// How many of these bans a request means.
+#[tactic(auto, using(crate::proofs::BannedLemmas::all_meant))]
 pub(crate) fn count_meant(whom: &Option<Known>, bans: &[Ban]) -> usize
     ensures { (addrs : Option (List Addr)) → IsWhom whom.now addrs → result ≡ count_meant addrs bans.now }
 {

@@ -80,7 +80,6 @@ fn text_of(bytes: &[u8]) -> &str
     str::from_utf8(bytes).unwrap()
 }
 
-#[tactic(auto, using(f2b_model::proofs::ShownTextLemmas::printed_utf8))]
 fn push_addr(reply: &mut Text, addr: &Addr) -> Result<(), NoMemory>
     ensures { OnOk result (reply.new ≡ reply.old ++ printed addr.now) }
 {
