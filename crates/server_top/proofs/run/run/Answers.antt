@@ -2,7 +2,7 @@ use Rattle.std.proofs.Common.{◌≡◌, ◌∙◌, ap, sym, subst, refl, List, 
 use Rattle.f2b_world.specs.Told.{History, Standing}
 use Rattle.run_law.specs.Served.{IsRun}
 use Rattle.run_law.specs.Stages.{IsSteady}
-use Rattle.run_law.specs.Stops.{held_in}
+use Rattle.run_law.specs.Stops.{HoldsThese, held_in}
 use Rattle.run_law.specs.Words.{plan_of}
 use Rattle.run_law.specs.declared.plan.Plan.{Plan}
 use Rattle.run_law.specs.declared.status.Status.{Status}
@@ -17,7 +17,7 @@ use Rattle.server_top.proofs.run.run.Goals as goal
 -- where a plan halts there is a whole run
 runs_as : (a b : Standing) (words : List (List ℕ)) (plan : Plan) (status : Status) → plan_of words ≡ Some plan → IsSteady a b → PlanHalts a b plan status → BeginsSound a.told → IsRun a.told b.told words status
 runs_as a b words plan status is steady halts begins = run_planned a b words plan status is steady (λ g told.
-    let holds = record { each = λ h same. ap held_in (let e : Some g ≡ Some h = sym told ∙ same in let f : g ≡ h = cc in f) } in
+    let holds : HoldsThese (held_in g) a.told = record { each = λ h same. ap held_in (let e : Some g ≡ Some h = sym told ∙ same in let f : g ≡ h = cc in f) } in
     halts.runs (held_in g) holds (begins.sound g told))
 
 pub serve-requires : goal.serve-requires
