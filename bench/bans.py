@@ -58,6 +58,8 @@ class Bench:
         names = "\n    ".join(f"note[actname={action}]" for action in self.actions)
         with open(f"{place}/conf/jail.conf", "w") as file:
             file.writelines(JAIL.format(name=jail, place=place, actions=names) for jail in self.jails)
+        with open(f"{place}/conf/fail2ban.conf", "w") as file:
+            file.write(f"[Definition]\nsocket = {place}/run/fail2ban.sock\n")
 
     def ends_at(self, number):
         """Has the ban of this address be noted."""

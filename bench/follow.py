@@ -143,6 +143,8 @@ def measure(server):
         size = os.path.getsize(log)
         with open(os.path.join(place, "jail.conf"), "w") as file:
             file.write(JAIL.format(log=log, maxretry=MAXRETRY))
+        with open(os.path.join(place, "fail2ban.conf"), "w") as file:
+            file.write(f"[Definition]\nsocket = {place}/run/fail2ban.sock\n")
 
         # A look ends within a line, so whole lines may need a turn more than the bytes do.
         turns = size // (LOOK - LINE_LENGTH) + 2

@@ -46,6 +46,8 @@ class Tree:
             file.writelines(jail.format(name=name, place=place) for name in self.names)
         with open(f"{place}/conf/filter.d/sshd.conf", "w") as file:
             file.write(FILTER)
+        with open(f"{place}/conf/fail2ban.conf", "w") as file:
+            file.write(f"[Definition]\nsocket = {place}/run/fail2ban.sock\n")
 
     def log(self, name):
         return f"{self.place}/{name}.log"

@@ -12,7 +12,7 @@ def most_files(room):
     """4,096 files are a configuration, 4,097 are too large"""
     for number in range(4):
         os.mkdir(room.path(f"conf/{number}"))
-    for number in range(4_095):
+    for number in range(4_094):
         write(room.path(f"conf/{number % 4}/{number}.conf"), "")
     room.ends(0, READY, "--conf", room.conf, "--turns", "1")
     write(room.path("conf/more.txt"), "")
@@ -25,7 +25,7 @@ def most_files(room):
 
 def most_bytes(room):
     """16,777,216 bytes are a configuration, one more is too large"""
-    left = 16_777_216 - os.path.getsize(room.path("conf/jail.conf"))
+    left = 16_777_216 - sum(os.path.getsize(room.path(f"conf/{name}.conf")) for name in ("jail", "fail2ban"))
     # It is read and counted, and then passed over: no jail names it.
     write(room.path("conf/other.conf"), b"#" * left)
     room.ends(0, READY, "--conf", room.conf, "--turns", "1")

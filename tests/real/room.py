@@ -27,6 +27,12 @@ bantime = {bantime}
 failregex = ^ fail from <ADDR>$
 """
 
+# The server's own items. Its journal is beside the socket, in the folder of the check.
+SERVER = """\
+[Definition]
+socket = {place}/run/fail2ban.sock
+"""
+
 # A jail that is looked at behind the other one. A failure that a check writes to its log tells how far the server is.
 PROBE = """
 [probe]
@@ -111,6 +117,7 @@ class Room:
         text = JAIL.format(log=log or self.log, maxretry=maxretry, bantime=bantime)
         probe = PROBE.format(log=self.path("probe.log"))
         write(self.path("conf/jail.conf"), text + more + probe)
+        write(self.path("conf/fail2ban.conf"), SERVER.format(place=self.place))
 
     def path(self, name):
         return os.path.join(self.place, name)

@@ -7,6 +7,10 @@ pub fn advice(status: &Status) -> Option<&'static str> {
     match status {
         Status::Usage => Some("fail2ban-server --help lists the words"),
         Status::ConfRefused(error) => Some(error.kind.help()),
+        Status::DiskFault => Some(
+            "is another server running, and may this one write beside the socket of its configuration?",
+        ),
+        Status::JournalFull { .. } => Some("--journal-limit BYTES lets it get longer"),
         _ => None,
     }
 }

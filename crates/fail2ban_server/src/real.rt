@@ -13,11 +13,14 @@ use crate::wait::wait;
 use crate::watched::Watched;
 use f2b_base::{FileLook, Reading, TreeAnswer};
 use f2b_world::{
-    Children, Configuration, Directories, Faults, Logs, Look, Made, NamesAnswer, Outside, Patterns,
-    PollAnswer, Said, Sink, StartAnswer, Time, World, build_pattern, raised,
+    Children, Configuration, Directories, Disk, Faults, Len, Logs, Look, Made, NamesAnswer,
+    Outside, Patterns, Piece, PollAnswer, Said, Sink, StartAnswer, Store, StoreAnswer, Synced,
+    Time, World, Wrote, build_pattern, raised,
 };
+use slot_files::Slots;
 use std::alloc::AllocGlobal;
 use std::env::Env;
+use std::fs::File;
 use std::io::{IsTerminal, Print, Write};
 use std::process::Processes;
 use std::rt::{Files, Stderr};
@@ -36,6 +39,8 @@ where
     /// Where the commands write, if anywhere.
     errors: Option<Stderr>,
     commands: Commands<R::Started>,
+    /// The slots of the journal, where they were named and no other server has them.
+    slots: Option<Slots>,
     /// The logs that were looked at since the last pause.
     watched: Watched,
     /// Whether a look since the last pause gave as many bytes as it was asked for, so that there may be more to read at once.
@@ -55,6 +60,7 @@ where
             errors,
             commands,
             watched,
+            slots: None,
             faults: Faults::NONE,
             last: Reading { secs: 0, word: 0 },
             is_behind: false,
@@ -202,6 +208,73 @@ where
                 NamesAnswer::Failed
             }
         }
+    }
+}
+
+impl<R> Store for RealWorld<R>
+where
+    R: Files<File = File> + Clock + Print + Env + Processes + AllocGlobal + Clone + Drop,
+{
+    /// Where another server has the slots, or their directory cannot be had, each call on the disk fails.
+    fn store_at(&mut self, socket: &str) -> StoreAnswer {
+        match Slots::beside(&self.rt, socket) {
+            Ok(slots) => {
+                self.slots = Some(slots);
+                StoreAnswer::Kept
+            }
+            Err(slot_files::Fault::NoMemory) => StoreAnswer::NoMemory,
+            Err(slot_files::Fault::Failed) => {
+                self.slots = None;
+                StoreAnswer::Kept
+            }
+        }
+    }
+}
+
+impl<R> Disk for RealWorld<R>
+where
+    R: Files<File = File> + Clock + Print + Env + Processes + AllocGlobal + Clone + Drop,
+{
+    fn disk_len(&mut self, slot: u8) -> Len {
+        if let Some(slots) = self.slots.as_mut()
+            && let Ok(len) = slots.len(&self.rt, slot)
+        {
+            return Len::Bytes(len);
+        }
+        self.faults.disk = raised(self.faults.disk);
+        Len::Failed
+    }
+
+    fn disk_read(&mut self, slot: u8, at: u64, len: u64) -> Piece {
+        if let Some(slots) = self.slots.as_mut() {
+            match slots.read(&self.rt, slot, at, len) {
+                Ok(bytes) => return Piece::Bytes(bytes),
+                Err(slot_files::Fault::NoMemory) => return Piece::NoMemory,
+                Err(slot_files::Fault::Failed) => {}
+            }
+        }
+        self.faults.disk = raised(self.faults.disk);
+        Piece::Failed
+    }
+
+    fn disk_write(&mut self, slot: u8, at: u64, bytes: &[u8]) -> Wrote {
+        if let Some(slots) = self.slots.as_mut()
+            && slots.write(&self.rt, slot, at, bytes).is_ok()
+        {
+            return Wrote::Done;
+        }
+        self.faults.disk = raised(self.faults.disk);
+        Wrote::Failed
+    }
+
+    fn disk_sync(&mut self, slot: u8) -> Synced {
+        if let Some(slots) = self.slots.as_mut()
+            && slots.sync(&self.rt, slot).is_ok()
+        {
+            return Synced::Done;
+        }
+        self.faults.disk = raised(self.faults.disk);
+        Synced::Failed
     }
 }
 

@@ -9,15 +9,19 @@ use std::{env, io};
 
 /// The text of `-h` and `--help`.
 pub const HELP: &str = "\
-Usage: fail2ban-server --conf DIR [--turns N]
+Usage: fail2ban-server --conf DIR [--turns N] [--journal-limit BYTES]
        fail2ban-server --help | --version
 
 Follows the logs of the enabled jails, and runs the commands of their actions
-where an address fails too often and where its ban ends.
+where an address fails too often and where its ban ends. What it has taken is
+kept in two files beside its socket, and taken up again at the next start.
 
   --conf DIR     read the configuration in DIR: each file in it, or in a
                  directory in it, whose name ends in .conf or .local
   --turns N      stop after N turns; an idle server makes four a second
+  --journal-limit BYTES
+                 let each of the two files of the journal get so long, and not
+                 64 MiB
   -h, --help     print this help
   -V, --version  print the version
 
@@ -28,10 +32,13 @@ Exit status:
    2  the words are none of those above
    3  the configuration cannot be read
    4  the configuration is refused
+   5  the journal cannot be read or written, or another server has it
+   6  the journal is none
+   7  the journal is full
    9  standard output cannot be written
   10  the configuration has too many files, or too many bytes
   11  a pattern is refused
-  12  the serials of bans are used up
+  12  the serials of bans, of jobs or of the journal are used up
   71  out of memory
 ";
 

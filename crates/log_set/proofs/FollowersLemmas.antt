@@ -1,10 +1,22 @@
 -- Followers that are taken over.
 use Rattle.std.proofs.Common.{◌≡◌, ℕ, ◌&&◌, ◌++◌, inl, inr, Bool, true, false, List, [], ◌∷◌, refl, sym, ap, ◌∙◌, subst}
 use Rattle.std.specs.Prelude.{bytes_eq}
+use Rattle.std.proofs.Props.{props}
 use Rattle.std.proofs.lemmas.Bool.{cases_Bool}
+use Rattle.f2b_model.specs.Storable.{IsJailName}
+use Rattle.log_follow.specs.declared.follower.Follower.{Follower}
 use Rattle.log_set.specs.Followers.{is_same, taken_over, taken_over_by}
 use Rattle.log_set.specs.Logs.{Watching, Stands, AreLogs, going_on, going_on_as, is_same_log}
 use Rattle.log_set.specs.declared.log.Log.{Log}
+
+-- that a text is the name of a jail has one proof at most
+IsJailName-prop : (name : List ℕ) → IsProp (IsJailName name)
+IsJailName-prop name = hlevel props
+
+-- so a log with another follower is one log, whatever proof it has of that
+pub same_over : (l : Log) (follower : Follower) (named : IsJailName l.jail)
+    → ◌≡◌ {A = Log} (record { jail = l.jail; path = l.path; follower = follower; named = named }) (record l { follower = follower })
+same_over l follower named = λ i. record { jail = l.jail; path = l.path; follower = follower; named = IsJailName-prop l.jail named l.named i }
 
 -- one old log more
 pub over_more : (olds : List Log) (old : Log) (logs : List Log) → taken_over (olds ++ old ∷ []) logs ≡ taken_over_by old (taken_over olds logs)

@@ -1,10 +1,12 @@
 -- What a failure keeps of its line, and whether a command has the tag.
-use Rattle.std.proofs.Common.{ℕ, zero, suc, ◌≡◌, ◌<◌, ◌≤◌, ◌+◌, ◌-◌, ◌||◌, inl, inr, Bool, true, false, List, [], ◌∷◌, length, take, drop, refl, sym, ap, ◌∙◌, subst, arith, length-drop}
+use Rattle.std.proofs.Common.{ℕ, zero, suc, ◌≡◌, ◌<◌, ◌≤◌, ◌+◌, ◌-◌, ◌||◌, inl, inr, Bool, true, false, List, [], ◌∷◌, length, take, drop, refl, sym, ap, ◌∙◌, subst, arith, rules, length-drop}
+use Rattle.std.specs.Str.{IsUtf8}
 use Rattle.std.specs.Prelude.{nat_le, nat_lt, slice_index, IsCharBoundary}
 use Rattle.std.proofs.lemmas.Bool.{cases_Bool, cases_lt, cases_order, ltb-false, leb-false, leb-true, ltb-true, le-leb}
 use Rattle.std.proofs.lemmas.List.{take_all}
 use Rattle.f2b_base.specs.Limits.{kept_line_bytes}
 use Rattle.f2b_base.specs.Lines.{IsKeptOf}
+use Rattle.f2b_model.specs.Storable.{IsShortText}
 use Rattle.log_set.specs.Shown.{begins_character, begins_with_tag, last_start, kept_of, has_tag}
 
 -- a place within the text where a character begins is a boundary, and the other way round
@@ -46,6 +48,13 @@ kept_is line kept is = elim (cases_Bool (nat_le (length line) kept_line_bytes)) 
   | inr long ↦
       rw long (is.beginning ∙ ap (λ n. take n line) (sym (last_start_is line kept_line_bytes (length kept) is.short (leb-false _ _ long) is.whole is.longest)))
 ]
+
+-- and it is a short text
+pub kept_short : (line kept : List ℕ) → IsKeptOf line kept → IsUtf8 kept → IsShortText kept_line_bytes kept
+kept_short line kept is text = (text, is.short)
+
+pub none_short : (kept : List ℕ) → kept ≡ [] → IsShortText kept_line_bytes kept
+none_short kept is = subst (IsShortText kept_line_bytes) (sym is) (search rules, omega arith)
 
 -- the tag stands at a place, or behind it
 pub tag_from : (bytes : List ℕ) (i : ℕ) → i < length bytes → has_tag (drop i bytes) ≡ (begins_with_tag (drop i bytes) || has_tag (drop (i + 1) bytes))

@@ -17,7 +17,8 @@ fn take_over(logs: &mut [Log], old: Log)
     ensures { logs.new ≡ taken_over_by old logs.old }
 {
     if let Some(place) = place_of(logs, &old) {
-        logs[place].follower = old.follower;
+        let log = &mut logs[place];
+        log.follower = old.follower;
     }
 }
 

@@ -1,6 +1,8 @@
 //! The search of a jail: which failures are among the lines of its logs.
-ghost use Rattle.std.specs.Prelude.{◌≡◌, ◌<◌, ◌^◌, ◌++◌, [], IfOk, OnOk};
+ghost use Rattle.std.specs.Prelude.{◌≡◌, ◌<◌, ◌≤◌, ◌^◌, ◌++◌, [], length, IfOk, IfSome, OnOk};
 ghost use Rattle.std.specs.List.{cons_option};
+ghost use Rattle.f2b_model.specs.Lists.{AllOf};
+ghost use Rattle.f2b_model.specs.Storable.{most_at_once, IsStorableFailure};
 ghost use Rattle.log_set.specs.Searches.{failure_by, failures_by, lines_in, search_by};
 
 use crate::shown::{kept_in, shows_lines};
@@ -58,6 +60,7 @@ impl<'f> JailSearch<'f> {
     fn failure(&mut self, alloc: Global, line: &Line, now: u64) -> Result<Option<Failure>, NoMemory>
         requires { now < 2 ^ 40 }
         ensures found { IfOk result (λ found. found ≡ failure_by self.old now line.now) }
+        ensures storable { IfOk result (λ found. IfSome found IsStorableFailure) }
         ensures same { self.new ≡ self.old }
     {
         let Line::Whole(text) = line else {
@@ -82,6 +85,8 @@ impl<'f> JailSearch<'f> {
     ) -> Result<Seq<Failure>, NoMemory>
         requires { now < 2 ^ 40 }
         ensures found { IfOk result (λ found. found ≡ failures_by self.old now lines.now) }
+        ensures storable { IfOk result (AllOf IsStorableFailure) }
+        ensures few { IfOk result (λ found. length found ≤ most_at_once) }
         ensures same { self.new ≡ self.old }
     {
         let mut found = Seq::new(alloc);
@@ -96,6 +101,8 @@ impl<'f> JailSearch<'f> {
     pub fn find(&mut self, alloc: Global, step: &Step, now: u64) -> Result<Seq<Failure>, NoMemory>
         requires { now < 2 ^ 40 }
         ensures found { IfOk result (λ found. found ≡ failures_by self.old now (lines_in step.now)) }
+        ensures storable { IfOk result (AllOf IsStorableFailure) }
+        ensures few { IfOk result (λ found. length found ≤ most_at_once) }
         ensures same { self.new ≡ self.old }
     {
         match step {

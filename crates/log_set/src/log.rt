@@ -1,5 +1,7 @@
 //! One log, and what a look brings of it.
-ghost use Rattle.std.specs.Prelude.{◌≡◌, IfOk, OnOk};
+ghost use Rattle.std.specs.Prelude.{◌≡◌, IfOk, IfSome, OnOk};
+ghost use Rattle.f2b_model.specs.Storable.{IsJailName, IsStorablePlace};
+ghost use Rattle.log_follow.specs.Watches.{IsPlace};
 ghost use Rattle.log_set.specs.Places.{looked_of, moved_to, same_place};
 
 use f2b_base::{FileLook, NoMemory, Place, Text};
@@ -12,6 +14,9 @@ pub struct Log {
     pub jail: Text,
     pub path: Text,
     pub follower: Follower,
+
+    // So that what is read of it can be stored.
+    ghost named: { IsJailName jail },
 }
 
 /// What a look brought of a log.
@@ -40,7 +45,8 @@ fn same_place(a: &Place, b: &Place) -> bool
 
 /// The place, where it is another one than before.
 fn moved_to(before: &Place, place: Place) -> Option<Place>
-    ensures { result ≡ moved_to before.now place }
+    ensures value { result ≡ moved_to before.now place }
+    ensures storable { IsPlace place → IfSome result IsStorablePlace }
 {
     if same_place(before, &place) {
         None
@@ -60,6 +66,7 @@ impl Log {
         // Whatever watch the follower stands for.
         ensures looked { IfOk result (λ looked. (w : Watch) → StandsFor self.old.follower w → looked ≡ looked_of w look.now) }
         ensures stands { OnOk result ((w : Watch) → StandsFor self.old.follower w → StandsFor self.new.follower (looked w look.now).0) }
+        ensures place { IfOk result (λ looked. IfSome looked.moved IsStorablePlace) }
         ensures jail { self.new.jail ≡ self.old.jail }
         ensures path { self.new.path ≡ self.old.path }
     {

@@ -31,6 +31,7 @@ impl<'f> Model for LogSet<'f> {
 
 impl<'f> LogSet<'f> {
     ghost use Rattle.std.specs.Prelude.{[], map};
+    ghost use Rattle.f2b_model.specs.Storable.{IsJailName, IsStorableWhat};
     ghost use Rattle.filter_regex.specs.Rules.{rules_of};
     ghost use Rattle.log_follow.specs.Watches.{IsPlace};
     ghost use Rattle.log_set.specs.Logs.{AddsLog, AnswersAt, AsksAt, BelongsTo, ChangesJail, ComesNext, GoesOn, IsAskAt, IsLogRead, IsSetOf, LiesAt, MovesAt, TakesAt, awake, counting, ignoring, resting};
@@ -52,6 +53,8 @@ impl<'f> LogSet<'f> {
     }
 
     /// Follows one log more of the jail with that name, from a place on. An error changes nothing.
+    ///
+    /// A caller knows the name of a jail of its configuration, or of what was stored.
     pub fn add(
         &mut self,
         alloc: Global,
@@ -59,7 +62,8 @@ impl<'f> LogSet<'f> {
         path: &Text,
         place: &Place,
     ) -> Result<(), NoMemory>
-        requires { IsPlace place.now }
+        requires named { IsJailName jail.now }
+        requires place { IsPlace place.now }
         ensures ok { OnOk result (AddsLog self.old self.new jail.now path.now place.now) }
         ensures err { OnErr result (self.new ≡ self.old) }
     {
@@ -125,8 +129,8 @@ impl<'f> LogSet<'f> {
         self.logs[place].follower.ask()
     }
 
-    /// Takes what a look at the log at a place brought that was made as `ask` says, at `now` in seconds since 1970. Where memory runs
-    /// out the lines of the look may be lost.
+    /// Takes what a look at the log at a place brought that was made as `ask` says, at `now` in seconds since 1970. The input that
+    /// it makes can be stored. Where memory runs out the lines of the look may be lost.
     pub fn take(
         &mut self,
         alloc: Global,
@@ -139,6 +143,7 @@ impl<'f> LogSet<'f> {
         requires now { now < 2 ^ 40 }
         ensures taken { IfOk result (TakesAt self.old place now look.now) }
         ensures input { IfOk result (λ taken. IfSome taken.read IsLogRead) }
+        ensures storable { IfOk result (λ taken. IfSome taken.read IsStorableWhat) }
         ensures moves { OnOk result (MovesAt self.old self.new place look.now) }
         ensures len { length self.new.logs ≡ length self.old.logs }
     {

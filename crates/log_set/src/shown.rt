@@ -1,5 +1,7 @@
 //! Whether the failures of a jail keep their lines: where one of its commands shows them.
 ghost use Rattle.std.specs.Prelude.{◌≡◌, IfOk};
+ghost use Rattle.f2b_base.specs.Limits.{kept_line_bytes};
+ghost use Rattle.f2b_model.specs.Storable.{IsShortText};
 ghost use Rattle.log_set.specs.Shown.{begins_with_tag, has_tag, kept_in, is_shown_by, shows_lines};
 
 use f2b_base::{ActionDef, JailDef, NoMemory, Text, kept_line};
@@ -50,9 +52,10 @@ pub(crate) fn shows_lines(definition: &JailDef) -> bool
 }
 
 /// What a failure keeps of its line: its beginning, or nothing in a jail that shows no lines.
-#[tactic(auto, using(crate::proofs::ShownLemmas::kept_is))]
+#[tactic(auto, using(crate::proofs::ShownLemmas::kept_is, crate::proofs::ShownLemmas::kept_short, crate::proofs::ShownLemmas::none_short))]
 pub(crate) fn kept_in(alloc: Global, shows: bool, line: &str) -> Result<Text, NoMemory>
-    ensures { IfOk result (λ kept. kept ≡ kept_in shows line.now) }
+    ensures kept { IfOk result (λ kept. kept ≡ kept_in shows line.now) }
+    ensures short { IfOk result (IsShortText kept_line_bytes) }
 {
     if shows {
         Text::from_str(alloc, kept_line(line))

@@ -1,12 +1,13 @@
 //! What is taken of a look at a log of a set.
-ghost use Rattle.std.specs.Prelude.{◌≡◌, ◌<◌, ◌^◌, IfOk, Some, find, option_map};
+ghost use Rattle.std.specs.Prelude.{◌≡◌, ◌<◌, ◌^◌, IfOk, IfSome, Some, find, option_map};
+ghost use Rattle.f2b_model.specs.Storable.{IsStorablePlace, IsStorableWhat};
 ghost use Rattle.log_set.specs.Logs.{is_rotated, read_of, read_to};
 ghost use Rattle.log_set.specs.Searches.{failures_by, is_named};
 
 use crate::jail_search::JailSearch;
 use crate::log::{Log, Looked};
 use crate::searches::place_of;
-use f2b_base::{NoMemory, Place, Plain, What};
+use f2b_base::{NoMemory, Place, Plain, Text, What};
 use log_follow::Step;
 use std::alloc::Global;
 
@@ -38,12 +39,15 @@ fn read_to(
 ) -> Result<What, NoMemory>
     requires { now < 2 ^ 40 }
     ensures read { IfOk result (λ what. Some what ≡ read_to (failures_by jail.old now) log.now.jail log.now.path step.now (Some place)) }
+    ensures storable { IsStorablePlace place → IfOk result IsStorableWhat }
     ensures same { jail.new ≡ jail.old }
 {
     let found = jail.find(alloc, step, now)?;
+    let name = log.jail.copy()?;
+    let path = Text::from_str(alloc, log.path.as_str())?;
     Ok(What::Read {
-        jail: log.jail.copy()?,
-        path: log.path.copy()?,
+        jail: name,
+        path,
         place,
         found,
     })
@@ -59,6 +63,7 @@ pub(crate) fn read(
 ) -> Result<Option<What>, NoMemory>
     requires { now < 2 ^ 40 }
     ensures read { IfOk result (λ read. read ≡ read_of (option_map (λ j. failures_by j now) (find (is_named log.now.jail) jails.old)) log.now.jail log.now.path looked) }
+    ensures storable { IfSome looked.moved IsStorablePlace → IfOk result (λ read. IfSome read IsStorableWhat) }
     ensures same { jails.new ≡ jails.old }
 {
     let Looked { step, moved } = looked;

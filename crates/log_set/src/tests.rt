@@ -1,5 +1,6 @@
 //! Rows of looks at the logs of two jails.
 ghost use Rattle.std.specs.Prelude.{◌≡◌, ◌<◌, length, map, IfOk};
+ghost use Rattle.f2b_model.specs.Storable.{IsJailName};
 ghost use Rattle.filter_regex.specs.Rules.{IsSupported, rules_of};
 ghost use Rattle.log_follow.specs.Watches.{Answers, IsPlace};
 ghost use Rattle.log_set.specs.Logs.{AnswersAt};
@@ -133,6 +134,18 @@ fn from_start(alloc: Global) -> Place
     }
 }
 
+/// The name of one of the jails, or of one that is not there.
+fn name(alloc: Global, jail: &str) -> Result<Text, Fail>
+    ensures { IfOk result IsJailName }
+{
+    match jail {
+        "web" => Ok(Text::from_str(alloc, "web")?),
+        "mail" => Ok(Text::from_str(alloc, "mail")?),
+        "gone" => Ok(Text::from_str(alloc, "gone")?),
+        _ => Err(Fail::from("no name of a jail")),
+    }
+}
+
 /// Follows one log more.
 fn add(
     alloc: Global,
@@ -143,7 +156,7 @@ fn add(
 ) -> Result<(), Fail>
     requires { IsPlace place.now }
 {
-    let jail = Text::from_str(alloc, jail)?;
+    let jail = name(alloc, jail)?;
     let path = Text::from_str(alloc, path)?;
     Ok(set.add(alloc, &jail, &path, place)?)
 }

@@ -8,9 +8,10 @@ use Rattle.std.proofs.lemmas.List.Folds.{list_any-append}
 use Rattle.f2b_base.specs.declared.job.Job.{Job}
 use Rattle.f2b_base.specs.declared.job.LaneId.{LaneId}
 use Rattle.f2b_model.specs.Families.{same_lane}
-use Rattle.f2b_model.specs.Jobs.{AreById, Ending, How, Tried, Voided, Ledger, endings_of, has_id, head, is_settled, pending, settles, settles_how, stands, with_ending, with_jobs}
-use Rattle.f2b_model.specs.LaneSound.{AreBelow}
+use Rattle.f2b_model.specs.Jobs.{AreById, ArePending, Ending, How, Tried, Voided, Ledger, as_made, back_from, endings_of, has_id, head, is_settled, pending, settles, settles_how, stands, with_ending, with_jobs}
+use Rattle.f2b_model.specs.LaneSound.{AreBelow, AreMade, IsOrdered}
 use Rattle.f2b_model.specs.Turns.{Order, numbered}
+use Rattle.f2b_model.proofs.BackLemmas.{back_ordered, pending-back_from}
 use Rattle.f2b_model.proofs.ByIdLemmas.{by_id_behind, by_id_from, by_id_rises}
 use Rattle.f2b_model.proofs.JobLemmas.{AreBelow_more, none_of}
 use Rattle.f2b_model.proofs.ListLemmas.{filter-append}
@@ -19,7 +20,7 @@ use Rattle.f2b_model.proofs.SameLemmas.{same_lane-true}
 use Rattle.child_table.specs.Children.{has}
 use Rattle.run_jobs.specs.Tried.{TriesInOrder, is_void, is_voided, jobs_for, made_of, numbers_of, tried_of}
 use Rattle.run_jobs.proofs.OnceLemmas.{has_append, has_here, has_more, has_part, or_none}
-use Rattle.run_jobs.proofs.OneLaneLemmas.{IsLaneInOrder, filter_on, filter_whole, fine_more, fine_other, fine_settled, fine_tried, fine_voided, untried, without}
+use Rattle.run_jobs.proofs.OneLaneLemmas.{IsLaneInOrder, filter_on, filter_whole, fine_more, fine_other, fine_settled, fine_tried, fine_voided, is_untried, untried, without}
 
 -- ---- parts of lists
 
@@ -442,6 +443,39 @@ fine_in_order started l next fine = record {
       (fine.lanes lane).first ∙ ap (λ xs. tried_of started lane l ++ untried started xs) nothing ∙ append-nil (tried_of started lane l);
 }
 
--- nothing is made and nothing was started
-pub none_fine : AreLanesInOrder [] (record { made = []; endings = [] }) 0
-none_fine = record { rise = omega arith; below = tt; within = λ x is. absurd (let e : false ≡ true = is in cc); made = λ x is. is; lanes = λ lane. record { first = refl; front = inl refl } }
+-- ---- where a run begins
+
+made_rise : (from : ℕ) (jobs : List Job) (next : ℕ) → AreMade from jobs next → AreById from jobs next
+made_rise from [] next made = made
+made_rise from (job ∷ jobs) next made = (made.0, made_rise (job.id + 1) jobs next made.3)
+
+same_jobs : (lane : LaneId) (jobs : List Job) → jobs_for lane (map as_made jobs) ≡ jobs_for lane jobs
+same_jobs lane [] = refl
+same_jobs lane (job ∷ jobs) = elim (cases_Bool (same_lane job.lane lane)) [
+  | inl h ↦ rw h (ap (λ ids. job.id ∷ ids) (same_jobs lane jobs))
+  | inr h ↦ rw h (same_jobs lane jobs)
+]
+
+-- jobs that are pending, of which nothing was started
+pub pending_fine : (jobs : List Job) (next : ℕ) → ArePending 0 jobs next → AreLanesInOrder [] (back_from jobs) next
+pending_fine jobs next rise = record {
+  rise = made_rise 0 (map as_made jobs) next ordered.made;
+  below = ordered.below;
+  within = λ x is. absurd (let e : false ≡ true = is in cc);
+  made = λ x is. absurd (let e : false ≡ true = is in cc);
+  lanes = lane_pending;
+}
+  where
+    ordered : IsOrdered (back_from jobs) next
+    ordered = back_ordered jobs next rise
+
+    lane_pending : (lane : LaneId) → IsLaneInOrder [] (made_of [] lane (back_from jobs)) (starts_of [] lane (back_from jobs)) (open_of lane (back_from jobs))
+    lane_pending lane =
+        let es : List Ending = (back_from jobs).endings in
+        let ids : List ℕ = jobs_for lane (map as_made jobs) in
+        let all_open : filter (is_open es) ids ≡ ids = sym (open_ids lane es (map as_made jobs)) ∙ ap (jobs_for lane) (pending-back_from jobs next rise) ∙ sym (same_jobs lane jobs) in
+        let unvoided : (x : ℕ) → has x ids ≡ true → not (is_voided es x) ≡ true = λ x is.
+        not_from_false (is_voided es x) (open_unvoided es x (part_passes x (is_open es) ids (subst (λ (xs : List ℕ). has x xs ≡ true) (sym all_open) is))) in
+        let all_made : filter (λ x. not (is_voided es x)) ids ≡ ids = filter_whole (λ x. not (is_voided es x)) ids unvoided in
+        let none_tried : untried [] (filter (is_open es) ids) ≡ filter (is_open es) ids = filter_whole (is_untried []) (filter (is_open es) ids) (λ x is. refl) in
+        record { first = all_made ∙ sym all_open ∙ sym none_tried; front = inl (sym none_tried) }

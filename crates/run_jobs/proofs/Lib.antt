@@ -3,5 +3,6 @@ mod OneLaneLemmas
 mod LedgerLemmas
 mod StepLemmas
 mod Rows
+mod LoadedLemmas
 mod ServerLemmas
 pub mod RunLemmas

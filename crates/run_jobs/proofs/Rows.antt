@@ -7,7 +7,7 @@ use Rattle.f2b_base.specs.declared.job.JobKind.{JobKind}
 use Rattle.f2b_base.specs.declared.job.JobKind.TheVariants.{Start, Stop, Ban}
 use Rattle.f2b_base.specs.declared.job.LaneId.{LaneId}
 use Rattle.f2b_base.specs.declared.job.Outcome.TheVariants.{Status}
-use Rattle.f2b_model.specs.Jobs.{Ending, Tried, Voided, Ledger}
+use Rattle.f2b_model.specs.Jobs.{Ending, Tried, Voided, Ledger, back_from}
 use Rattle.run_jobs.specs.Tried.{made_of, tried_of}
 
 abbrev lane : List ℕ → LaneId
@@ -66,6 +66,17 @@ tries_the_first_lane = refl
 
 tries_the_second_lane : tried_of both_at_once (lane (codes "m")) two_lanes ≡ 1 ∷ 3 ∷ []
 tries_the_second_lane = refl
+
+-- ---- a run begins with the jobs that were stored: the first has a failed try of a run before it, and is tried again
+
+abbrev stored : Ledger
+stored = back_from (record (job (codes "n") 2 Ban) { tries = 1; due = 1002 } ∷ job (codes "n") 3 Ban ∷ [])
+
+counts_what_was_stored : made_of [] (lane (codes "n")) stored ≡ 2 ∷ 3 ∷ []
+counts_what_was_stored = refl
+
+tries_a_stored_job_again : tried_of (2 ∷ 2 ∷ 3 ∷ []) (lane (codes "n")) stored ≡ 2 ∷ 3 ∷ []
+tries_a_stored_job_again = refl
 
 -- ---- what the law rules out: a job is passed over, comes too soon, or is tried once more behind a later one
 

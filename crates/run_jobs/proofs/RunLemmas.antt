@@ -6,7 +6,6 @@ use Rattle.std.proofs.lemmas.Bool.{and_parts, cases_Bool, or_left}
 use Rattle.std.proofs.lemmas.List.{flat_map_more}
 use Rattle.std.proofs.lemmas.Option.{same_Some}
 use Rattle.f2b_base.specs.declared.ban.Failure.{Failure}
-use Rattle.f2b_base.specs.declared.input.What.{What}
 use Rattle.f2b_base.specs.declared.input.What.TheVariants.{Tick}
 use Rattle.f2b_base.specs.declared.jail.Defs.{Defs}
 use Rattle.f2b_base.specs.declared.jail.Place.{Place as LogPlace}
@@ -32,7 +31,7 @@ use Rattle.f2b_world.specs.declared.answer.Said.TheVariants.{Done, Failed as Say
 use Rattle.f2b_world.specs.declared.answer.StartAnswer.{StartAnswer}
 use Rattle.f2b_world.specs.declared.answer.StartAnswer.TheVariants.{Started, Failed as StartFailed, NoMemory as StartNoMemory}
 use Rattle.f2b_world.specs.declared.event.Event.{Event}
-use Rattle.f2b_world.specs.declared.event.Event.TheVariants.{Say, Make, Clock, Config, Names, Look as LookAt, ChildStart, ChildPoll, ChildKill, Pause}
+use Rattle.f2b_world.specs.declared.event.Event.TheVariants.{Say, DiskLen, DiskRead, DiskWrite, DiskSync, Make, Clock, Config, StoreAt, Names, Look as LookAt, ChildStart, ChildPoll, ChildKill, Pause}
 use Rattle.child_table.specs.Children.{has, jobs_of, most_children}
 use Rattle.child_table.specs.Late.{is_late}
 use Rattle.child_table.specs.declared.child.Child.{Child}
@@ -51,26 +50,30 @@ use Rattle.run_law.specs.Children.{checked_first, startable}
 use Rattle.run_law.specs.Clock.{tick_news}
 use Rattle.run_law.specs.Law.{Free, MayCome, begin, begin_with, feed, moved, turns}
 use Rattle.run_law.specs.Looks.{look_news, look_taken, looked, looked_at, now_is, unread_news}
-use Rattle.run_law.specs.News.{News, brings, brings_by, entered, nothing, only}
+use Rattle.reconcile.specs.Loads.{Loaded, loaded}
+use Rattle.run_law.specs.News.{News, after_news, brings, nothing, only}
 use Rattle.run_law.specs.Paths.{Path, Naming, first_naming, named, with_paths}
 use Rattle.run_law.specs.Patterns.{Pattern, patterns_of}
 use Rattle.run_law.specs.Pause.{turned}
-use Rattle.run_law.specs.Points.{Place, AtClock, AtLook, AtPoll, AtKill, AtStart, AtPause, Point, AtTree, AtMakes, AtFirst, AtNames, AtTurn, Over, Run}
+use Rattle.run_law.specs.Points.{Place, AtClock, AtLook, AtPoll, AtKill, AtStart, AtPause, Point, AtTree, AtMakes, AtStore, AtFirst, AtNames, AtTurn, Over, Run}
 use Rattle.run_law.specs.Polls.{end_news, end_of, ended_as, gone, gone_passed, has_succeeded, killed_at, polled_at, still_point}
 use Rattle.run_law.specs.Served.{IsStartFor, Obeys, StartsAt, StartsInTurn, run_after}
-use Rattle.run_law.specs.Server.{Server, begun, is_spent, is_stopping, jobs, lanes_up, log_jails, read_at, taken}
+use Rattle.run_law.specs.Server.{Server, begun, is_stopping, jobs, lanes_up, log_jails, read_at}
 use Rattle.run_law.specs.Said.{ready_line}
-use Rattle.run_law.specs.Start.{config_news, defined, first_turn, made, makes_on, names_in, start_news, to_makes, to_names, tree_read, unread_by}
+use Rattle.run_law.specs.Start.{config_news, defined, first_turn, loads, made, makes_on, names_in, start_news, to_makes, to_names, tree_read, unread_by}
 use Rattle.run_law.specs.Starts.{child_started, with_child, without_child}
 use Rattle.run_law.specs.Turn.{look_point, start_place, start_point, to_accept, to_children, to_end, to_logs, to_looks, to_polls, to_starts}
 use Rattle.run_law.specs.Words.{plan_of}
 use Rattle.run_law.specs.declared.plan.Plan.{Plan}
+use Rattle.run_law.proofs.FieldLemmas.{feed_slots}
+use Rattle.run_law.proofs.NewsLemmas.{brings_point, measured_point, piece_point, synced_point, wrote_point}
 use Rattle.run_law.proofs.StartedLemmas.{starts_in_turn}
-use Rattle.run_jobs.specs.Runs.{TriesJobsInOrder, start_of, starts_in}
+use Rattle.run_jobs.specs.Runs.{HoldBytes, TriesJobsInOrder, start_of, starts_in}
 use Rattle.run_jobs.proofs.OnceLemmas.{has_append, has_last}
-use Rattle.run_jobs.proofs.StepLemmas.{IsStarted}
+use Rattle.run_jobs.proofs.LoadedLemmas.{loaded_fine}
+use Rattle.run_jobs.proofs.StepLemmas.{IsStarted, StandsInOrder}
 use Rattle.run_jobs.proofs.LedgerLemmas.{fine_in_order, started_fine}
-use Rattle.run_jobs.proofs.ServerLemmas.{BringsStarted, IsServerInOrder, begun_right, gone_right, has_at, passed_right, taken_right, with_right, without_right}
+use Rattle.run_jobs.proofs.ServerLemmas.{BringsStarted, IsServerInOrder, after_right, begun_right, gone_right, has_at, passed_right, with_right, without_right}
 
 -- ---- points
 
@@ -79,6 +82,7 @@ module _ (started : List ℕ) where
   IsPointInOrder (AtTurn place s) = IsServerInOrder started s
   IsPointInOrder (AtNames settings naming s) = IsServerInOrder started s
   IsPointInOrder (Over status) = Unit {0}
+  IsPointInOrder (AtFirst settings l) = (started ≡ []) × StandsInOrder [] l.state.lanes
   IsPointInOrder _ = started ≡ []
 
   right_if : (b : Bool) (p q : Point) → IsPointInOrder p → IsPointInOrder q → IsPointInOrder (cond b p q)
@@ -137,17 +141,8 @@ module _ (started : List ℕ) where
   -- ---- what an event brings
 
   module _ (news : News) (next : Server → Point) (leads : (t : Server) → IsServerInOrder started t → IsPointInOrder (next t)) (s : Server) (r : Run) (right : IsServerInOrder started s) where
-    right_entered : (spent : Bool) (what : What) → IsStarted started what → IsPointInOrder (entered spent news what next s r).point
-    right_entered true what is = tt
-    right_entered false what is = leads (taken what s) (taken_right started what s is right)
-
-    right_by : (o : Option What) → BringsStarted started o → IsPointInOrder (brings_by o news next s r).point
-    right_by None is = leads s right
-    right_by (Some what) is = right_entered (is_spent s) what is
-
     right_brings : BringsStarted started news.what → IsPointInOrder (brings news next s r).point
-    unfolding brings
-    right_brings is = right_by news.what is
+    right_brings is = brings_point IsPointInOrder (λ need limit. tt) tt news next s r (leads (after_news news s) (after_right started news.what s is right))
 
   ticks : (b : Bool) → BringsStarted started (cond b (only Tick) nothing).what
   ticks true = tt
@@ -189,6 +184,10 @@ module _ (started : List ℕ) where
   right_makes_on : (left : List Pattern) (answer : MakeAnswer) (settings : Settings) (r : Run) → started ≡ [] → IsPointInOrder r.point → IsPointInOrder (makes_on left answer settings r).point
   right_makes_on [] answer settings r none same = same
   right_makes_on (p ∷ ps) answer settings r none same = right_made answer settings p ps r none
+
+  right_loads : (o : Result Loaded (ℕ × ℕ)) (settings : Settings) (r : Run) → ((l : Loaded) → o ≡ Ok l → StandsInOrder [] l.state.lanes) → started ≡ [] → IsPointInOrder (loads o settings r).point
+  right_loads (Ok l) settings r fine none = (none, fine l refl)
+  right_loads (Err place) settings r fine none = tt
 
   right_names : (before : List (List ℕ)) (settings : Settings) (naming : Naming) (left : List Path) (s : Server) (r : Run) → IsServerInOrder started s → IsPointInOrder (to_names before settings naming left s r).point
   right_names before settings naming [] s r right =
@@ -252,21 +251,27 @@ module _ (started : List ℕ) where
   right_turns AtPause (Pause ms) s r none right same = right_turned (s.left - 1) s right
   right_turns _ _ s r none right same = same
 
-  right_moved : (point : Point) (event : Event) (r : Run) → IsNoStart event → IsPointInOrder point → IsPointInOrder r.point → IsPointInOrder (moved point event r).point
-  right_moved AtTree (Config root answer) r none right same = right_tree answer r right same
-  right_moved (AtMakes settings left) (Make text answer) r none right same = right_makes_on left answer settings r right same
-  right_moved (AtFirst settings) (Clock answer) r none right same =
-      let P : List ℕ → Type 0 = λ js. IsServerInOrder js (begun r.plan.turns answer) in
-      right_names [] settings (first_naming settings.defs) (first_naming settings.defs).left (begun r.plan.turns answer) r (subst P (sym right) (begun_right r.plan.turns answer))
-  right_moved (AtNames settings naming s) (Names dir answer) r none right same =
+  right_moved : (point : Point) (event : Event) (r : Run) → HoldBytes r.slots → IsNoStart event → IsPointInOrder point → IsPointInOrder r.point → IsPointInOrder (moved point event r).point
+  right_moved AtTree (Config root answer) r bytes none right same = right_tree answer r right same
+  right_moved (AtMakes settings left) (Make text answer) r bytes none right same = right_makes_on left answer settings r right same
+  right_moved (AtStore settings) (StoreAt socket answer) r bytes none right same =
+      right_loads (loaded r.plan.limit r.slots) settings r (λ l is. loaded_fine r.plan.limit r.slots l bytes is) right
+  right_moved (AtFirst settings l) (Clock answer) r bytes none right same =
+      let P : List ℕ → Type 0 = λ js. IsServerInOrder js (begun r.plan.turns l answer) in
+      right_names [] settings (first_naming settings.defs) (first_naming settings.defs).left (begun r.plan.turns l answer) r (subst P (sym right.0) (begun_right r.plan.turns l answer right.1))
+  right_moved (AtNames settings naming s) (Names dir answer) r bytes none right same =
       let next = named (names_in answer) naming in right_names (unread_by answer s.now naming.left) settings next next.left s r right
-  right_moved (AtTurn place s) event r none right same = right_turns place event s r none right same
-  right_moved _ _ r none right same = same
+  right_moved (AtTurn place s) event r bytes none right same = right_turns place event s r none right same
+  right_moved _ _ r bytes none right same = same
 
-  right_feed : (r : Run) (event : Event) → IsNoStart event → IsPointInOrder r.point → IsPointInOrder (feed r event).point
-  right_feed r (Say bytes Done) none same = same
-  right_feed r (Say bytes SayFailed) none same = tt
-  right_feed r event none same = right_moved r.point event r none same same
+  right_feed : (r : Run) (event : Event) → HoldBytes r.slots → IsNoStart event → IsPointInOrder r.point → IsPointInOrder (feed r event).point
+  right_feed r (Say bytes Done) held none same = same
+  right_feed r (Say bytes SayFailed) held none same = tt
+  right_feed r (DiskLen slot answer) held none same = measured_point IsPointInOrder tt r same answer
+  right_feed r (DiskRead slot at len answer) held none same = piece_point IsPointInOrder tt r same answer
+  right_feed r (DiskWrite slot at bytes answer) held none same = wrote_point IsPointInOrder tt r same answer
+  right_feed r (DiskSync slot answer) held none same = synced_point IsPointInOrder tt r same answer
+  right_feed r event held none same = right_moved r.point event r held none same same
 
   -- ---- a start, once it counts
 
@@ -325,14 +330,14 @@ IsAllowedAt point (ChildStart id command answer) = StartsAt point id command
 IsAllowedAt point _ = Unit {0}
 
 -- with the start that comes, before it and after it
-step_right : (started : List ℕ) (r : Run) (event : Event) → IsAllowedAt r.point event → IsPointInOrder started r.point
+step_right : (started : List ℕ) (r : Run) (event : Event) → HoldBytes r.slots → IsAllowedAt r.point event → IsPointInOrder started r.point
     → IsPointInOrder (started ++ start_of event) r.point × IsPointInOrder (started ++ start_of event) (feed r event).point
-step_right started r (ChildStart id command answer) starts right =
+step_right started r (ChildStart id command answer) bytes starts right =
     let more : IsPointInOrder (started ++ id ∷ []) r.point = right_before started id command r.point starts right in
     (more, right_begins (started ++ id ∷ []) id command answer r.point r starts (has_last id started) more more)
-step_right started r event allowed right =
+step_right started r event bytes allowed right =
     let P : List ℕ → Type 0 = λ js. IsPointInOrder js r.point × IsPointInOrder js (feed r event).point in
-    subst P (sym (append-nil started)) (right, right_feed started r event tt right)
+    subst P (sym (append-nil started)) (right, right_feed started r event bytes tt right)
 
 -- ---- whole runs
 
@@ -354,34 +359,45 @@ after_more r (x ∷ xs) e = after_more (feed r x) xs e
 starts_more : (xs : List Event) (e : Event) → starts_in (xs ++ e ∷ []) ≡ starts_in xs ++ start_of e
 starts_more xs e = sym (flat_map_more start_of [] xs e)
 
-module _ (words : List (List ℕ)) (es : List Event) (starts : StartsInTurn words es) where
-  allowed : (k : ℕ) (e : Event) → slice_get es k ≡ Some e → IsAllowedAt (run_after words (take k es)).point e
+slots_after : (r : Run) (es : List Event) → (after feed MayCome Free r es).slots ≡ r.slots
+slots_after r [] = refl
+slots_after r (event ∷ es) = slots_after (feed r event) es ∙ feed_slots r event
+
+begin_slots : (o : Option Plan) (slots : ℕ → List ℕ) → (begin_with o slots).slots ≡ slots
+begin_slots None slots = refl
+begin_slots (Some plan) slots = refl
+
+module _ (words : List (List ℕ)) (slots : ℕ → List ℕ) (bytes : HoldBytes slots) (es : List Event) (starts : StartsInTurn words slots es) where
+  bytes_at : (xs : List Event) → HoldBytes (run_after words slots xs).slots
+  bytes_at xs = subst HoldBytes (sym (slots_after (begin words slots) xs ∙ begin_slots (plan_of words) slots)) bytes
+
+  allowed : (k : ℕ) (e : Event) → slice_get es k ≡ Some e → IsAllowedAt (run_after words slots (take k es)).point e
   allowed k (ChildStart id command answer) is = starts.starts k id command answer is
   allowed k _ is = tt
 
-  begins_right : (o : Option Plan) → IsPointInOrder [] (begin_with o).point
+  begins_right : (o : Option Plan) → IsPointInOrder [] (begin_with o slots).point
   begins_right None = tt
   begins_right (Some plan) = refl
 
   -- with an event, before it and after it
-  right_next : (k : ℕ) (o : Option Event) → slice_get es k ≡ o → IsPointInOrder (starts_in (take k es)) (run_after words (take k es)).point
-      → IsPointInOrder (starts_in (take (suc k) es)) (run_after words (take k es)).point × IsPointInOrder (starts_in (take (suc k) es)) (run_after words (take (suc k) es)).point
+  right_next : (k : ℕ) (o : Option Event) → slice_get es k ≡ o → IsPointInOrder (starts_in (take k es)) (run_after words slots (take k es)).point
+      → IsPointInOrder (starts_in (take (suc k) es)) (run_after words slots (take k es)).point × IsPointInOrder (starts_in (take (suc k) es)) (run_after words slots (take (suc k) es)).point
   right_next k None is right =
-      let P : List Event → Type 0 = λ xs. IsPointInOrder (starts_in xs) (run_after words (take k es)).point × IsPointInOrder (starts_in xs) (run_after words xs).point in
+      let P : List Event → Type 0 = λ xs. IsPointInOrder (starts_in xs) (run_after words slots (take k es)).point × IsPointInOrder (starts_in xs) (run_after words slots xs).point in
       subst P (sym (take_past es k is)) (right, right)
   right_next k (Some e) is right =
-      let at : Run = run_after words (take k es) in
-      let P : List Event → Type 0 = λ xs. IsPointInOrder (starts_in xs) at.point × IsPointInOrder (starts_in xs) (run_after words xs).point in
+      let at : Run = run_after words slots (take k es) in
+      let P : List Event → Type 0 = λ xs. IsPointInOrder (starts_in xs) at.point × IsPointInOrder (starts_in xs) (run_after words slots xs).point in
       let Q : List ℕ → Type 0 = λ js. IsPointInOrder js at.point × IsPointInOrder js (feed at e).point in
       let R : Run → Type 0 = λ r. IsPointInOrder (starts_in (take k es ++ e ∷ [])) at.point × IsPointInOrder (starts_in (take k es ++ e ∷ [])) r.point in
-      subst P (sym (take_more es k e is)) (subst R (sym (after_more (begin words) (take k es) e))
-      (subst Q (sym (starts_more (take k es) e)) (step_right (starts_in (take k es)) at e (allowed k e is) right)))
+      subst P (sym (take_more es k e is)) (subst R (sym (after_more (begin words slots) (take k es) e))
+      (subst Q (sym (starts_more (take k es) e)) (step_right (starts_in (take k es)) at e (bytes_at (take k es)) (allowed k e is) right)))
 
-  right_at : (k : ℕ) → IsPointInOrder (starts_in (take k es)) (run_after words (take k es)).point
+  right_at : (k : ℕ) → IsPointInOrder (starts_in (take k es)) (run_after words slots (take k es)).point
   right_at zero = begins_right (plan_of words)
   right_at (suc k) = (right_next k (slice_get es k) refl (right_at k)).1
 
-  jobs_in_order : TriesJobsInOrder words es
+  jobs_in_order : TriesJobsInOrder words slots es
   jobs_in_order = record {
     each = λ k place s is.
         let P : Point → Type 0 = λ p. IsPointInOrder (starts_in (take (suc k) es)) p in
@@ -390,5 +406,5 @@ module _ (words : List (List ℕ)) (es : List Event) (starts : StartsInTurn word
   }
 
 -- a run that obeys the law tries the jobs of each lane in their order
-pub tries_in_order : (words : List (List ℕ)) (g : History) (es : List Event) → Obeys (begin words) g es → TriesJobsInOrder words es
-tries_in_order words g es along = jobs_in_order words es (starts_in_turn words g es along)
+pub tries_in_order : (words : List (List ℕ)) (slots : ℕ → List ℕ) (g : History) (es : List Event) → HoldBytes slots → Obeys (begin words slots) g es → TriesJobsInOrder words slots es
+tries_in_order words slots g es bytes along = jobs_in_order words slots bytes es (starts_in_turn words slots g es along)

@@ -15,11 +15,12 @@ use Rattle.f2b_model.specs.Whole.{State, is_whole_spent, step}
 use Rattle.child_table.specs.Children.{comes_before, has, jobs_of}
 use Rattle.child_table.specs.declared.child.Child.{Child}
 use Rattle.run_law.specs.Law.{turns}
+use Rattle.reconcile.specs.Loads.{Loaded}
+use Rattle.run_law.specs.News.{server_after}
 use Rattle.run_law.specs.Polls.{gone, gone_passed}
 use Rattle.run_law.specs.Server.{Server, begun, input_at, taken}
 use Rattle.run_law.specs.Starts.{with_child, without_child}
 use Rattle.run_jobs.proofs.StepLemmas.{IsStarted, StandsInOrder, step_fine}
-use Rattle.run_jobs.proofs.LedgerLemmas.{none_fine}
 
 -- ---- a server
 
@@ -28,8 +29,8 @@ pub record IsServerInOrder (started : List ℕ) (s : Server) : Type 0 where
   pub lanes : StandsInOrder started s.state.lanes
   pub children : (job : ℕ) → has job (jobs_of s.children.running) ≡ true → has job started ≡ true
 
-pub begun_right : (turns : ℕ) (answer : Reading) → IsServerInOrder [] (begun turns answer)
-begun_right turns answer = record { lanes = none_fine; children = λ job is. is }
+pub begun_right : (turns : ℕ) (l : Loaded) (answer : Reading) → StandsInOrder [] l.state.lanes → IsServerInOrder [] (begun turns l answer)
+begun_right turns l answer fine = record { lanes = fine; children = λ job is. is }
 
 -- what an event brings ends nothing that was not started
 abbrev pub BringsStarted : List ℕ → Option What → Type 0
@@ -49,6 +50,10 @@ stepped started w input is fine =
 
 pub taken_right : (started : List ℕ) (what : What) (s : Server) → IsStarted started what → IsServerInOrder started s → IsServerInOrder started (taken what s)
 taken_right started what s is right = record { lanes = stepped started s.state (input_at s what) is right.lanes; children = right.children }
+
+pub after_right : (started : List ℕ) (o : Option What) (s : Server) → BringsStarted started o → IsServerInOrder started s → IsServerInOrder started (server_after o s)
+after_right started None s is right = right
+after_right started (Some what) s is right = taken_right started what s is right
 
 -- ---- children
 

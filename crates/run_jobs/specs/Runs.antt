@@ -1,9 +1,10 @@
 -- Which jobs a whole run tries.
-use Rattle.std.specs.Prelude.{ℕ, suc, ◌≡◌, List, [], ◌∷◌, take}
+use Rattle.std.specs.Prelude.{ℕ, suc, ◌≡◌, ◌<◌, List, [], ◌∷◌, take}
 use Rattle.std.specs.List.{flat_map}
 use Rattle.f2b_world.specs.Told.{History}
 use Rattle.f2b_world.specs.declared.event.Event.{Event}
 use Rattle.f2b_world.specs.declared.event.Event.TheVariants.{ChildStart}
+use Rattle.record_fields.specs.Codec.{IsBytes}
 use Rattle.run_law.specs.Law.{begin}
 use Rattle.run_law.specs.Points.{Place, AtTurn}
 use Rattle.run_law.specs.Served.{Obeys, run_after}
@@ -19,10 +20,17 @@ start_of _ = []
 abbrev pub starts_in : List Event → List ℕ
 starts_in es = flat_map start_of es
 
--- With each event of a turn, the jobs that were tried so far stand in their order, among those that were made and voided before it.
-pub record TriesJobsInOrder (words : List (List ℕ)) (es : List Event) : Type 0 where
-  pub each : (k : ℕ) (place : Place) (s : Server) → (run_after words (take k es)).point ≡ AtTurn place s → TriesInOrder (starts_in (take (suc k) es)) s.state.lanes.jobs
+-- With each event of a turn, the jobs that were tried so far stand in their order, among those that were made and voided before it. A run begins
+-- with the jobs that were pending in what its slots held.
+pub record TriesJobsInOrder (words : List (List ℕ)) (slots : ℕ → List ℕ) (es : List Event) : Type 0 where
+  pub each : (k : ℕ) (place : Place) (s : Server) → (run_after words slots (take k es)).point ≡ AtTurn place s
+      → TriesInOrder (starts_in (take (suc k) es)) s.state.lanes.jobs
 
--- a run that obeys the law tries its jobs in their order
+-- both slots hold bytes
+abbrev pub HoldBytes : (ℕ → List ℕ) → Type 0
+HoldBytes slots = (slot : ℕ) → slot < 2 → IsBytes (slots slot)
+
+-- a run that obeys the law tries its jobs in their order, whatever bytes its slots held
 pub record TriedLaw : Type 0 where
-  pub in_order : (words : List (List ℕ)) (g : History) (es : List Event) → Obeys (begin words) g es → TriesJobsInOrder words es
+  pub in_order : (words : List (List ℕ)) (slots : ℕ → List ℕ) (g : History) (es : List Event) → HoldBytes slots → Obeys (begin words slots) g es
+      → TriesJobsInOrder words slots es

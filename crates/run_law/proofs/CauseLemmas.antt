@@ -1,25 +1,38 @@
 -- Counts of faults, and causes, over several calls.
-use Rattle.std.proofs.Common.{ℕ, ◌≡◌, ◌≤◌, inl, inr, refl, sym, ◌∙◌, subst, arith}
+use Rattle.std.proofs.Common.{ℕ, ◌≡◌, ◌≤◌, List, [], ◌∷◌, inl, inr, refl, sym, ◌∙◌, subst, arith}
 use Rattle.std.proofs.lemmas.Bool.{cases_lt}
-use Rattle.f2b_world.specs.Faults.{OfSink, OfConfiguration, OfPatterns, Rose}
-use Rattle.f2b_world.specs.Told.{Standing, Called}
+use Rattle.f2b_world.specs.Faults.{OfSink, OfDisk, OfConfiguration, OfPatterns, Rose}
+use Rattle.f2b_world.specs.Told.{Called, History, IsHonest, Standing}
 use Rattle.f2b_world.specs.declared.event.Event.{Event}
+use Rattle.slot_writes.specs.declared.position.Position.{Position}
+use Rattle.ban_journal.specs.Places.{IsPlaced}
 use Rattle.filter_regex.specs.declared.error.BuildKind.TheVariants.{Syntax, TooBig}
 use Rattle.run_law.specs.Stages.{HasCause, IsRefusedAs, IsSteady, IsUnsaid}
 use Rattle.run_law.specs.declared.status.Status.{Status}
+use Rattle.run_law.proofs.LongLemmas.{goes_behind, goes_none, goes_on, placed_on}
 use Rattle.run_law.specs.declared.status.Status.TheVariants.{Stopped, TurnsSpent, WorkloadDone, Usage, ConfFault, ConfRefused, DiskFault, NotAJournal, JournalFull, GateFault, SinkFault, ConfTooLarge, PatternRefused, NumbersSpent, NoMemory}
 
 -- where nothing was called no count fell
 pub steady_refl : (s : Standing) → IsSteady s s
-steady_refl s = record { counts = λ kind. omega arith }
+steady_refl s = record { counts = λ kind. omega arith; history = goes_none s.told }
 
 -- nor over two steady parts
 pub steady_on : (old mid new : Standing) → IsSteady old mid → IsSteady mid new → IsSteady old new
-steady_on old mid new p q = record { counts = λ kind. omega (arith, p.counts kind, q.counts kind) }
+steady_on old mid new p q = record { counts = λ kind. omega (arith, p.counts kind, q.counts kind); history = goes_behind old.told mid.told new.told p.history q.history }
 
 -- nor over one call
 pub steady_call : (old new : Standing) (event : Event) → Called old event new → IsSteady old new
-steady_call old new event call = record { counts = call.counts.steady }
+steady_call old new event call = record { counts = call.counts.steady; history = goes_on (λ (g : History) (es : List Event). (es ≡ event ∷ []) × IsHonest g event) old.told new.told call.adds }
+
+-- over a steady part a journal's places stay where they are
+pub steady_placed : (p : Position) (old new : Standing) → IsSteady old new → IsPlaced p old.told → IsPlaced p new.told
+steady_placed p old new steady is = placed_on p old.told new.told steady.history is
+
+-- and over one call
+pub called_placed : (p : Position) (old new : Standing) (event : Event) → Called old event new → IsPlaced p old.told → IsPlaced p new.told
+called_placed p old new event call is = steady_placed p old new (steady_call old new event call) is
+
+pub ruleset placing = (called_placed)
 
 rose_later : (a b c : ℕ) → a ≤ b → Rose b c → Rose a c
 rose_later a b c le (inl lt) = inl (omega arith)
@@ -33,7 +46,7 @@ cause_later old mid new WorkloadDone steady cause = cause
 cause_later old mid new Usage steady cause = cause
 cause_later old mid new ConfFault steady cause = rose_later _ _ _ (steady.counts OfConfiguration) cause
 cause_later old mid new (ConfRefused error) steady cause = cause
-cause_later old mid new DiskFault steady cause = tt
+cause_later old mid new DiskFault steady cause = rose_later _ _ _ (steady.counts OfDisk) cause
 cause_later old mid new (NotAJournal slot at) steady cause = tt
 cause_later old mid new (JournalFull need limit) steady cause = tt
 cause_later old mid new GateFault steady cause = tt
@@ -56,7 +69,7 @@ cause_by_then old mid new WorkloadDone before after cause = cause
 cause_by_then old mid new Usage before after cause = cause
 cause_by_then old mid new ConfFault before after cause = rose_by_then _ _ _ (before.counts OfConfiguration) (after.counts OfConfiguration) cause
 cause_by_then old mid new (ConfRefused error) before after cause = cause
-cause_by_then old mid new DiskFault before after cause = tt
+cause_by_then old mid new DiskFault before after cause = rose_by_then _ _ _ (before.counts OfDisk) (after.counts OfDisk) cause
 cause_by_then old mid new (NotAJournal slot at) before after cause = tt
 cause_by_then old mid new (JournalFull need limit) before after cause = tt
 cause_by_then old mid new GateFault before after cause = tt
@@ -112,6 +125,13 @@ spent_cause old new status (inl is) =
     subst P (sym is) tt
 spent_cause old new status (inr is) = unsaid_cause old new status is
 
-pub ruleset counting = (steady_refl, steady_on, steady_call, cause_later, unsaid_cause, spent_cause)
+-- so is that there is no room
+pub full_cause : (old new : Standing) (need limit : ℕ) (status : Status) → IsRefusedAs old new (JournalFull need limit) status → HasCause old new status
+full_cause old new need limit status (inl is) =
+    let P : Status → Type 0 = λ s. HasCause old new s in
+    subst P (sym is) tt
+full_cause old new need limit status (inr is) = unsaid_cause old new status is
+
+pub ruleset counting = (steady_refl, steady_on, steady_call, steady_placed, cause_later, unsaid_cause, spent_cause, full_cause)
 
 pub ruleset refused = (refused_said, refused_unsaid, refused_early)

@@ -15,13 +15,16 @@ use Rattle.f2b_world.specs.declared.answer.Said.TheVariants.{Done}
 use Rattle.f2b_world.specs.declared.answer.StartAnswer.TheVariants.{Started, Failed as StartFailed}
 use Rattle.f2b_world.specs.declared.event.Event.{Event}
 use Rattle.f2b_world.specs.declared.event.Event.TheVariants.{Say, ChildStart, ChildPoll, ChildKill, Pause}
+use Rattle.record_codec.specs.Inputs.{input, what}
+use Rattle.record_codec.specs.Lanes.{outcome}
+use Rattle.record_fields.specs.Numbers.{digits as number_digits}
 use Rattle.run_law.specs.Calls.{AskSay, AskStart, AskPoll, AskKill, AskPause}
 use Rattle.run_law.specs.Law.{next_call}
 use Rattle.run_law.specs.News.{brings}
 use Rattle.run_law.specs.Points.{Run}
 use Rattle.run_law.specs.Said.{check_line, failed_line, lane_lines, lines_of, restart_line, stamped}
 use Rattle.run_law.specs.Turn.{to_accept, to_children, to_end, to_logs, to_starts}
-use Rattle.run_law.proofs.RowJails.{after_all, clock, server, shown, turning, view_of_two}
+use Rattle.run_law.proofs.RowJails.{added, after_all, clock, server, shown, turning, view_of_two}
 
 -- ---- the lane of an action `n` of the jail `a`
 
@@ -84,39 +87,39 @@ starts_the_command_behind_it = refl
 
 -- the command fails: the job is due again 2 seconds later
 abbrev failed : List Event
-failed = passed ++ ChildStart 2 (codes "in") Started ∷ Pause 250 ∷ clock 1002 ∷ ChildPoll 2 (Ended (pos 1)) ∷ []
+failed = passed ++ ChildStart 2 (codes "in") Started ∷ Pause 250 ∷ clock 1002 ∷ ChildPoll 2 (Ended (pos 1)) ∷ added
 
 says_that_it_failed : next_call (after_all (run (codes "look")) failed) ≡ Some (AskSay (codes "1002 ERROR [a/n] ban failed: status 1\n"))
-unfolding brings to_logs to_children to_accept to_starts to_end rendered lines_of lane_lines failed_line stamped digits
+unfolding brings to_logs to_children to_accept to_starts to_end rendered lines_of lane_lines failed_line stamped digits input what outcome number_digits
 says_that_it_failed = refl
 
 checks_again_before_the_next_try : next_call (after_all (run (codes "look")) (failed ++ Say (codes "1002 ERROR [a/n] ban failed: status 1\n") Done ∷ Pause 250 ∷ clock 1004 ∷ [])) ≡ Some (AskStart 2 (codes "look"))
-unfolding brings to_logs to_children to_accept to_starts to_end rendered lines_of lane_lines failed_line stamped digits
+unfolding brings to_logs to_children to_accept to_starts to_end rendered lines_of lane_lines failed_line stamped digits input what outcome number_digits
 checks_again_before_the_next_try = refl
 
 -- a command that could not be started was a try too
 abbrev not_started : List Event
-not_started = passed ++ ChildStart 2 (codes "in") StartFailed ∷ []
+not_started = passed ++ ChildStart 2 (codes "in") StartFailed ∷ added
 
 says_that_it_did_not_start : next_call (after_all (run (codes "look")) not_started) ≡ Some (AskSay (codes "1001 ERROR [a/n] ban failed: not started\n"))
-unfolding brings to_logs to_children to_accept to_starts to_end rendered lines_of lane_lines failed_line stamped digits
+unfolding brings to_logs to_children to_accept to_starts to_end rendered lines_of lane_lines failed_line stamped digits input what outcome number_digits
 says_that_it_did_not_start = refl
 
 checks_again_behind_it : next_call (after_all (run (codes "look")) (not_started ++ Say (codes "1001 ERROR [a/n] ban failed: not started\n") Done ∷ Pause 250 ∷ clock 1003 ∷ [])) ≡ Some (AskStart 2 (codes "look"))
-unfolding brings to_logs to_children to_accept to_starts to_end rendered lines_of lane_lines failed_line stamped digits
+unfolding brings to_logs to_children to_accept to_starts to_end rendered lines_of lane_lines failed_line stamped digits input what outcome number_digits
 checks_again_behind_it = refl
 
 -- ---- a check that fails: the bans are voided, and the lane starts anew
 
 abbrev bad : List Event
-bad = checking ++ Pause 250 ∷ clock 1001 ∷ ChildPoll 2 (Ended (pos 1)) ∷ []
+bad = checking ++ Pause 250 ∷ clock 1001 ∷ ChildPoll 2 (Ended (pos 1)) ∷ added
 
 says_both : next_call (after_all (run (codes "look")) bad) ≡ Some (AskSay (codes "1001 WARNING [a/n] check failed: status 1\n1001 INFO [a/n] restart\n"))
-unfolding brings to_logs to_children to_accept to_starts to_end rendered lines_of lane_lines check_line restart_line stamped digits
+unfolding brings to_logs to_children to_accept to_starts to_end rendered lines_of lane_lines check_line restart_line stamped digits input what outcome number_digits
 says_both = refl
 
 stops_the_lane : next_call (after_all (run (codes "look")) (bad ++ Say (codes "1001 WARNING [a/n] check failed: status 1\n1001 INFO [a/n] restart\n") Done ∷ [])) ≡ Some (AskStart 9 (codes "down"))
-unfolding brings to_logs to_children to_accept to_starts to_end rendered lines_of lane_lines check_line restart_line stamped digits
+unfolding brings to_logs to_children to_accept to_starts to_end rendered lines_of lane_lines check_line restart_line stamped digits input what outcome number_digits
 stops_the_lane = refl
 
 -- ---- a child that does not end
@@ -136,6 +139,6 @@ ends_it : next_call (after_all (run (codes "look")) late) ≡ Some (AskKill 2)
 unfolding brings to_logs to_children to_accept to_starts to_end rendered
 ends_it = refl
 
-says_that_it_took_too_long : next_call (after_all (run (codes "look")) (late ++ ChildKill 2 ∷ [])) ≡ Some (AskSay (codes "1060 WARNING [a/n] check failed: timed out\n1060 INFO [a/n] restart\n"))
-unfolding brings to_logs to_children to_accept to_starts to_end rendered lines_of lane_lines check_line restart_line stamped digits
+says_that_it_took_too_long : next_call (after_all (run (codes "look")) (late ++ ChildKill 2 ∷ added)) ≡ Some (AskSay (codes "1060 WARNING [a/n] check failed: timed out\n1060 INFO [a/n] restart\n"))
+unfolding brings to_logs to_children to_accept to_starts to_end rendered lines_of lane_lines check_line restart_line stamped digits input what outcome number_digits
 says_that_it_took_too_long = refl

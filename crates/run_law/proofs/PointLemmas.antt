@@ -8,11 +8,12 @@ use Rattle.f2b_world.proofs.WalkLemmas.{walks_refl, walks_trans, walks_call}
 use Rattle.run_law.specs.Calls.{Call, AskSay, IsNext}
 use Rattle.run_law.specs.Law.{Free, Goes, Halts, Ends, IsOver, MayCome, call_of, feed, moved, next_call, point_call, turn_call, turns}
 use Rattle.run_law.specs.News.{refused}
-use Rattle.run_law.specs.Points.{Place, Point, AtTree, AtMakes, AtFirst, AtNames, AtTurn, Over, Run}
+use Rattle.run_law.specs.Points.{Place, Point, AtTree, AtMakes, AtStore, AtFirst, AtNames, AtTurn, Over, Run}
 use Rattle.run_law.specs.Refusals.{status_lines}
 use Rattle.run_law.specs.Said.{joined}
 use Rattle.run_law.specs.Server.{Server}
-use Rattle.run_law.specs.Stages.{IsAt, IsRefusal, IsSaying, Owes, Refuses, Says, SayFails}
+use Rattle.run_law.specs.Stages.{IsAt, IsRefusal, IsSaying, IsStill, Owes, Refuses, Says, SayFails}
+use Rattle.run_law.proofs.DiskLemmas.{may_beside, next_beside, point_no_write, written_call}
 use Rattle.run_law.specs.declared.plan.Plan.{Plan}
 use Rattle.run_law.specs.declared.status.Status.{Status}
 use Rattle.run_law.specs.declared.status.Status.TheVariants.{Stopped, TurnsSpent, WorkloadDone, Usage, ConfFault, ConfRefused, DiskFault, NotAJournal, JournalFull, GateFault, SinkFault, ConfTooLarge, PatternRefused, NumbersSpent, NoMemory}
@@ -45,7 +46,8 @@ halts_after old mid new r s status goes halts = record { last = halts.last; goes
 pub paid_call : (plan : Plan) (point : Point) → call_of plan point [] ≡ point_call plan point
 paid_call plan AtTree = refl
 paid_call plan (AtMakes settings left) = refl
-paid_call plan (AtFirst settings) = refl
+paid_call plan (AtStore settings) = refl
+paid_call plan (AtFirst settings l) = refl
 paid_call plan (AtNames settings naming s) = refl
 paid_call plan (AtTurn place s) = refl
 paid_call plan (Over Stopped) = refl
@@ -64,9 +66,9 @@ paid_call plan (Over (PatternRefused jail place kind)) = refl
 paid_call plan (Over NumbersSpent) = refl
 paid_call plan (Over NoMemory) = refl
 
-next_at : (r : Run) (there : Point) → IsAt r there → next_call r ≡ point_call r.plan there
+pub next_at : (r : Run) (there : Point) → IsAt r there → next_call r ≡ point_call r.plan there
 next_at r there at =
-    ap (λ (lines : List (List ℕ)). call_of r.plan r.point lines) at.paid ∙ paid_call r.plan r.point ∙ ap (λ (p : Point). point_call r.plan p) at.point
+    written_call r.writes (call_of r.plan r.point r.owed) at.still.written ∙ ap (λ (lines : List (List ℕ)). call_of r.plan r.point lines) at.still.paid ∙ paid_call r.plan r.point ∙ ap (λ (p : Point). point_call r.plan p) at.point
 
 -- an event that is the call of its point leads where the law says
 pub point_goes : (a b : Standing) (event : Event) (r : Run) (there : Point) → Called a event b → IsAt r there → IsNext (point_call r.plan there) event
@@ -74,7 +76,8 @@ pub point_goes : (a b : Standing) (event : Event) (r : Run) (there : Point) → 
 point_goes a b event r there call at next plain =
     let P : Option Call → Type 0 = λ c. IsNext c event in
     let Q : Run → Type 0 = λ x. Goes a.told b.told r x in
-    subst Q (plain ∙ ap (λ (p : Point). moved p event r) at.point) (goes_call a b event r call (subst P (sym (next_at r there at)) next))
+    let beside = next_beside (point_call r.plan there) event (point_no_write r.plan there) next in
+    subst Q (plain ∙ ap (λ (p : Point). moved p event r) at.point) (goes_call a b event r call (may_beside r event beside (subst P (sym (next_at r there at)) next)))
 
 -- an event of a turn that is the call of its place
 pub turn_goes : (a b : Standing) (event : Event) (r : Run) (place : Place) (s : Server) → Called a event b → IsAt r (AtTurn place s) → IsNext (turn_call place s) event
@@ -87,7 +90,8 @@ turn_goes a b event r place s call at next plain = point_goes a b event r (AtTur
 pub saying_call : (plan : Plan) (point : Point) (line : List ℕ) (lines : List (List ℕ)) → IsSaying point → call_of plan point (line ∷ lines) ≡ Some (AskSay (joined (line ∷ lines)))
 saying_call plan AtTree line lines saying = refl
 saying_call plan (AtMakes settings left) line lines saying = refl
-saying_call plan (AtFirst settings) line lines saying = refl
+saying_call plan (AtStore settings) line lines saying = refl
+saying_call plan (AtFirst settings l) line lines saying = refl
 saying_call plan (AtNames settings naming s) line lines saying = refl
 saying_call plan (AtTurn place s) line lines saying = refl
 saying_call plan (Over Stopped) line lines saying = refl
@@ -109,7 +113,7 @@ saying_call plan (Over NoMemory) line lines saying = refl
 -- lines that are owed are what may be said
 may_say : (r : Run) (lines : List (List ℕ)) → 1 ≤ length lines → Owes r lines → next_call r ≡ Some (AskSay (joined lines))
 may_say r [] some owes = absurd (let none : ⊥ = omega (arith, some) in none)
-may_say r (line ∷ lines) some owes = ap (λ (ls : List (List ℕ)). call_of r.plan r.point ls) owes.owed ∙ saying_call r.plan r.point line lines owes.saying
+may_say r (line ∷ lines) some owes = written_call r.writes (call_of r.plan r.point r.owed) owes.written ∙ ap (λ (ls : List (List ℕ)). call_of r.plan r.point ls) owes.owed ∙ saying_call r.plan r.point line lines owes.saying
 
 -- all lines that are owed are said in one call
 pub says_lines : (old new : Standing) (lines : List (List ℕ)) (bytes : List ℕ) → 1 ≤ length lines → bytes ≡ joined lines → Called old (Say bytes SayDone) new → Says old new lines
@@ -131,7 +135,7 @@ fails_lines old new lines bytes some is call = record {
       record {
         last = feed r (Say bytes SayFailed);
         goes = goes_call old new (Say bytes SayFailed) r call (subst P (sym (may_say r lines some owes)) is);
-        ends = record { point = refl; none = refl };
+        ends = record { point = refl; none = written_call r.writes None owes.written };
       };
 }
 
@@ -187,24 +191,24 @@ over_ends (PatternRefused jail place kind) r over = over
 over_ends NumbersSpent r over = over
 over_ends NoMemory r over = tt
 
-owes_refusal : (now : ℕ) (status : Status) (r : Run) → IsRefusal status → r.owed ≡ [] → Owes (refused now status r) (status_lines now status)
-owes_refusal now status r is paid = record { owed = ap (λ (ls : List (List ℕ)). ls ++ status_lines now status) paid; saying = refusal_says status is }
+owes_refusal : (now : ℕ) (status : Status) (r : Run) → IsRefusal status → IsStill r → Owes (refused now status r) (status_lines now status)
+owes_refusal now status r is still = record { written = still.written; owed = ap (λ (ls : List (List ℕ)). ls ++ status_lines now status) still.paid; saying = refusal_says status is }
 
 -- a refusal whose line was said
 pub refuses : (old new : Standing) (now : ℕ) (status : Status) → IsRefusal status → Says old new (status_lines now status) → Refuses old new now status status
 refuses old new now status is says = record {
-  runs = λ r paid.
+  runs = λ r still.
       let over : Run = record (refused now status r) { said = r.said ++ status_lines now status; owed = [] } in
-      let none : next_call over ≡ None = paid_call r.plan (Over status) in
-      record { last = over; goes = says.runs (refused now status r) (owes_refusal now status r is paid); ends = over_ends status over (record { point = refl; none = none }) };
+      let none : next_call over ≡ None = written_call r.writes (call_of r.plan (Over status) []) still.written ∙ paid_call r.plan (Over status) in
+      record { last = over; goes = says.runs (refused now status r) (owes_refusal now status r is still); ends = over_ends status over (record { point = refl; none = none }) };
 }
 
 -- a refusal whose line could not be said
 pub refuses_fault : (old new : Standing) (now : ℕ) (status fault : Status) → IsRefusal status → SayFails old new (status_lines now status) fault → Refuses old new now status fault
-refuses_fault old new now status fault is fails = record { runs = λ r paid. fails.runs (refused now status r) (owes_refusal now status r is paid) }
+refuses_fault old new now status fault is fails = record { runs = λ r still. fails.runs (refused now status r) (owes_refusal now status r is still) }
 
 -- memory may run out before it is said
 pub refuses_memory : (s : Standing) (now : ℕ) (status : Status) → Refuses s s now status NoMemory
-refuses_memory s now status = record { runs = λ r paid. halts_here s.told (refused now status r) }
+refuses_memory s now status = record { runs = λ r still. halts_here s.told (refused now status r) }
 
 pub ruleset refusing = (refuses, refuses_fault, refuses_memory)

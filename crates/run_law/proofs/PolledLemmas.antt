@@ -18,7 +18,7 @@ use Rattle.f2b_world.specs.declared.answer.Said.TheVariants.{Done, Failed as Say
 use Rattle.f2b_world.specs.declared.answer.StartAnswer.{StartAnswer}
 use Rattle.f2b_world.specs.declared.answer.StartAnswer.TheVariants.{Started, Failed as StartFailed, NoMemory as StartNoMemory}
 use Rattle.f2b_world.specs.declared.event.Event.{Event}
-use Rattle.f2b_world.specs.declared.event.Event.TheVariants.{Say, Make, Clock, Config, Names, Look as LookAt, ChildStart, ChildPoll, ChildKill, Pause}
+use Rattle.f2b_world.specs.declared.event.Event.TheVariants.{Say, DiskLen, DiskRead, DiskWrite, DiskSync, Make, Clock, Config, StoreAt, Names, Look as LookAt, ChildStart, ChildPoll, ChildKill, Pause}
 use Rattle.child_table.specs.Children.{Children, jobs_of}
 use Rattle.child_table.specs.Late.{is_late}
 use Rattle.child_table.specs.declared.child.Child.{Child}
@@ -28,14 +28,16 @@ use Rattle.run_law.specs.Children.{checked_first, startable}
 use Rattle.run_law.specs.Clock.{tick_news}
 use Rattle.run_law.specs.Law.{Free, MayCome, begin, call_of, feed, moved, point_call, turns}
 use Rattle.run_law.specs.Looks.{log_call, look_news, look_taken, looked, looked_at, now_is, unread_news}
-use Rattle.run_law.specs.News.{News, brings, brings_by, entered}
-use Rattle.run_law.specs.Points.{Place, AtClock, AtLook, AtPoll, AtKill, AtStart, AtPause, Point, AtTree, AtMakes, AtFirst, AtNames, AtTurn, Over, Run}
+use Rattle.run_law.specs.News.{News, after_news, brings, server_after}
+use Rattle.run_law.specs.Points.{Place, AtClock, AtLook, AtPoll, AtKill, AtStart, AtPause, Point, AtTree, AtMakes, AtStore, AtFirst, AtNames, AtTurn, Over, Run}
 use Rattle.run_law.specs.Polls.{end_news, ended_as, gone, gone_passed, has_succeeded, killed_at, polled_at, still_point}
 use Rattle.run_law.specs.Served.{PollsEachOnce, pauses_in, polls_in, run_after}
-use Rattle.run_law.specs.Server.{Server, is_spent, is_stopping, jobs, lanes_up, log_jails, read_at, taken}
+use Rattle.run_law.specs.Server.{Server, is_stopping, jobs, lanes_up, log_jails, read_at}
 use Rattle.run_law.specs.Starts.{child_started, with_child, without_child}
 use Rattle.run_law.specs.Turn.{look_point, start_place, start_point, to_accept, to_children, to_end, to_logs, to_looks, to_polls, to_starts}
 use Rattle.run_law.specs.declared.plan.Plan.{Plan}
+use Rattle.run_law.proofs.DiskLemmas.{next_behind}
+use Rattle.run_law.proofs.NewsLemmas.{brings_point, measured_point, piece_point, synced_point, wrote_point}
 use Rattle.run_law.proofs.PointLemmas.{paid_call}
 use Rattle.run_law.proofs.SaidLemmas.{pause_next, poll_next}
 
@@ -140,18 +142,12 @@ module _ (ran : List ℕ) where
 
     -- ---- what an event brings leaves the children
 
-    module _ (news : News) (next : Server → Point) (s : Server) (r : Run) (leads : (t : Server) → t.children ≡ s.children → IsPolled polled (next t)) where
-      polled_entered : (spent : Bool) (what : What) → IsPolled polled (entered spent news what next s r).point
-      polled_entered true what = tt
-      polled_entered false what = leads (taken what s) refl
+    same_children : (o : Option What) (s : Server) → (server_after o s).children ≡ s.children
+    same_children None s = refl
+    same_children (Some what) s = refl
 
-      polled_by : (o : Option What) → IsPolled polled (brings_by o news next s r).point
-      polled_by None = leads s refl
-      polled_by (Some what) = polled_entered (is_spent s) what
-
-      polled_brings : IsPolled polled (brings news next s r).point
-      unfolding brings
-      polled_brings = polled_by news.what
+    polled_brings : (news : News) (next : Server → Point) (s : Server) (r : Run) → ((t : Server) → t.children ≡ s.children → IsPolled polled (next t)) → IsPolled polled (brings news next s r).point
+    polled_brings news next s r leads = brings_point (IsPolled polled) (λ need limit. tt) tt news next s r (leads (after_news news s) (same_children news.what s))
 
     same_ran : (s t : Server) → t.children ≡ s.children → ran_at s ≡ ran → ran_at t ≡ ran
     same_ran s t is same = ap (λ (k : Children). jobs_of k.running) is ∙ same
@@ -205,7 +201,8 @@ module _ (ran : List ℕ) where
     polled_moved : (point : Point) (event : Event) (r : Run) → IsOther event → IsPolled polled point → IsPolled polled r.point → IsPolled polled (moved point event r).point
     polled_moved AtTree (Config root answer) r other here there = absurd here
     polled_moved (AtMakes settings left) (Make text answer) r other here there = absurd here
-    polled_moved (AtFirst settings) (Clock answer) r other here there = absurd here
+    polled_moved (AtStore settings) (StoreAt socket answer) r other here there = absurd here
+    polled_moved (AtFirst settings l) (Clock answer) r other here there = absurd here
     polled_moved (AtNames settings naming s) (Names dir answer) r other here there = absurd here
     polled_moved (AtTurn place s) event r other here there = polled_turns place event s r other here there
     polled_moved _ _ r other here there = there
@@ -213,13 +210,18 @@ module _ (ran : List ℕ) where
     polled_feed : (r : Run) (event : Event) → IsOther event → IsPolled polled r.point → IsPolled polled (feed r event).point
     polled_feed r (Say bytes Done) other there = there
     polled_feed r (Say bytes SayFailed) other there = tt
+    polled_feed r (DiskLen slot answer) other there = measured_point (IsPolled polled) tt r there answer
+    polled_feed r (DiskRead slot at len answer) other there = piece_point (IsPolled polled) tt r there answer
+    polled_feed r (DiskWrite slot at bytes answer) other there = wrote_point (IsPolled polled) tt r there answer
+    polled_feed r (DiskSync slot answer) other there = synced_point (IsPolled polled) tt r there answer
     polled_feed r event other there = polled_moved r.point event r other there there
 
     -- at a pause all were polled
     all_polled : (plan : Plan) (point : Point) (ms : ℕ) → IsPolled polled point → IsNext (point_call plan point) (Pause ms) → polled ≡ ran
     all_polled plan AtTree ms here next = absurd here
     all_polled plan (AtMakes settings left) ms here next = absurd here
-    all_polled plan (AtFirst settings) ms here next = absurd here
+    all_polled plan (AtStore settings) ms here next = absurd here
+    all_polled plan (AtFirst settings l) ms here next = absurd here
     all_polled plan (AtNames settings naming s) ms here next = absurd here
     all_polled plan (AtTurn AtClock s) ms here next = absurd next
     all_polled plan (AtTurn (AtLook i) s) ms here next = by_log (slice_get s.logs i) next
@@ -263,7 +265,8 @@ module _ (ran : List ℕ) where
     polled_poll : (plan : Plan) (point : Point) → IsNext (point_call plan point) (ChildPoll job answer) → IsPolled polled point → IsPolled (polled ++ job ∷ []) (moved point (ChildPoll job answer) r).point
     polled_poll plan AtTree next here = absurd here
     polled_poll plan (AtMakes settings left) next here = absurd here
-    polled_poll plan (AtFirst settings) next here = absurd here
+    polled_poll plan (AtStore settings) next here = absurd here
+    polled_poll plan (AtFirst settings l) next here = absurd here
     polled_poll plan (AtNames settings naming s) next here = absurd here
     polled_poll plan (AtTurn AtClock s) next here = absurd next
     polled_poll plan (AtTurn (AtLook i) s) next here = absurd (by_log (slice_get s.logs i) next)
@@ -283,9 +286,10 @@ module _ (ran : List ℕ) where
 
     polled_may : MayCome r (ChildPoll job answer) → IsPolled polled r.point → IsPolled (polled ++ job ∷ []) (feed r (ChildPoll job answer)).point
     polled_may may here =
+        let next = next_behind r.writes (call_of r.plan r.point r.owed) (ChildPoll job answer) tt may in
         let P : List (List ℕ) → Type 0 = λ ls. IsNext (call_of r.plan r.point ls) (ChildPoll job answer) in
         let Q : Option Call → Type 0 = λ c. IsNext c (ChildPoll job answer) in
-        polled_poll r.plan r.point (subst Q (paid_call r.plan r.point) (subst P (poll_next r.plan r.point r.owed job answer may) may)) here
+        polled_poll r.plan r.point (subst Q (paid_call r.plan r.point) (subst P (poll_next r.plan r.point r.owed job answer next) next)) here
 
   -- ---- a turn
 
@@ -318,17 +322,17 @@ turn_polls r g turn later ms s along at none =
     let P : Point → Type 0 = λ p. IsPolled ran [] p in
     let here : IsPolled ran [] r.point = subst P (sym at) (refl, refl) in
     let there : IsPolled ran (polls_in turn) last.point = polled_on ran [] r g turn (along_front r g turn (Pause ms ∷ later) along) none here in
-    let may : MayCome last (Pause ms) = (along_behind r g turn (Pause ms ∷ later) along).1.0.allowed in
+    let may = next_behind last.writes (call_of last.plan last.point last.owed) (Pause ms) tt (along_behind r g turn (Pause ms ∷ later) along).1.0.allowed in
     let paid : last.owed ≡ [] = pause_next last.plan last.point last.owed ms may in
     let Q : List (List ℕ) → Type 0 = λ ls. IsNext (call_of last.plan last.point ls) (Pause ms) in
     let C : Option Call → Type 0 = λ c. IsNext c (Pause ms) in
     all_polled ran (polls_in turn) last.plan last.point ms there (subst C (paid_call last.plan last.point) (subst Q paid may))
 
 -- a run that obeys the law polls each of its commands once a turn
-pub polls_each_once : (words : List (List ℕ)) (g : History) (es : List Event) → Along feed MayCome Free (begin words) g es → PollsEachOnce words es
-polls_each_once words g es along = record {
+pub polls_each_once : (words : List (List ℕ)) (slots : ℕ → List ℕ) (g : History) (es : List Event) → Along feed MayCome Free (begin words slots) g es → PollsEachOnce words slots es
+polls_each_once words slots g es along = record {
   polls = λ before turn later ms s is at none.
-      let P : List Event → Type 0 = λ xs. Along feed MayCome Free (begin words) g xs in
-      let on = along_behind (begin words) g before (turn ++ Pause ms ∷ later) (subst P is along) in
-      turn_polls (run_after words before) on.0 turn later ms s on.1 at none;
+      let P : List Event → Type 0 = λ xs. Along feed MayCome Free (begin words slots) g xs in
+      let on = along_behind (begin words slots) g before (turn ++ Pause ms ∷ later) (subst P is along) in
+      turn_polls (run_after words slots before) on.0 turn later ms s on.1 at none;
 }

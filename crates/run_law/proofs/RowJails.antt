@@ -1,5 +1,5 @@
 -- Jails, servers and events of the worked rows.
-use Rattle.std.proofs.Common.{ℕ, false, Bool, Option, Some, None, List, [], ◌∷◌, pos}
+use Rattle.std.proofs.Common.{ℕ, true, false, Bool, Option, Some, None, List, [], ◌∷◌, ◌++◌, pos}
 use Rattle.std.specs.Prelude.{codes}
 use Rattle.f2b_base.specs.declared.addr.Addr.TheVariants.{V4}
 use Rattle.f2b_base.specs.declared.ban.Ban.{Ban}
@@ -14,14 +14,19 @@ use Rattle.f2b_base.specs.declared.view.WatchView.{WatchView}
 use Rattle.f2b_model.specs.Views.{back}
 use Rattle.f2b_world.specs.Walks.{after}
 use Rattle.f2b_world.specs.declared.answer.Look.{Look}
+use Rattle.f2b_world.specs.declared.answer.StoreAnswer.TheVariants.{Kept}
+use Rattle.f2b_world.specs.declared.answer.Synced.TheVariants.{Done as SyncDone}
+use Rattle.f2b_world.specs.declared.answer.Wrote.TheVariants.{Done as WroteDone}
 use Rattle.f2b_world.specs.declared.event.Event.{Event}
-use Rattle.f2b_world.specs.declared.event.Event.TheVariants.{Clock, Look as LookAt}
+use Rattle.f2b_world.specs.declared.event.Event.TheVariants.{Clock, DiskSync, DiskWrite, Look as LookAt, StoreAt}
 use Rattle.child_table.specs.Children.{nobody}
+use Rattle.journal_slots.specs.declared.head.Head.TheVariants.{Short, Ajar}
 use Rattle.log_set.specs.Logs.{Watching}
 use Rattle.run_law.specs.Law.{Free, MayCome, feed, standing}
 use Rattle.run_law.specs.Points.{Point, Run, AtTurn, AtClock}
 use Rattle.run_law.specs.Server.{Server}
 use Rattle.run_law.specs.declared.plan.Plan.{Plan}
+use Rattle.slot_writes.specs.declared.position.Position.{Position}
 
 -- a jail of undated lines, with these patterns of failures and these paths
 abbrev pub jail : List ℕ → List (List ℕ) → List WatchDef → JailDef
@@ -74,16 +79,24 @@ view_of_two one two = record {
 abbrev pub log : List ℕ → List ℕ → Place → List ℕ → Watching
 log jail path base seen = record { jail = jail; path = path; watch = record { base = base; seen = seen } }
 
+-- a journal whose current slot has room
+abbrev pub roomy : Position
+roomy = record { limit = 67108864; slot = 0; generation = 1; grows = true; gate = 25; head = Ajar; other = Short }
+
 -- a server of that view that follows these logs, with so many turns left
 abbrev pub server : View → List Watching → ℕ → Server
-server view logs left = record { state = back view; now = 900; word = 0; logs = logs; children = nobody; left = left }
+server view logs left = record { state = back view; position = roomy; now = 900; word = 0; logs = logs; children = nobody; left = left }
 
 abbrev pub plan : Plan
-plan = record { root = codes "/c"; turns = 9 }
+plan = record { root = codes "/c"; turns = 9; limit = 67108864 }
+
+-- slots that hold nothing
+abbrev pub no_slots : ℕ → List ℕ
+no_slots slot = []
 
 -- its run at the clock of a turn
 abbrev pub turning : Server → Run
-turning s = standing plan (AtTurn AtClock s)
+turning s = standing plan no_slots (AtTurn AtClock s)
 
 abbrev pub after_all : Run → List Event → Run
 after_all r es = after feed MayCome Free r es
@@ -94,6 +107,22 @@ clock secs = Clock (record { secs = secs; word = 0 })
 -- a look from an offset on
 abbrev pub look : List ℕ → ℕ → Look → Event
 look path from answer = LookAt path 64 from 65536 answer
+
+-- the slots of a journal are named
+abbrev pub named_slots : List ℕ → Event
+named_slots socket = StoreAt socket Kept
+
+-- a write and the sync behind it, both done; where they lead does not depend on what is written
+abbrev pub one_written : List Event
+one_written = DiskWrite 0 0 [] WroteDone ∷ DiskSync 0 SyncDone ∷ []
+
+-- an input is added to a slot
+abbrev pub added : List Event
+added = one_written ++ one_written
+
+-- an input changes slots, of which the new one was short or open
+abbrev pub changed : List Event
+changed = one_written ++ added ++ added
 
 -- the moment of the last input
 abbrev pub last_input : Point → Option ℕ

@@ -1,63 +1,77 @@
 -- A whole run, from where it halts.
 use Rattle.std.proofs.Common.{ℕ, ◌≡◌, List, [], Option, Some, None, refl, sym, ap, subst}
+use Rattle.f2b_base.specs.declared.view.View.{View}
 use Rattle.f2b_world.specs.Told.{History, Standing, Adds}
 use Rattle.f2b_world.specs.Walks.{after, Along}
+use Rattle.f2b_world.specs.declared.event.Event.{Event}
+use Rattle.f2b_world.proofs.AddsLemmas.{adds_weaker}
 use Rattle.run_law.specs.Law.{Ends, Free, Halts, MayCome, begin, begin_with, feed, opening}
 use Rattle.run_law.specs.Points.{Run}
-use Rattle.run_law.specs.Served.{IsCaused, IsRun, PollsEachOnce, SaysInOrder, StartsInTurn}
-use Rattle.run_law.specs.Stages.{HasCause, Refuses}
+use Rattle.run_law.specs.Served.{IsCaused, IsRun, KeepsInputs, PollsEachOnce, SaysInOrder, StartsInTurn}
+use Rattle.run_law.specs.Stages.{HasCause, IsSteady, Refuses}
+use Rattle.run_law.specs.Stops.{BeginsOn, held_in}
 use Rattle.run_law.specs.Words.{plan_of}
 use Rattle.run_law.specs.declared.plan.Plan.{Plan}
 use Rattle.run_law.specs.declared.status.Status.{Status}
 use Rattle.run_law.specs.declared.status.Status.TheVariants.{Stopped, TurnsSpent, WorkloadDone, Usage, ConfFault, ConfRefused, DiskFault, NotAJournal, JournalFull, GateFault, SinkFault, ConfTooLarge, PatternRefused, NumbersSpent, NoMemory}
+use Rattle.run_law.proofs.LongLemmas.{Any, goes_none}
 use Rattle.run_law.proofs.PointLemmas.{halts_here}
 use Rattle.run_law.proofs.PolledLemmas.{polls_each_once}
 use Rattle.run_law.proofs.SaidLemmas.{says_in_order}
 use Rattle.run_law.proofs.StartedLemmas.{starts_in_turn}
+use Rattle.run_law.proofs.StopLemmas.{keeps_inputs}
 
--- where a run halts its events obey the law to the end
-halted : (old new : Option History) (r : Run) (status : Status) (halts : Halts old new r status)
-    → Adds old new (λ g es. Along feed MayCome Free r g es × (after feed MayCome Free r es ≡ halts.last)) → Adds old new (λ g es. Along feed MayCome Free r g es × Ends status (after feed MayCome Free r es))
-halted old None r status halts adds = tt
-halted old (Some h) r status halts adds =
-    let P : Run → Type 0 = λ x. Ends status x in
-    (adds.0, adds.1, adds.2, adds.3, (adds.4.0, subst P (sym adds.4.1) halts.ends))
+-- the run obeys the law to the end
+abbrev Obeyed : List (List ℕ) → Status → History → List Event → Type 0
+Obeyed words status g es = Along feed MayCome Free (begin words (held_in g)) g es × Ends status (after feed MayCome Free (begin words (held_in g)) es)
 
--- and what obeys the law says its lines in order
-ordered : (old new : Option History) (words : List (List ℕ)) (status : Status) → Adds old new (λ g es. Along feed MayCome Free (begin words) g es × Ends status (after feed MayCome Free (begin words) es))
-    → Adds old new (λ g es. SaysInOrder words status es)
-ordered old None words status adds = tt
-ordered old (Some h) words status adds = (adds.0, adds.1, adds.2, adds.3, says_in_order words status adds.0 adds.1 adds.4.0 adds.4.1)
+-- where a run halts its events obey the law
+halted : (words : List (List ℕ)) (status : Status) (g : History) (r last : Run) (es : List Event) → begin words (held_in g) ≡ r → Ends status last
+    → Along feed MayCome Free r g es × (after feed MayCome Free r es ≡ last) → Obeyed words status g es
+halted words status g r last es is ends walk =
+    let P : Run → Type 0 = λ x. Along feed MayCome Free x g es × Ends status (after feed MayCome Free x es) in
+    let Q : Run → Type 0 = λ x. Ends status x in
+    subst P (sym is) (walk.0, subst Q (sym walk.1) ends)
 
--- and starts its commands in their turn
-started : (old new : Option History) (words : List (List ℕ)) (status : Status) → Adds old new (λ g es. Along feed MayCome Free (begin words) g es × Ends status (after feed MayCome Free (begin words) es))
-    → Adds old new (λ g es. StartsInTurn words es)
-started old None words status adds = tt
-started old (Some h) words status adds = (adds.0, adds.1, adds.2, adds.3, starts_in_turn words adds.0 adds.1 adds.4.0)
+obeyed : (old new : Option History) (words : List (List ℕ)) (status : Status) → Adds old new Any → ((g : History) → old ≡ Some g → Halts old new (begin words (held_in g)) status)
+    → Adds old new (λ g es. Obeyed words status g es)
+obeyed old None words status on halts = tt
+obeyed None (Some h) words status on halts = absurd (let e : None ≡ Some on.0 = on.2 in cc)
+obeyed (Some own) (Some h) words status on halts =
+    let r : Halts (Some own) (Some h) (begin words (held_in own)) status = halts own refl in
+    let adds = r.goes.events in
+    let same : own ≡ adds.0 = (let e : Some own ≡ Some adds.0 = adds.2 in cc) in
+    let begins : begin words (held_in adds.0) ≡ begin words (held_in own) = ap (λ (g : History). begin words (held_in g)) (sym same) in
+    (adds.0, adds.1, adds.2, adds.3, halted words status adds.0 (begin words (held_in own)) r.last adds.1 begins r.ends adds.4)
 
--- and polls each of them once a turn
-polled : (old new : Option History) (words : List (List ℕ)) (status : Status) → Adds old new (λ g es. Along feed MayCome Free (begin words) g es × Ends status (after feed MayCome Free (begin words) es))
-    → Adds old new (λ g es. PollsEachOnce words es)
-polled old None words status adds = tt
-polled old (Some h) words status adds = (adds.0, adds.1, adds.2, adds.3, polls_each_once words adds.0 adds.1 adds.4.0)
-
-pub run_is : (old new : Option History) (words : List (List ℕ)) (r : Run) (status : Status) → begin words ≡ r → Halts old new r status → IsRun old new words status
-run_is old new words r status is halts =
-    let P : Run → Type 0 = λ x. Adds old new (λ g es. Along feed MayCome Free x g es × Ends status (after feed MayCome Free x es)) in
-    let law = subst P (sym is) (halted old new r status halts halts.goes.events) in
-    record { law = law; lines = ordered old new words status law; commands = started old new words status law; polls = polled old new words status law }
+run_is : (old new : Option History) (words : List (List ℕ)) (status : Status) → Adds old new Any → ((g : History) → old ≡ Some g → Halts old new (begin words (held_in g)) status) → IsRun old new words status
+run_is old new words status on halts =
+    let P = λ (g : History) (es : List Event). Obeyed words status g es in
+    let law = obeyed old new words status on halts in
+    record {
+      law = law;
+      lines = adds_weaker P (λ g es. SaysInOrder words (held_in g) status es) old new law (λ g es o. says_in_order words (held_in g) status g es o.0 o.1);
+      commands = adds_weaker P (λ g es. StartsInTurn words (held_in g) es) old new law (λ g es o. starts_in_turn words (held_in g) g es o.0);
+      polls = adds_weaker P (λ g es. PollsEachOnce words (held_in g) es) old new law (λ g es o. polls_each_once words (held_in g) g es o.0);
+      inputs = adds_weaker P (λ g es. (v : View) → BeginsOn v g → KeepsInputs words status v g es) old new law (λ g es o v begins. keeps_inputs words status v g es begins o.0 o.1);
+    }
 
 -- a run that was planned
-pub run_planned : (old new : Option History) (words : List (List ℕ)) (plan : Plan) (status : Status) → plan_of words ≡ Some plan → Halts old new (opening plan) status → IsRun old new words status
-run_planned old new words plan status is halts = run_is old new words (opening plan) status (ap begin_with is) halts
+pub run_planned : (a b : Standing) (words : List (List ℕ)) (plan : Plan) (status : Status) → plan_of words ≡ Some plan → IsSteady a b
+    → ((g : History) → a.told ≡ Some g → Halts a.told b.told (opening plan (held_in g)) status) → IsRun a.told b.told words status
+run_planned a b words plan status is steady halts = run_is a.told b.told words status steady.history (λ g told.
+    let P : Run → Type 0 = λ r. Halts a.told b.told r status in
+    subst P (sym (ap (λ (o : Option Plan). begin_with o (held_in g)) is)) (halts g told))
 
 -- a run of words outside the table
-pub run_refused : (a b : Standing) (words : List (List ℕ)) (status : Status) → plan_of words ≡ None → Refuses a b 0 Usage status → IsRun a.told b.told words status
-run_refused a b words status is refuses = run_is a.told b.told words (begin_with None) status (ap begin_with is) (refuses.runs (opening (record { root = []; turns = 0 })) refl)
+pub run_refused : (a b : Standing) (words : List (List ℕ)) (status : Status) → plan_of words ≡ None → IsSteady a b → Refuses a b 0 Usage status → IsRun a.told b.told words status
+run_refused a b words status is steady refuses = run_is a.told b.told words status steady.history (λ g told.
+    let P : Run → Type 0 = λ r. Halts a.told b.told r status in
+    subst P (sym (ap (λ (o : Option Plan). begin_with o (held_in g)) is)) (refuses.runs (opening (record { root = []; turns = 0; limit = 0 }) (held_in g)) (record { written = refl; paid = refl })))
 
 -- memory may run out before anything happens
 pub run_memory : (s : Standing) (words : List (List ℕ)) → IsRun s.told s.told words NoMemory
-run_memory s words = run_is s.told s.told words (begin words) NoMemory refl (halts_here s.told (begin words))
+run_memory s words = run_is s.told s.told words NoMemory (goes_none s.told) (λ g told. halts_here s.told (begin words (held_in g)))
 
 -- the cause of a run is that of its end behind the words
 pub caused : (words : List (List ℕ)) (old new : Standing) (status : Status) → HasCause old new status → IsCaused words old new status

@@ -1,15 +1,21 @@
 -- What an event brings, and how the parts of a run follow each other.
-use Rattle.std.proofs.Common.{ℕ, ◌≡◌, Bool, true, false, Option, Some, None, List, [], ◌++◌, refl, sym, ap, ◌∙◌, subst}
+use Rattle.std.proofs.Common.{ℕ, ◌≡◌, Option, Some, None, List, [], ◌++◌, refl, sym, ap, ◌∙◌, subst}
 use Rattle.f2b_base.specs.declared.input.What.{What}
 use Rattle.f2b_world.specs.Told.{Standing}
+use Rattle.f2b_model.specs.Storable.{IsStorableInput}
+use Rattle.run_law.specs.Disk.{broken}
 use Rattle.run_law.specs.Law.{Goes, Halts}
-use Rattle.run_law.specs.News.{News, after_news, brings, brings_by, entered, goes_to, lines_in, owing, refused, server_after}
+use Rattle.run_law.specs.News.{News, after_news, brings, brings_by, closing, entered, entering, goes_to, lines_in, owing, refused, said_number, server_after, taking, writing}
 use Rattle.run_law.specs.Points.{Point, Run}
-use Rattle.run_law.specs.Server.{Server, is_spent, taken}
-use Rattle.run_law.specs.Stages.{IsAt, IsSaying, Reaches, Moves, MoveFails, Brought, Brings, BringFails, Owes, Says, SayFails, Refuses}
+use Rattle.run_law.specs.Server.{Server, entry_in, input_at, taken}
+use Rattle.run_law.specs.Stages.{IsAt, IsSaying, IsStill, Reaches, Moves, MoveFails, Brought, Brings, BringFails, Owes, Says, SayFails, Refuses}
 use Rattle.run_law.specs.declared.status.Status.{Status}
-use Rattle.run_law.specs.declared.status.Status.TheVariants.{NumbersSpent, NoMemory}
+use Rattle.run_law.specs.declared.status.Status.TheVariants.{DiskFault, JournalFull, NumbersSpent, NoMemory}
 use Rattle.run_law.proofs.PointLemmas.{goes_refl, goes_trans, halts_after, halts_here}
+use Rattle.run_law.proofs.WriteLemmas.{breaks_goes, performs_goes, stops_short}
+use Rattle.slot_writes.specs.Entries.{Entry, Written, Full, Spent}
+use Rattle.slot_writes.specs.Writes.{Write, Performs, Breaks, StopsShort}
+use Rattle.slot_writes.specs.declared.position.Position.{Position}
 
 -- ---- what `brings` is, by what the news are
 
@@ -18,44 +24,52 @@ is_told : (news : News) (next : Server → Point) (s : Server) (r : Run) → new
 unfolding brings
 is_told news next s r is = ap (λ (o : Option What). brings_by o news next s r) is
 
--- an input
-is_taken : (news : News) (what : What) (next : Server → Point) (s : Server) (r : Run) → news.what ≡ Some what → is_spent s ≡ false
-    → brings news next s r ≡ owing (lines_in news what s) (goes_to (next (taken what s)) r)
+-- an input that is written
+is_written : (news : News) (what : What) (next : Server → Point) (s : Server) (r : Run) (after : Position) (ws : List Write) → news.what ≡ Some what → entry_in s what ≡ Written after ws
+    → brings news next s r ≡ writing ws (taking news what next s r)
 unfolding brings
-is_taken news what next s r is live = ap (λ (o : Option What). brings_by o news next s r) is ∙ ap (λ (b : Bool). entered b news what next s r) live
+is_written news what next s r after ws is entry = ap (λ (o : Option What). brings_by o news next s r) is ∙ ap (λ (e : Entry). entered e news what next s r) entry
 
 -- an input that no number is left for
-is_refused : (news : News) (what : What) (next : Server → Point) (s : Server) (r : Run) → news.what ≡ Some what → is_spent s ≡ true → brings news next s r ≡ refused s.now NumbersSpent r
+is_spent : (news : News) (what : What) (next : Server → Point) (s : Server) (r : Run) → news.what ≡ Some what → entry_in s what ≡ Spent
+    → brings news next s r ≡ refused s.now NumbersSpent (entering (input_at s what) r)
 unfolding brings
-is_refused news what next s r is over = ap (λ (o : Option What). brings_by o news next s r) is ∙ ap (λ (b : Bool). entered b news what next s r) over
+is_spent news what next s r is entry = ap (λ (o : Option What). brings_by o news next s r) is ∙ ap (λ (e : Entry). entered e news what next s r) entry
+
+-- an input that there is no room for
+is_full : (news : News) (what : What) (next : Server → Point) (s : Server) (r : Run) (need : ℕ) → news.what ≡ Some what → entry_in s what ≡ Full need
+    → brings news next s r ≡ refused s.now (JournalFull (said_number need) s.position.limit) (entering (input_at s what) r)
+unfolding brings
+is_full news what next s r need is entry = ap (λ (o : Option What). brings_by o news next s r) is ∙ ap (λ (e : Entry). entered e news what next s r) entry
 
 -- a run whose lines were all said owes just the new ones
-owes_new : (r : Run) (there : Point) (lines : List (List ℕ)) → r.owed ≡ [] → IsSaying there → Owes (owing lines (goes_to there r)) lines
-owes_new r there lines paid saying = record { owed = ap (λ (ls : List (List ℕ)). ls ++ lines) paid; saying = saying }
+owes_new : (r : Run) (there : Point) (lines : List (List ℕ)) → IsStill r → IsSaying there → Owes (owing lines (goes_to there r)) lines
+owes_new r there lines still saying = record { written = still.written; owed = ap (λ (ls : List (List ℕ)). ls ++ lines) still.paid; saying = saying }
+
+-- a run whose last input was closed owes just its lines
+owes_closed : (news : News) (what : What) (next : Server → Point) (s : Server) (r : Run) → r.owed ≡ [] → IsSaying (next (taken what s)) → Owes (closing (taking news what next s r)) (lines_in news what s)
+owes_closed news what next s r paid saying = record { written = refl; owed = ap (λ (ls : List (List ℕ)). ls ++ lines_in news what s) paid; saying = saying }
 
 module _ {C : Type 0} (Keeps : Server → C → Type 0) where
   -- ---- behind an event that brings something
 
-  brought_said : (a b : Standing) (lines : List (List ℕ)) (r : Run) (there : Point) (t : Server) (after : C) → r.owed ≡ [] → IsSaying there → Says a b lines → Keeps t after
-      → Brought Keeps a b (owing lines (goes_to there r)) there t after
-  brought_said a b lines r there t after paid saying says keeps =
-      let mid = owing lines (goes_to there r) in
-      record {
-        to = record mid { said = r.said ++ lines; owed = [] };
-        goes = says.runs mid (owes_new r there lines paid saying);
-        at = record { point = refl; paid = refl };
-        keeps = keeps;
-      }
-
-  -- the lines of an input were said
-  pub brings_taken : (a b : Standing) (news : News) (what : What) (r : Run) (at next : Server → Point) (s : Server) (after : C) → ((t : Server) → IsSaying (next t)) → IsAt r (at s)
-      → news.what ≡ Some what → is_spent s ≡ false → Says a b (lines_in news what s) → Keeps (taken what s) after
+  -- the input was written, and its lines were said
+  pub brings_taken : (a m b : Standing) (news : News) (what : What) (r : Run) (at next : Server → Point) (s : Server) (at_end : Position) (ws : List Write) (after : C)
+      → ((t : Server) → IsSaying (next t)) → IsAt r (at s) → news.what ≡ Some what → entry_in s what ≡ Written at_end ws → IsStorableInput (input_at s what)
+      → Performs ws a.told m.told → Says m b (lines_in news what s) → Keeps (taken what s) after
       → Brought Keeps a b (brings news next s r) (next (after_news news s)) (after_news news s) after
-  brings_taken a b news what r at next s after saying is_at is live says keeps =
+  brings_taken a m b news what r at next s at_end ws after saying is_at is entry stored performs says keeps =
       let there : taken what s ≡ after_news news s = ap (λ (o : Option What). server_after o s) (sym is) in
       let P : Run → Type 0 = λ x. Brought Keeps a b x (next (taken what s)) (taken what s) after in
       let Q : Server → Type 0 = λ t. Brought Keeps a b (brings news next s r) (next t) t after in
-      subst Q there (subst P (sym (is_taken news what next s r is live)) (brought_said a b (lines_in news what s) r (next (taken what s)) (taken what s) after is_at.paid (saying (taken what s)) says keeps))
+      let mid = taking news what next s r in
+      let done = closing mid in
+      subst Q there (subst P (sym (is_written news what next s r at_end ws is entry)) (record {
+        to = record done { said = r.said ++ lines_in news what s; owed = [] };
+        goes = goes_trans a.told m.told b.told _ done _ (performs_goes mid stored ws a.told m.told performs) (says.runs done (owes_closed news what next s r is_at.still.paid (saying (taken what s))));
+        at = record { point = refl; still = record { written = refl; paid = refl } };
+        keeps = keeps;
+      }))
 
   -- lines alone were said
   pub brings_told : (a b : Standing) (news : News) (r : Run) (at next : Server → Point) (s : Server) (after : C) → ((t : Server) → IsSaying (next t)) → IsAt r (at s)
@@ -64,28 +78,65 @@ module _ {C : Type 0} (Keeps : Server → C → Type 0) where
       let there : s ≡ after_news news s = ap (λ (o : Option What). server_after o s) (sym is) in
       let P : Run → Type 0 = λ x. Brought Keeps a b x (next s) s after in
       let Q : Server → Type 0 = λ t. Brought Keeps a b (brings news next s r) (next t) t after in
-      subst Q there (subst P (sym (is_told news next s r is)) (brought_said a b (news.before ++ news.behind) r (next s) s after is_at.paid (saying s) says keeps))
+      let mid = owing (news.before ++ news.behind) (goes_to (next s) r) in
+      subst Q there (subst P (sym (is_told news next s r is)) (record {
+        to = record mid { said = r.said ++ (news.before ++ news.behind); owed = [] };
+        goes = says.runs mid (owes_new r (next s) (news.before ++ news.behind) is_at.still (saying s));
+        at = record { point = refl; still = record { written = is_at.still.written; paid = refl } };
+        keeps = keeps;
+      }))
 
-  -- the lines of an input could not be said
-  pub fails_taken : (a b : Standing) (news : News) (what : What) (r : Run) (at next : Server → Point) (s : Server) (status : Status) → ((t : Server) → IsSaying (next t)) → IsAt r (at s)
-      → news.what ≡ Some what → is_spent s ≡ false → SayFails a b (lines_in news what s) status → Halts a.told b.told (brings news next s r) status
-  fails_taken a b news what r at next s status saying is_at is live fails =
+  -- the input was written, and its lines could not be said
+  pub fails_taken : (a m b : Standing) (news : News) (what : What) (r : Run) (at next : Server → Point) (s : Server) (at_end : Position) (ws : List Write) (status : Status)
+      → ((t : Server) → IsSaying (next t)) → IsAt r (at s) → news.what ≡ Some what → entry_in s what ≡ Written at_end ws → IsStorableInput (input_at s what)
+      → Performs ws a.told m.told → SayFails m b (lines_in news what s) status → Halts a.told b.told (brings news next s r) status
+  fails_taken a m b news what r at next s at_end ws status saying is_at is entry stored performs fails =
       let P : Run → Type 0 = λ x. Halts a.told b.told x status in
-      subst P (sym (is_taken news what next s r is live)) (fails.runs _ (owes_new r (next (taken what s)) (lines_in news what s) is_at.paid (saying (taken what s))))
+      let mid = taking news what next s r in
+      subst P (sym (is_written news what next s r at_end ws is entry)) (halts_after a.told m.told b.told _ (closing mid) status (performs_goes mid stored ws a.told m.told performs)
+      (fails.runs (closing mid) (owes_closed news what next s r is_at.still.paid (saying (taken what s)))))
+
+  -- The disk failed while the input was written. The run ends with that once it is said, or since that could not be said.
+  pub fails_broken : (a m b : Standing) (news : News) (what : What) (r : Run) (at next : Server → Point) (s : Server) (at_end : Position) (ws : List Write) (status : Status)
+      → IsAt r (at s) → news.what ≡ Some what → entry_in s what ≡ Written at_end ws → IsStorableInput (input_at s what)
+      → Breaks ws a.told m.told → Refuses m b s.now DiskFault status → Halts a.told b.told (brings news next s r) status
+  fails_broken a m b news what r at next s at_end ws status is_at is entry stored breaks refuses =
+      let P : Run → Type 0 = λ x. Halts a.told b.told x status in
+      let mid = taking news what next s r in
+      let calm : Run = record mid { owed = []; writes = []; held = [] } in
+      subst P (sym (is_written news what next s r at_end ws is entry)) (halts_after a.told m.told b.told _ (broken mid) status (breaks_goes mid stored ws a.told m.told breaks)
+      (refuses.runs calm (record { written = refl; paid = refl })))
+
+  -- memory ran out while it was written
+  pub fails_short : (a b : Standing) (news : News) (what : What) (r : Run) (next : Server → Point) (s : Server) (at_end : Position) (ws : List Write)
+      → news.what ≡ Some what → entry_in s what ≡ Written at_end ws → IsStorableInput (input_at s what) → StopsShort ws a.told b.told → Halts a.told b.told (brings news next s r) NoMemory
+  fails_short a b news what r next s at_end ws is entry stored stops =
+      let P : Run → Type 0 = λ x. Halts a.told b.told x NoMemory in
+      subst P (sym (is_written news what next s r at_end ws is entry)) (stops_short (taking news what next s r) stored ws a.told b.told stops)
 
   -- lines alone could not be said
   pub fails_told : (a b : Standing) (news : News) (r : Run) (at next : Server → Point) (s : Server) (status : Status) → ((t : Server) → IsSaying (next t)) → IsAt r (at s)
       → news.what ≡ None → SayFails a b (news.before ++ news.behind) status → Halts a.told b.told (brings news next s r) status
   fails_told a b news r at next s status saying is_at is fails =
       let P : Run → Type 0 = λ x. Halts a.told b.told x status in
-      subst P (sym (is_told news next s r is)) (fails.runs _ (owes_new r (next s) (news.before ++ news.behind) is_at.paid (saying s)))
+      subst P (sym (is_told news next s r is)) (fails.runs _ (owes_new r (next s) (news.before ++ news.behind) is_at.still (saying s)))
+
+  still_entering : (r : Run) (what : What) (s : Server) → IsStill r → IsStill (entering (input_at s what) r)
+  still_entering r what s still = record { written = still.written; paid = still.paid }
 
   -- no number was left for an input
   pub fails_spent : (a b : Standing) (news : News) (what : What) (r : Run) (at next : Server → Point) (s : Server) (status : Status) → IsAt r (at s)
-      → news.what ≡ Some what → is_spent s ≡ true → Refuses a b s.now NumbersSpent status → Halts a.told b.told (brings news next s r) status
-  fails_spent a b news what r at next s status is_at is over refuses =
+      → news.what ≡ Some what → entry_in s what ≡ Spent → Refuses a b s.now NumbersSpent status → Halts a.told b.told (brings news next s r) status
+  fails_spent a b news what r at next s status is_at is entry refuses =
       let P : Run → Type 0 = λ x. Halts a.told b.told x status in
-      subst P (sym (is_refused news what next s r is over)) (refuses.runs r is_at.paid)
+      subst P (sym (is_spent news what next s r is entry)) (refuses.runs (entering (input_at s what) r) (still_entering r what s is_at.still))
+
+  -- no room was left for it
+  pub fails_full : (a b : Standing) (news : News) (what : What) (r : Run) (at next : Server → Point) (s : Server) (need : ℕ) (status : Status) → IsAt r (at s)
+      → news.what ≡ Some what → entry_in s what ≡ Full need → Refuses a b s.now (JournalFull (said_number need) s.position.limit) status → Halts a.told b.told (brings news next s r) status
+  fails_full a b news what r at next s need status is_at is entry refuses =
+      let P : Run → Type 0 = λ x. Halts a.told b.told x status in
+      subst P (sym (is_full news what next s r need is entry)) (refuses.runs (entering (input_at s what) r) (still_entering r what s is_at.still))
 
   -- memory ran out behind the event
   pub fails_early : (a : Standing) (news : Server → News) (before : C) → BringFails Keeps a a news before NoMemory
@@ -142,14 +193,14 @@ module _ {C : Type 0} (Keeps : Server → C → Type 0) where
       → Moves Keeps a b first last before after → Moves Keeps a b from to before after
   moves_as a b from first to last before after begins ends moves = record {
     runs = λ r s at keeps.
-        let one = moves.runs r s (record { point = at.point ∙ begins s keeps; paid = at.paid }) keeps in
-        record { to = one.to; server = one.server; goes = one.goes; at = record { point = one.at.point ∙ ends one.server one.keeps; paid = one.at.paid }; keeps = one.keeps };
+        let one = moves.runs r s (record { point = at.point ∙ begins s keeps; still = at.still }) keeps in
+        record { to = one.to; server = one.server; goes = one.goes; at = record { point = one.at.point ∙ ends one.server one.keeps; still = one.at.still }; keeps = one.keeps };
   }
 
   pub fails_as : (a b : Standing) (from first : Server → Point) (before : C) (status : Status) → ((s : Server) → Keeps s before → from s ≡ first s) → MoveFails Keeps a b first before status
       → MoveFails Keeps a b from before status
   fails_as a b from first before status begins fails = record {
-    runs = λ r s at keeps. fails.runs r s (record { point = at.point ∙ begins s keeps; paid = at.paid }) keeps;
+    runs = λ r s at keeps. fails.runs r s (record { point = at.point ∙ begins s keeps; still = at.still }) keeps;
   }
 
   -- ---- behind an event
@@ -157,7 +208,7 @@ module _ {C : Type 0} (Keeps : Server → C → Type 0) where
   -- the run only goes to a point
   pub reaches_plain : (a b : Standing) (r : Run) (from there : Point) (next : Server → Point) (s : Server) (after : C) → IsAt r from → Goes a.told b.told r (goes_to there r) → there ≡ next s → Keeps s after
       → Reaches Keeps a b r next after
-  reaches_plain a b r from there next s after at goes is keeps = record { to = goes_to there r; server = s; goes = goes; at = record { point = is; paid = at.paid }; keeps = keeps }
+  reaches_plain a b r from there next s after at goes is keeps = record { to = goes_to there r; server = s; goes = goes; at = record { point = is; still = record { written = at.still.written; paid = at.still.paid } }; keeps = keeps }
 
   -- the event brought something
   pub reaches_brought : (a b c : Standing) (r : Run) (at next : Server → Point) (news : Server → News) (s : Server) (mid after : C) → ((t : Server) → IsSaying (next t)) → IsAt r (at s)

@@ -15,7 +15,16 @@ use Rattle.f2b_world.specs.declared.event.Event.{Event}
 use Rattle.f2b_world.specs.declared.event.Event.TheVariants.{Say, Make, Config, Names}
 use Rattle.host_ident.specs.Expanded.{expanded as expanded_tags}
 use Rattle.jail_conf.specs.declared.settings.Settings.{Settings}
-use Rattle.run_law.specs.Calls.{AskSay, AskTree, AskMake, AskClock, AskNames, AskLook}
+use Rattle.journal_slots.specs.Grammar.{parse_slot}
+use Rattle.journal_slots.specs.Starts.{generation, start, version}
+use Rattle.record_codec.specs.Definitions.{ban_rule, date as date_codec, defs as defs_codec, jail_def, name as name_codec, watch_def}
+use Rattle.record_codec.specs.Inputs.{input, what}
+use Rattle.record_codec.specs.Views.{view as view_codec}
+use Rattle.record_fields.specs.Addresses.{eight}
+use Rattle.record_fields.specs.Lists.{list_of}
+use Rattle.record_fields.specs.Numbers.{digits as number_digits}
+use Rattle.record_fields.specs.Texts.{string_spelling}
+use Rattle.run_law.specs.Calls.{AskSay, AskTree, AskMake, AskStore, AskClock, AskNames, AskLook}
 use Rattle.run_law.specs.Changes.{config_changes}
 use Rattle.run_law.specs.Law.{begin, next_call, opening}
 use Rattle.run_law.specs.News.{brings}
@@ -26,22 +35,22 @@ use Rattle.run_law.specs.Said.{lines_of, ready_line, stamped, unread_line}
 use Rattle.run_law.specs.Start.{defined}
 use Rattle.run_law.specs.Turn.{to_accept, to_children, to_end, to_logs, to_starts}
 use Rattle.run_law.specs.declared.status.Status.TheVariants.{ConfTooLarge}
-use Rattle.run_law.proofs.RowJails.{after_all, clock, from_head, jail, last_input, plan}
+use Rattle.run_law.proofs.RowJails.{after_all, changed, clock, from_head, jail, last_input, named_slots, no_slots, plan}
 
 -- ---- words
 
 abbrev asked : Run
-asked = begin (codes "--conf" ∷ codes "/c" ∷ codes "--turns" ∷ codes "1" ∷ [])
+asked = begin (codes "--conf" ∷ codes "/c" ∷ codes "--turns" ∷ codes "1" ∷ []) no_slots
 
 reads_the_configuration_first : next_call asked ≡ Some (AskTree (codes "/c"))
 unfolding digits
 reads_the_configuration_first = refl
 
-refuses_a_word_alone : next_call (begin (codes "--conf" ∷ [])) ≡ Some (AskSay (codes "0 ERROR usage\n"))
+refuses_a_word_alone : next_call (begin (codes "--conf" ∷ []) no_slots) ≡ Some (AskSay (codes "0 ERROR usage\n"))
 unfolding status_lines error_line stamped digits
 refuses_a_word_alone = refl
 
-refuses_a_leading_zero : next_call (begin (codes "--conf" ∷ codes "/c" ∷ codes "--turns" ∷ codes "01" ∷ [])) ≡ Some (AskSay (codes "0 ERROR usage\n"))
+refuses_a_leading_zero : next_call (begin (codes "--conf" ∷ codes "/c" ∷ codes "--turns" ∷ codes "01" ∷ []) no_slots) ≡ Some (AskSay (codes "0 ERROR usage\n"))
 unfolding status_lines error_line stamped digits
 refuses_a_leading_zero = refl
 
@@ -61,14 +70,14 @@ of_jails jails = record { defs = record { purge = 86400; jails = jails }; socket
 abbrev with_action : JailDef
 with_action = record (jail (codes "a") [] []) { actions = record { name = codes "fw"; family = Both; start = []; stop = []; ban = []; unban = []; check = []; timeout = 60 } ∷ [] }
 
-takes_an_action : next_call (defined (Ok (of_jails (jail (codes "b") [] [] ∷ with_action ∷ []))) (opening plan)) ≡ Some AskClock
+takes_an_action : next_call (defined (Ok (of_jails (jail (codes "b") [] [] ∷ with_action ∷ []))) (opening plan no_slots)) ≡ Some (AskStore (codes "/s"))
 unfolding expanded_tags
 takes_an_action = refl
 
 -- ---- patterns, jail by jail
 
 abbrev making : Run
-making = defined (Ok (of_jails (jail (codes "a") (codes "x" ∷ codes "y" ∷ []) [] ∷ jail (codes "b") (codes "z" ∷ []) [] ∷ []))) (opening plan)
+making = defined (Ok (of_jails (jail (codes "a") (codes "x" ∷ codes "y" ∷ []) [] ∷ jail (codes "b") (codes "z" ∷ []) [] ∷ []))) (opening plan no_slots)
 
 makes_the_second_pattern : next_call (after_all making (Make (codes "x") Built ∷ [])) ≡ Some (AskMake (codes "y"))
 unfolding expanded_tags
@@ -79,21 +88,28 @@ says_which_pattern_is_refused : next_call (after_all making (Make (codes "x") Bu
 unfolding expanded_tags status_lines error_line pattern_refusal stamped digits
 says_which_pattern_is_refused = refl
 
-reads_the_clock_behind_the_last : next_call (after_all making (Make (codes "x") Built ∷ Make (codes "y") Built ∷ Make (codes "z") Built ∷ [])) ≡ Some AskClock
+abbrev made : List Event
+made = Make (codes "x") Built ∷ Make (codes "y") Built ∷ Make (codes "z") Built ∷ []
+
+names_the_slots_behind_the_last : next_call (after_all making made) ≡ Some (AskStore (codes "/s"))
 unfolding expanded_tags
-reads_the_clock_behind_the_last = refl
+names_the_slots_behind_the_last = refl
+
+reads_the_clock_behind_them : next_call (after_all making (made ++ named_slots (codes "/s") ∷ [])) ≡ Some AskClock
+unfolding expanded_tags parse_slot
+reads_the_clock_behind_them = refl
 
 -- ---- a configuration of nothing is no input
 
 abbrev empty : Run
-empty = defined (Ok (of_jails [])) (opening plan)
+empty = defined (Ok (of_jails [])) (opening plan no_slots)
 
-says_that_it_is_ready : next_call (after_all empty (clock 1000 ∷ [])) ≡ Some (AskSay (codes "1000 INFO Server ready\n"))
-unfolding brings config_changes ready_line stamped digits
+says_that_it_is_ready : next_call (after_all empty (named_slots (codes "/s") ∷ clock 1000 ∷ [])) ≡ Some (AskSay (codes "1000 INFO Server ready\n"))
+unfolding brings config_changes ready_line stamped digits parse_slot
 says_that_it_is_ready = refl
 
-takes_no_configuration_of_nothing : last_input (after_all empty (clock 1000 ∷ [])).point ≡ Some 0
-unfolding brings config_changes
+takes_no_configuration_of_nothing : last_input (after_all empty (named_slots (codes "/s") ∷ clock 1000 ∷ [])).point ≡ Some 0
+unfolding brings config_changes parse_slot
 takes_no_configuration_of_nothing = refl
 
 -- ---- names in place of wildcards
@@ -105,43 +121,43 @@ abbrev defs : Defs
 defs = record { purge = 86400; jails = followed ∷ [] }
 
 abbrev naming : Run
-naming = defined (Ok (record { defs = defs; socket = [] })) (opening plan)
+naming = defined (Ok (record { defs = defs; socket = [] })) (opening plan no_slots)
 
-asks_for_the_names_of_the_first : next_call (after_all naming (clock 1000 ∷ [])) ≡ Some (AskNames (codes "/var/log"))
-unfolding brings
+asks_for_the_names_of_the_first : next_call (after_all naming (named_slots [] ∷ clock 1000 ∷ [])) ≡ Some (AskNames (codes "/var/log"))
+unfolding brings parse_slot
 asks_for_the_names_of_the_first = refl
 
 abbrev given : Event
 given = Names (codes "/var/log") (NamesGiven (codes "a1.log" ∷ codes "a2.log" ∷ codes "b.log" ∷ []))
 
 -- the path between has no wildcard, and the last one stands in the root
-asks_for_those_in_the_root : next_call (after_all naming (clock 1000 ∷ given ∷ [])) ≡ Some (AskNames (codes "/"))
-unfolding brings expanded chars
+asks_for_those_in_the_root : next_call (after_all naming (named_slots [] ∷ clock 1000 ∷ given ∷ [])) ≡ Some (AskNames (codes "/"))
+unfolding brings expanded chars parse_slot
 asks_for_those_in_the_root = refl
 
 -- that the root cannot be listed is said first, and the start last, in one call
 abbrev named_all : List Event
-named_all = clock 1000 ∷ given ∷ Names (codes "/") NamesFailed ∷ []
+named_all = named_slots [] ∷ clock 1000 ∷ given ∷ Names (codes "/") NamesFailed ∷ []
 
-says_what_it_cannot_list_and_is_ready : next_call (after_all naming named_all) ≡ Some (AskSay (codes "1000 WARNING [a] cannot read /c?\n1000 INFO Server ready\n"))
-unfolding brings expanded chars config_changes lines_of unread_line ready_line stamped digits
+says_what_it_cannot_list_and_is_ready : next_call (after_all naming (named_all ++ changed)) ≡ Some (AskSay (codes "1000 WARNING [a] cannot read /c?\n1000 INFO Server ready\n"))
+unfolding brings expanded chars config_changes lines_of unread_line ready_line stamped digits parse_slot input what defs_codec jail_def name_codec watch_def date_codec ban_rule string_spelling list_of view_codec start generation version eight number_digits
 says_what_it_cannot_list_and_is_ready = refl
 
 takes_the_configuration : last_input (after_all naming named_all).point ≡ Some 1000
-unfolding brings expanded chars config_changes
+unfolding brings expanded chars config_changes parse_slot input what defs_codec jail_def name_codec watch_def date_codec ban_rule string_spelling list_of view_codec start generation version eight number_digits
 takes_the_configuration = refl
 
 -- the first log is the first name that fits
 abbrev begun : List Event
-begun = named_all ++ Say (codes "1000 WARNING [a] cannot read /c?\n1000 INFO Server ready\n") Done ∷ clock 1001 ∷ []
+begun = named_all ++ changed ++ Say (codes "1000 WARNING [a] cannot read /c?\n1000 INFO Server ready\n") Done ∷ clock 1001 ∷ []
 
 looks_at_the_first_name : next_call (after_all naming begun) ≡ Some (AskLook (codes "/var/log/a1.log") 64 0 65536)
-unfolding brings expanded chars config_changes lines_of unread_line ready_line stamped digits to_logs to_children to_accept to_starts to_end
+unfolding brings expanded chars config_changes lines_of unread_line ready_line stamped digits to_logs to_children to_accept to_starts to_end parse_slot input what defs_codec jail_def name_codec watch_def date_codec ban_rule string_spelling list_of view_codec start generation version eight number_digits
 looks_at_the_first_name = refl
 
 -- a directory that is not there has no names, and nothing is said of it
-says_nothing_of_an_absent_directory : next_call (after_all naming (clock 1000 ∷ Names (codes "/var/log") NamesAbsent ∷ Names (codes "/") NamesAbsent ∷ [])) ≡ Some (AskSay (codes "1000 INFO Server ready\n"))
-unfolding brings expanded chars config_changes lines_of ready_line stamped digits
+says_nothing_of_an_absent_directory : next_call (after_all naming (named_slots [] ∷ clock 1000 ∷ Names (codes "/var/log") NamesAbsent ∷ Names (codes "/") NamesAbsent ∷ changed)) ≡ Some (AskSay (codes "1000 INFO Server ready\n"))
+unfolding brings expanded chars config_changes lines_of ready_line stamped digits parse_slot input what defs_codec jail_def name_codec watch_def date_codec ban_rule string_spelling list_of view_codec start generation version eight number_digits
 says_nothing_of_an_absent_directory = refl
 
 -- of names in any order the first in byte order come first, and a path that a pattern gives again is one log

@@ -1,7 +1,6 @@
 -- From the law alone: each start is of the job that comes next, and none that may be started waits at a pause.
 use Rattle.std.proofs.Common.{ℕ, zero, suc, ◌≡◌, ◌+◌, ◌-◌, Bool, true, false, cond, nat_lt, List, [], ◌∷◌, length, take, Option, Some, None, Result, Ok, Err, refl, sym, ap, subst}
 use Rattle.std.specs.Prelude.{slice_get, option_map}
-use Rattle.f2b_base.specs.declared.input.What.{What}
 use Rattle.f2b_base.specs.declared.job.Job.{Job}
 use Rattle.f2b_base.specs.declared.job.Outcome.{Outcome}
 use Rattle.f2b_base.specs.declared.job.Outcome.TheVariants.{Status as EndedWith, NotStarted, TimedOut}
@@ -20,7 +19,7 @@ use Rattle.f2b_world.specs.declared.answer.Said.TheVariants.{Done, Failed as Say
 use Rattle.f2b_world.specs.declared.answer.StartAnswer.{StartAnswer}
 use Rattle.f2b_world.specs.declared.answer.StartAnswer.TheVariants.{Started, Failed as StartFailed, NoMemory as StartNoMemory}
 use Rattle.f2b_world.specs.declared.event.Event.{Event}
-use Rattle.f2b_world.specs.declared.event.Event.TheVariants.{Say, Make, Clock, Config, Names, Look as LookAt, ChildStart, ChildPoll, ChildKill, Pause}
+use Rattle.f2b_world.specs.declared.event.Event.TheVariants.{Say, DiskLen, DiskRead, DiskWrite, DiskSync, Make, Clock, Config, StoreAt, Names, Look as LookAt, ChildStart, ChildPoll, ChildKill, Pause}
 use Rattle.child_table.specs.Late.{is_late}
 use Rattle.child_table.specs.declared.child.Child.{Child}
 use Rattle.jail_conf.specs.Conf.{conf}
@@ -31,20 +30,23 @@ use Rattle.run_law.specs.Calls.{Call, AskKill, AskPoll, IsNext}
 use Rattle.run_law.specs.Children.{checked_first, startable}
 use Rattle.run_law.specs.Clock.{tick_news}
 use Rattle.run_law.specs.Law.{Free, MayCome, begin, begin_with, call_of, feed, moved, point_call, turns}
+use Rattle.reconcile.specs.Loads.{Loaded, loaded}
 use Rattle.run_law.specs.Looks.{log_call, look_news, look_taken, looked, looked_at, now_is, unread_news}
-use Rattle.run_law.specs.News.{News, brings, brings_by, entered}
+use Rattle.run_law.specs.News.{News, after_news, brings}
 use Rattle.run_law.specs.Paths.{Path, Naming, first_naming, named, with_paths}
 use Rattle.run_law.specs.Patterns.{Pattern, patterns_of}
-use Rattle.run_law.specs.Pause.{paused, turned}
-use Rattle.run_law.specs.Points.{Place, AtClock, AtLook, AtPoll, AtKill, AtStart, AtPause, Point, AtTree, AtMakes, AtFirst, AtNames, AtTurn, Over, Run}
+use Rattle.run_law.specs.Pause.{turned}
+use Rattle.run_law.specs.Points.{Place, AtClock, AtLook, AtPoll, AtKill, AtStart, AtPause, Point, AtTree, AtMakes, AtStore, AtFirst, AtNames, AtTurn, Over, Run}
 use Rattle.run_law.specs.Polls.{end_news, ended_as, gone, gone_passed, has_succeeded, killed_at, polled_at, still_point}
 use Rattle.run_law.specs.Served.{IsAllStarted, IsStartFor, StartsAt, StartsInTurn, run_after}
-use Rattle.run_law.specs.Server.{Server, begun, is_spent, is_stopping, jobs, lanes_up, log_jails, read_at, taken}
-use Rattle.run_law.specs.Start.{defined, first_turn, made, makes_on, names_call, names_in, start_news, to_makes, to_names, tree_read, unread_by}
+use Rattle.run_law.specs.Server.{Server, begun, is_stopping, jobs, lanes_up, log_jails, read_at}
+use Rattle.run_law.specs.Start.{defined, first_turn, loads, made, makes_on, names_call, names_in, start_news, to_makes, to_names, tree_read, unread_by}
 use Rattle.run_law.specs.Starts.{child_started, with_child, without_child}
 use Rattle.run_law.specs.Turn.{look_point, start_place, start_point, to_accept, to_children, to_end, to_logs, to_looks, to_polls, to_starts}
 use Rattle.run_law.specs.Words.{plan_of}
 use Rattle.run_law.specs.declared.plan.Plan.{Plan}
+use Rattle.run_law.proofs.DiskLemmas.{next_behind}
+use Rattle.run_law.proofs.NewsLemmas.{brings_point, measured_point, piece_point, synced_point, wrote_point}
 use Rattle.run_law.proofs.PointLemmas.{paid_call}
 use Rattle.run_law.proofs.SaidLemmas.{may_at, pause_next, start_next}
 
@@ -112,18 +114,8 @@ due_makes settings (p ∷ ps) = tt
 
 -- ---- what an event brings leads to such a point
 
-module _ (news : News) (next : Server → Point) (due : (t : Server) → IsDue (next t)) (s : Server) (r : Run) where
-  due_entered : (spent : Bool) (what : What) → IsDue (entered spent news what next s r).point
-  due_entered true what = tt
-  due_entered false what = due (taken what s)
-
-  due_by : (o : Option What) → IsDue (brings_by o news next s r).point
-  due_by None = due s
-  due_by (Some what) = due_entered (is_spent s) what
-
-  due_brings : IsDue (brings news next s r).point
-  unfolding brings
-  due_brings = due_by news.what
+due_brings : (news : News) (next : Server → Point) → ((t : Server) → IsDue (next t)) → (s : Server) (r : Run) → IsDue (brings news next s r).point
+due_brings news next due s r = brings_point IsDue (λ need limit. tt) tt news next s r (due (after_news news s))
 
 -- ---- the start of a run
 
@@ -145,6 +137,10 @@ due_made WasTooBig settings p ps r = tt
 due_makes_on : (left : List Pattern) (answer : MakeAnswer) (settings : Settings) (r : Run) → IsDue r.point → IsDue (makes_on left answer settings r).point
 due_makes_on [] answer settings r same = same
 due_makes_on (p ∷ ps) answer settings r same = due_made answer settings p ps r
+
+due_loads : (o : Result Loaded (ℕ × ℕ)) (settings : Settings) (r : Run) → IsDue (loads o settings r).point
+due_loads (Ok l) settings r = tt
+due_loads (Err place) settings r = tt
 
 due_names : (before : List (List ℕ)) (settings : Settings) (naming : Naming) (left : List Path) (s : Server) (r : Run) → IsDue (to_names before settings naming left s r).point
 due_names before settings naming [] s r = due_brings (start_news before (with_paths settings.defs naming.found) s) first_turn (λ t. tt) s r
@@ -193,7 +189,8 @@ due_turns _ _ s r same = same
 due_moved : (point : Point) (event : Event) (r : Run) → IsDue r.point → IsDue (moved point event r).point
 due_moved AtTree (Config root answer) r same = due_tree answer r same
 due_moved (AtMakes settings left) (Make text answer) r same = due_makes_on left answer settings r same
-due_moved (AtFirst settings) (Clock answer) r same = due_names [] settings (first_naming settings.defs) (first_naming settings.defs).left (begun r.plan.turns answer) r
+due_moved (AtStore settings) (StoreAt socket answer) r same = due_loads (loaded r.plan.limit r.slots) settings r
+due_moved (AtFirst settings l) (Clock answer) r same = due_names [] settings (first_naming settings.defs) (first_naming settings.defs).left (begun r.plan.turns l answer) r
 due_moved (AtNames settings naming s) (Names dir answer) r same =
     let next = named (names_in answer) naming in due_names (unread_by answer s.now naming.left) settings next next.left s r
 due_moved (AtTurn place s) event r same = due_turns place event s r same
@@ -202,6 +199,10 @@ due_moved _ _ r same = same
 due_feed : (r : Run) (event : Event) → IsDue r.point → IsDue (feed r event).point
 due_feed r (Say bytes Done) same = same
 due_feed r (Say bytes SayFailed) same = tt
+due_feed r (DiskLen slot answer) same = measured_point IsDue tt r same answer
+due_feed r (DiskRead slot at len answer) same = piece_point IsDue tt r same answer
+due_feed r (DiskWrite slot at bytes answer) same = wrote_point IsDue tt r same answer
+due_feed r (DiskSync slot answer) same = synced_point IsDue tt r same answer
 due_feed r event same = due_moved r.point event r same
 
 -- ---- whole runs
@@ -211,12 +212,12 @@ due_after r es same zero = same
 due_after r [] same (suc k) = same
 due_after r (event ∷ es) same (suc k) = due_after (feed r event) es (due_feed r event same) k
 
-due_begin : (o : Option Plan) → IsDue (begin_with o).point
-due_begin None = tt
-due_begin (Some plan) = tt
+due_begin : (o : Option Plan) (slots : ℕ → List ℕ) → IsDue (begin_with o slots).point
+due_begin None slots = tt
+due_begin (Some plan) slots = tt
 
-due_at : (words : List (List ℕ)) (es : List Event) (k : ℕ) → IsDue (run_after words (take k es)).point
-due_at words es k = due_after (begin words) es (due_begin (plan_of words)) k
+due_at : (words : List (List ℕ)) (slots : ℕ → List ℕ) (es : List Event) (k : ℕ) → IsDue (run_after words slots (take k es)).point
+due_at words slots es k = due_after (begin words slots) es (due_begin (plan_of words) slots) k
 
 -- ---- what comes next
 
@@ -224,7 +225,8 @@ starts_at : (plan : Plan) (point : Point) (id : ℕ) (command : List ℕ) (answe
 starts_at plan AtTree id command answer due next = next
 starts_at plan (AtMakes settings []) id command answer due next = next
 starts_at plan (AtMakes settings (p ∷ ps)) id command answer due next = next
-starts_at plan (AtFirst settings) id command answer due next = next
+starts_at plan (AtStore settings) id command answer due next = next
+starts_at plan (AtFirst settings l) id command answer due next = next
 starts_at plan (AtNames settings naming s) id command answer due next = by_paths naming.left next
   where
     by_paths : (left : List Path) → IsNext (names_call left) (ChildStart id command answer) → ⊥
@@ -254,7 +256,8 @@ all_started : (plan : Plan) (point : Point) (ms : ℕ) → IsDue point → IsNex
 all_started plan AtTree ms due next = next
 all_started plan (AtMakes settings []) ms due next = next
 all_started plan (AtMakes settings (p ∷ ps)) ms due next = next
-all_started plan (AtFirst settings) ms due next = next
+all_started plan (AtStore settings) ms due next = next
+all_started plan (AtFirst settings l) ms due next = next
 all_started plan (AtNames settings naming s) ms due next = by_paths naming.left next
   where
     by_paths : (left : List Path) → IsNext (names_call left) (Pause ms) → ⊥
@@ -281,20 +284,20 @@ all_started plan (AtTurn AtPause s) ms due next = due
 all_started plan (Over status) ms due next = next
 
 -- a run that obeys the law starts its commands in their turn
-pub starts_in_turn : (words : List (List ℕ)) (g : History) (es : List Event) → Along feed MayCome Free (begin words) g es → StartsInTurn words es
-starts_in_turn words g es along = record {
+pub starts_in_turn : (words : List (List ℕ)) (slots : ℕ → List ℕ) (g : History) (es : List Event) → Along feed MayCome Free (begin words slots) g es → StartsInTurn words slots es
+starts_in_turn words slots g es along = record {
   starts = λ k id command answer is.
-      let at = run_after words (take k es) in
-      let may = may_at (begin words) g es k (ChildStart id command answer) along is in
+      let at = run_after words slots (take k es) in
+      let may = next_behind at.writes (call_of at.plan at.point at.owed) (ChildStart id command answer) tt (may_at (begin words slots) g es k (ChildStart id command answer) along is) in
       let paid = start_next at.plan at.point at.owed id command answer may in
       let P : List (List ℕ) → Type 0 = λ ls. IsNext (call_of at.plan at.point ls) (ChildStart id command answer) in
       let Q : Option Call → Type 0 = λ c. IsNext c (ChildStart id command answer) in
-      starts_at at.plan at.point id command answer (due_at words es k) (subst Q (paid_call at.plan at.point) (subst P paid may));
+      starts_at at.plan at.point id command answer (due_at words slots es k) (subst Q (paid_call at.plan at.point) (subst P paid may));
   paused = λ k ms is.
-      let at = run_after words (take k es) in
-      let may = may_at (begin words) g es k (Pause ms) along is in
+      let at = run_after words slots (take k es) in
+      let may = next_behind at.writes (call_of at.plan at.point at.owed) (Pause ms) tt (may_at (begin words slots) g es k (Pause ms) along is) in
       let paid = pause_next at.plan at.point at.owed ms may in
       let P : List (List ℕ) → Type 0 = λ ls. IsNext (call_of at.plan at.point ls) (Pause ms) in
       let Q : Option Call → Type 0 = λ c. IsNext c (Pause ms) in
-      all_started at.plan at.point ms (due_at words es k) (subst Q (paid_call at.plan at.point) (subst P paid may));
+      all_started at.plan at.point ms (due_at words slots es k) (subst Q (paid_call at.plan at.point) (subst P paid may));
 }

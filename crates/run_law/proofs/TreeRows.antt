@@ -18,7 +18,8 @@ use Rattle.ini_interp.specs.Sections.{items_of, raw, opened, with_raw}
 use Rattle.ini_interp.specs.Values.{replaced}
 use Rattle.jail_conf.specs.Conf.{settings_in}
 use Rattle.jail_conf.specs.Sources.{text_in, own}
-use Rattle.run_law.specs.Calls.{AskSay, AskClock}
+use Rattle.journal_slots.specs.Grammar.{parse_slot}
+use Rattle.run_law.specs.Calls.{AskSay, AskStore}
 use Rattle.run_law.specs.Changes.{config_changes}
 use Rattle.run_law.specs.Law.{begin, next_call}
 use Rattle.run_law.specs.News.{brings}
@@ -27,10 +28,10 @@ use Rattle.run_law.specs.Refusals.{conf_refusal, error_line, status_lines}
 use Rattle.run_law.specs.Said.{ready_line, stamped}
 use Rattle.run_law.specs.Turn.{to_accept, to_children, to_end, to_logs, to_starts}
 use Rattle.run_law.specs.declared.status.Status.TheVariants.{TurnsSpent}
-use Rattle.run_law.proofs.RowJails.{after_all, clock}
+use Rattle.run_law.proofs.RowJails.{after_all, clock, named_slots, no_slots}
 
 abbrev asked : Run
-asked = begin (codes "--conf" ∷ codes "/c" ∷ codes "--turns" ∷ codes "1" ∷ [])
+asked = begin (codes "--conf" ∷ codes "/c" ∷ codes "--turns" ∷ codes "1" ∷ []) no_slots
 
 abbrev given : Tree → Event
 given tree = Config (codes "/c") (TreeGiven tree)
@@ -49,20 +50,20 @@ abbrev no_files : Tree
 no_files = record { files = [] }
 
 abbrev one_turn : List Event
-one_turn = given no_files ∷ clock 1000 ∷ Say (codes "1000 INFO Server ready\n") Done ∷ clock 1000 ∷ Pause 250 ∷ []
+one_turn = given no_files ∷ named_slots (codes "/var/run/fail2ban/fail2ban.sock") ∷ clock 1000 ∷ Say (codes "1000 INFO Server ready\n") Done ∷ clock 1000 ∷ Pause 250 ∷ []
 
-reads_the_clock_behind_no_files : next_call (after_all asked (given no_files ∷ [])) ≡ Some AskClock
+names_the_slots_behind_no_files : next_call (after_all asked (given no_files ∷ [])) ≡ Some (AskStore (codes "/var/run/fail2ban/fail2ban.sock"))
 unfolding settings_in own text_in files_of file_of meaning_of read_with all_read merged_in joined items_of raw opened with_raw digits
-reads_the_clock_behind_no_files = refl
+names_the_slots_behind_no_files = refl
 
 is_over_after_a_turn : (after_all asked one_turn).point ≡ Over TurnsSpent
-unfolding settings_in own text_in files_of file_of meaning_of read_with all_read merged_in joined items_of raw opened with_raw brings config_changes ready_line stamped digits to_logs to_children to_accept to_starts to_end
+unfolding settings_in own text_in files_of file_of meaning_of read_with all_read merged_in joined items_of raw opened with_raw brings config_changes ready_line stamped digits to_logs to_children to_accept to_starts to_end parse_slot
 is_over_after_a_turn = refl
 
 has_said_that_it_is_ready : (after_all asked one_turn).said ≡ codes "1000 INFO Server ready\n" ∷ []
-unfolding settings_in own text_in files_of file_of meaning_of read_with all_read merged_in joined items_of raw opened with_raw brings config_changes ready_line stamped digits to_logs to_children to_accept to_starts to_end
+unfolding settings_in own text_in files_of file_of meaning_of read_with all_read merged_in joined items_of raw opened with_raw brings config_changes ready_line stamped digits to_logs to_children to_accept to_starts to_end parse_slot
 has_said_that_it_is_ready = refl
 
 owes_and_asks_no_more : next_call (after_all asked one_turn) ≡ None
-unfolding settings_in own text_in files_of file_of meaning_of read_with all_read merged_in joined items_of raw opened with_raw brings config_changes ready_line stamped digits to_logs to_children to_accept to_starts to_end
+unfolding settings_in own text_in files_of file_of meaning_of read_with all_read merged_in joined items_of raw opened with_raw brings config_changes ready_line stamped digits to_logs to_children to_accept to_starts to_end parse_slot
 owes_and_asks_no_more = refl

@@ -1,6 +1,6 @@
 -- From the law alone: a run ends for its turns exactly where it has made as many pauses as it was asked for.
 use Rattle.std.proofs.Common.{ℕ, zero, suc, ◌≡◌, ◌≢◌, ◌<◌, ◌≤◌, ◌+◌, ◌-◌, ◌++◌, Bool, true, false, cond, List, [], ◌∷◌, Option, Some, None, Result, Ok, Err, refl, sym, ◌∙◌, subst, arith}
-use Rattle.std.specs.Prelude.{length, nat_lt, slice_get, option_map}
+use Rattle.std.specs.Prelude.{drop, length, nat_lt, slice_get, option_map}
 use Rattle.f2b_base.specs.declared.input.What.{What}
 use Rattle.f2b_base.specs.declared.job.Job.{Job}
 use Rattle.f2b_base.specs.declared.job.Outcome.{Outcome}
@@ -9,17 +9,25 @@ use Rattle.f2b_base.specs.declared.outside.TreeAnswer.{TreeAnswer}
 use Rattle.f2b_base.specs.declared.outside.TreeAnswer.TheVariants.{Tree, Failed as TreeFailed, TooLarge as TreeTooLarge, NoMemory as TreeNoMemory}
 use Rattle.f2b_world.specs.Told.{History, grown}
 use Rattle.f2b_world.specs.Walks.{after, Along}
+use Rattle.f2b_world.specs.declared.answer.Len.{Len}
+use Rattle.f2b_world.specs.declared.answer.Len.TheVariants.{Bytes as LenIs, Failed as LenFailed}
 use Rattle.f2b_world.specs.declared.answer.Look.{Look}
 use Rattle.f2b_world.specs.declared.answer.Look.TheVariants.{File, Absent, Failed as LookFailed, NoMemory as LookNoMemory}
 use Rattle.f2b_world.specs.declared.answer.MakeAnswer.{MakeAnswer}
 use Rattle.f2b_world.specs.declared.answer.MakeAnswer.TheVariants.{Built, Syntax as WasSyntax, TooBig as WasTooBig}
+use Rattle.f2b_world.specs.declared.answer.Piece.{Piece}
+use Rattle.f2b_world.specs.declared.answer.Piece.TheVariants.{Bytes as PieceIs, Failed as PieceFailed, NoMemory as PieceNoMemory}
 use Rattle.f2b_world.specs.declared.answer.PollAnswer.{PollAnswer}
 use Rattle.f2b_world.specs.declared.answer.PollAnswer.TheVariants.{Running, Ended as PollEnded, Failed as PollFailed}
 use Rattle.f2b_world.specs.declared.answer.Said.TheVariants.{Done, Failed as SayFailed}
+use Rattle.f2b_world.specs.declared.answer.Synced.{Synced}
+use Rattle.f2b_world.specs.declared.answer.Synced.TheVariants.{Done as SyncDone, Failed as SyncFailed}
+use Rattle.f2b_world.specs.declared.answer.Wrote.{Wrote}
+use Rattle.f2b_world.specs.declared.answer.Wrote.TheVariants.{Done as WroteDone, Failed as WroteFailed, NoMemory as WroteNoMemory}
 use Rattle.f2b_world.specs.declared.answer.StartAnswer.{StartAnswer}
 use Rattle.f2b_world.specs.declared.answer.StartAnswer.TheVariants.{Started, Failed as StartFailed, NoMemory as StartNoMemory}
 use Rattle.f2b_world.specs.declared.event.Event.{Event}
-use Rattle.f2b_world.specs.declared.event.Event.TheVariants.{Say, Make, Clock, Config, Names, Look as LookAt, ChildStart, ChildPoll, ChildKill, Pause}
+use Rattle.f2b_world.specs.declared.event.Event.TheVariants.{Say, DiskLen, DiskRead, DiskWrite, DiskSync, Make, Clock, Config, StoreAt, Names, Look as LookAt, ChildStart, ChildPoll, ChildKill, Pause}
 use Rattle.filter_regex.specs.declared.error.BuildKind.TheVariants.{Syntax, TooBig}
 use Rattle.jail_conf.specs.Conf.{conf}
 use Rattle.jail_conf.specs.declared.conf_error.ConfError.{ConfError}
@@ -30,21 +38,26 @@ use Rattle.log_set.specs.Logs.{Watching, next_look}
 use Rattle.run_law.specs.Calls.{Call, AskKill, AskPoll, IsNext}
 use Rattle.run_law.specs.Children.{checked_first, startable}
 use Rattle.run_law.specs.Clock.{tick_news}
-use Rattle.run_law.specs.Law.{Free, Ends, IsOver, MayCome, call_of, feed, moved, opening, point_call, turns}
+use Rattle.run_law.specs.Disk.{IsLoading, broken, measured, piece_read, synced, wrote}
+use Rattle.run_law.specs.Law.{Free, Ends, IsOver, MayCome, call_behind, call_of, feed, moved, opening, point_call, turns}
+use Rattle.reconcile.specs.Loads.{Loaded, loaded}
 use Rattle.run_law.specs.Looks.{log_call, look_news, look_taken, looked, looked_at, now_is, unread_news}
-use Rattle.run_law.specs.News.{News, after_news, brings, brings_by, entered, goes_to, lines_in, owing, refused, server_after}
+use Rattle.run_law.specs.News.{News, after_news, brings, goes_to, refused, server_after, writing}
 use Rattle.run_law.specs.Patterns.{Pattern, patterns_of}
 use Rattle.run_law.specs.Paths.{Path, Naming, first_naming, named, with_paths}
 use Rattle.run_law.specs.Pause.{paused, turned}
 use Rattle.run_law.specs.Polls.{end_news, ended_as, gone, gone_passed, has_succeeded, killed_at, polled_at, still_point}
-use Rattle.run_law.specs.Points.{Place, AtClock, AtLook, AtPoll, AtKill, AtStart, AtPause, Point, AtTree, AtMakes, AtFirst, AtNames, AtTurn, Over, Run}
+use Rattle.run_law.specs.Points.{Place, AtClock, AtLook, AtPoll, AtKill, AtStart, AtPause, Point, AtTree, AtMakes, AtStore, AtFirst, AtNames, AtTurn, Over, Run}
 use Rattle.run_law.specs.Refusals.{status_lines}
 use Rattle.run_law.specs.Served.{CountsTurns, pauses_in}
-use Rattle.run_law.specs.Server.{Server, begun, is_spent, is_stopping, jobs, lanes_up, log_jails, read_at}
-use Rattle.run_law.specs.Start.{defined, first_turn, made, make_call, makes_on, names_call, names_in, start_news, to_makes, to_names, tree_read, unread_by}
+use Rattle.run_law.specs.Server.{Server, begun, is_stopping, jobs, lanes_up, log_jails, read_at}
+use Rattle.run_law.specs.Start.{defined, first_turn, loads, made, make_call, makes_on, names_call, names_in, start_news, to_makes, to_names, tree_read, unread_by}
 use Rattle.run_law.specs.Starts.{child_started, with_child, without_child}
 use Rattle.run_law.specs.Turn.{look_point, start_place, start_point, to_accept, to_children, to_end, to_logs, to_looks, to_polls, to_starts}
+use Rattle.run_law.proofs.DiskLemmas.{next_behind, none_left}
+use Rattle.run_law.proofs.NewsLemmas.{brings_plan, brings_point}
 use Rattle.run_law.proofs.PointLemmas.{paid_call}
+use Rattle.slot_writes.specs.Writes.{Write}
 use Rattle.run_law.proofs.SaidLemmas.{pause_next}
 use Rattle.run_law.specs.declared.plan.Plan.{Plan}
 use Rattle.run_law.specs.declared.status.Status.{Status}
@@ -52,7 +65,7 @@ use Rattle.run_law.specs.declared.status.Status.TheVariants.{Stopped, TurnsSpent
 
 -- ---- where the entries of a turn lead: to a place of it, with the same server
 
-record IsOfTurn (point : Point) (s : Server) : Type 0 where
+pub record IsOfTurn (point : Point) (s : Server) : Type 0 where
   pub place : Place
   pub is : point ≡ AtTurn place s
 
@@ -64,7 +77,7 @@ start_of_turn : (o : Option Job) (s : Server) → IsOfTurn (start_point o s) s
 start_of_turn (Some job) s = record { place = start_place s.now job (checked_first s.children (lanes_up s) (jobs s) job.id); is = refl }
 start_of_turn None s = end_of_turn s
 
-starts_of_turn : (s : Server) → IsOfTurn (to_starts s) s
+pub starts_of_turn : (s : Server) → IsOfTurn (to_starts s) s
 unfolding to_starts
 starts_of_turn s = start_of_turn (startable s.now s.children (jobs s)) s
 
@@ -76,10 +89,10 @@ poll_of_turn : (more : Bool) (i : ℕ) (s : Server) → IsOfTurn (cond more (AtT
 poll_of_turn true i s = record { place = AtPoll i; is = refl }
 poll_of_turn false i s = accept_of_turn s
 
-polls_of_turn : (i : ℕ) (s : Server) → IsOfTurn (to_polls i s) s
+pub polls_of_turn : (i : ℕ) (s : Server) → IsOfTurn (to_polls i s) s
 polls_of_turn i s = poll_of_turn (nat_lt i (length s.children.running)) i s
 
-still_of_turn : (late : Bool) (i : ℕ) (s : Server) → IsOfTurn (still_point late i s) s
+pub still_of_turn : (late : Bool) (i : ℕ) (s : Server) → IsOfTurn (still_point late i s) s
 still_of_turn true i s = record { place = AtKill i; is = refl }
 still_of_turn false i s = polls_of_turn (i + 1) s
 
@@ -91,14 +104,14 @@ look_of_turn : (o : Option ℕ) (s : Server) → IsOfTurn (look_point o s) s
 look_of_turn (Some i) s = record { place = AtLook i; is = refl }
 look_of_turn None s = children_of_turn s
 
-looks_of_turn : (i : ℕ) (s : Server) → IsOfTurn (to_looks i s) s
+pub looks_of_turn : (i : ℕ) (s : Server) → IsOfTurn (to_looks i s) s
 looks_of_turn i s = look_of_turn (next_look i (log_jails s) s.logs) s
 
 either_of_turn : (stopping : Bool) (s : Server) → IsOfTurn (cond stopping (to_children s) (to_looks 0 s)) s
 either_of_turn true s = children_of_turn s
 either_of_turn false s = looks_of_turn 0 s
 
-logs_of_turn : (s : Server) → IsOfTurn (to_logs s) s
+pub logs_of_turn : (s : Server) → IsOfTurn (to_logs s) s
 unfolding to_logs
 logs_of_turn s = either_of_turn (is_stopping s) s
 
@@ -112,50 +125,43 @@ FitsPoint all made (Over TurnsSpent) = made ≡ all
 FitsPoint all made (Over status) = made < all
 FitsPoint all made _ = made ≡ 0
 
--- where the turns are spent nothing is owed
-abbrev IsPaid : Point → List (List ℕ) → Type 0
-IsPaid (Over TurnsSpent) owed = owed ≡ []
-IsPaid _ owed = Unit {0}
+-- where the turns are spent nothing is left to say or to write
+abbrev IsPaid : Point → List (List ℕ) → List Write → Type 0
+IsPaid (Over TurnsSpent) owed writes = (owed ≡ []) × (writes ≡ [])
+IsPaid _ owed writes = Unit {0}
 
 record Fits (all made : ℕ) (r : Run) : Type 0 where
   pub plan : r.plan.turns ≡ all
   pub point : FitsPoint all made r.point
-  pub paid : IsPaid r.point r.owed
+  pub paid : IsPaid r.point r.owed r.writes
+
+-- so many pauses fit the point, whatever is owed there
+abbrev FitsFree : ℕ → ℕ → Point → Type 0
+FitsFree all made p = FitsPoint all made p × ((owed : List (List ℕ)) (writes : List Write) → IsPaid p owed writes)
 
 -- a place of a turn fits as another one of the same turn does
-of_turn : (all made : ℕ) (r : Run) (point : Point) (s : Server) (lines : List (List ℕ)) → IsOfTurn point s → r.plan.turns ≡ all → made + s.left ≡ all → 1 ≤ s.left → Fits all made (owing lines (goes_to point r))
-of_turn all made r point s lines turn plan sum some =
-    let P : Point → Type 0 = λ p. Fits all made (owing lines (goes_to p r)) in
-    subst P (sym turn.is) (record { plan = plan; point = (sum, some); paid = tt })
+of_turn : (all made : ℕ) (point : Point) (s : Server) → IsOfTurn point s → made + s.left ≡ all → 1 ≤ s.left → FitsFree all made point
+of_turn all made point s turn sum some = subst (FitsFree all made) (sym turn.is) ((sum, some), λ owed writes. tt)
 
 -- an input takes no turn
 same_left : (o : Option What) (s : Server) → (server_after o s).left ≡ s.left
 same_left None s = refl
 same_left (Some what) s = refl
 
--- what an event brings leads to its point, or numbers are spent
-module _ (P : Run → Type 0) (news : News) (next : Server → Point) (s : Server) (r : Run)
-    (goes : (lines : List (List ℕ)) → P (owing lines (goes_to (next (after_news news s)) r))) (over : (lines : List (List ℕ)) → P (owing lines (goes_to (Over NumbersSpent) r))) where
-  entered_case : (spent : Bool) (what : What) → news.what ≡ Some what → P (entered spent news what next s r)
-  entered_case true what is = over (status_lines s.now NumbersSpent)
-  entered_case false what is =
-      let Q : Option What → Type 0 = λ o. (lines : List (List ℕ)) → P (owing lines (goes_to (next (server_after o s)) r)) in
-      subst Q is goes (lines_in news what s)
-
-  by_case : (o : Option What) → news.what ≡ o → P (brings_by o news next s r)
-  by_case None is =
-      let Q : Option What → Type 0 = λ o. (lines : List (List ℕ)) → P (owing lines (goes_to (next (server_after o s)) r)) in
-      subst Q is goes (news.before ++ news.behind)
-  by_case (Some what) is = entered_case (is_spent s) what is
-
-  brings_case : P (brings news next s r)
-  unfolding brings
-  brings_case = by_case news.what refl
+-- what an event brings leads to its point, or the run is over
+brings_fits : (all made : ℕ) (r : Run) (news : News) (next : Server → Point) (s : Server) → r.plan.turns ≡ all → made < all → FitsFree all made (next (after_news news s)) → Fits all made (brings news next s r)
+brings_fits all made r news next s plan sooner goes =
+    let at = brings_point (FitsFree all made) (λ need limit. (sooner, λ owed writes. tt)) (sooner, λ owed writes. tt) news next s r goes in
+    record {
+      plan = (let P : Plan → Type 0 = λ p. p.turns ≡ all in subst P (sym (brings_plan news next s r)) plan);
+      point = at.0;
+      paid = at.1 _ _;
+    }
 
 -- ---- the start
 
 module _ (all : ℕ) (some : 1 ≤ all) (r : Run) (plan : r.plan.turns ≡ all) where
-  refused_fits : (status : Status) → FitsPoint all 0 (Over status) → IsPaid (Over status) (r.owed ++ status_lines 0 status) → Fits all 0 (refused 0 status r)
+  refused_fits : (status : Status) → FitsPoint all 0 (Over status) → IsPaid (Over status) (r.owed ++ status_lines 0 status) r.writes → Fits all 0 (refused 0 status r)
   refused_fits status point paid = record { plan = plan; point = point; paid = paid }
 
   early : 0 < all
@@ -184,18 +190,17 @@ module _ (all : ℕ) (some : 1 ≤ all) (r : Run) (plan : r.plan.turns ≡ all) 
   on_fits [] answer settings fits = fits
   on_fits (p ∷ ps) answer settings fits = made_fits answer settings p ps
 
+  loads_fits : (o : Result Loaded (ℕ × ℕ)) (settings : Settings) → Fits all 0 (loads o settings r)
+  loads_fits (Ok l) settings = record { plan = plan; point = refl; paid = tt }
+  loads_fits (Err place) settings = refused_fits (NotAJournal place.0 place.1) early tt
+
   first_fits : (news : News) (s : Server) → s.left ≡ all → Fits all 0 (brings news first_turn s r)
   first_fits news s left =
       let same : (after_news news s).left ≡ all = same_left news.what s ∙ left in
-      brings_case (Fits all 0) news first_turn s r
-      (λ lines. record { plan = plan; point = (omega (arith, same), omega (arith, some, same)); paid = tt })
-      (λ lines. record { plan = plan; point = early; paid = tt })
+      brings_fits all 0 r news first_turn s plan early ((omega (arith, same), omega (arith, some, same)), λ owed writes. tt)
 
   named_fits : (news : News) (settings : Settings) (naming : Naming) (s : Server) → s.left ≡ all → Fits all 0 (brings news (AtNames settings naming) s r)
-  named_fits news settings naming s left =
-      brings_case (Fits all 0) news (AtNames settings naming) s r
-      (λ lines. record { plan = plan; point = (refl, same_left news.what s ∙ left); paid = tt })
-      (λ lines. record { plan = plan; point = early; paid = tt })
+  named_fits news settings naming s left = brings_fits all 0 r news (AtNames settings naming) s plan early ((refl, same_left news.what s ∙ left), λ owed writes. tt)
 
   names_fits : (before : List (List ℕ)) (settings : Settings) (naming : Naming) (left : List Path) (s : Server) → s.left ≡ all → Fits all 0 (to_names before settings naming left s r)
   names_fits before settings naming [] s is = first_fits (start_news before (with_paths settings.defs naming.found) s) s is
@@ -212,9 +217,7 @@ module _ (all made : ℕ) (r : Run) (plan : r.plan.turns ≡ all) (s : Server) (
   turn_fits news next t turn left =
       let u = after_news news t in
       let same : u.left ≡ s.left = same_left news.what t ∙ left in
-      brings_case (Fits all made) news next t r
-      (λ lines. of_turn all made r (next u) u lines (turn u) plan (omega (arith, sum, same)) (omega (arith, some, same)))
-      (λ lines. record { plan = plan; point = sooner; paid = tt })
+      brings_fits all made r news next t plan sooner (of_turn all made (next u) u (turn u) (omega (arith, sum, same)) (omega (arith, some, same)))
 
   -- the run only goes on, to a server with as many turns left
   plain_fits : (point : Point) (t : Server) → IsOfTurn point t → t.left ≡ s.left → Fits all made (goes_to point r)
@@ -251,11 +254,11 @@ module _ (all made : ℕ) (r : Run) (plan : r.plan.turns ≡ all) (s : Server) (
   started_fits StartFailed c fits = turn_fits (end_news c NotStarted) to_starts (without_child c s) starts_of_turn refl
   started_fits StartNoMemory c fits = fits
 
-  turned_fits : (n : ℕ) → s.left ≡ suc n → r.owed ≡ [] → Fits all (suc made) (goes_to (turned n s) r)
+  turned_fits : (n : ℕ) → s.left ≡ suc n → (r.owed ≡ []) × (r.writes ≡ []) → Fits all (suc made) (goes_to (turned n s) r)
   turned_fits zero left paid = record { plan = plan; point = omega (arith, sum, left); paid = paid }
   turned_fits (suc n) left paid = record { plan = plan; point = (omega (arith, sum, left), omega arith); paid = tt }
 
-  paused_fits : r.owed ≡ [] → Fits all (suc made) (paused s r)
+  paused_fits : (r.owed ≡ []) × (r.writes ≡ []) → Fits all (suc made) (paused s r)
   paused_fits paid = let same : s.left ≡ suc (s.left - 1) = omega (arith, some) in turned_fits (s.left - 1) same paid
 
 -- ---- one event
@@ -294,11 +297,12 @@ kill_no_pause None ms next = next
 kill_no_pause (Some c) ms next = next
 
 -- a pause is the last call of a turn
-pause_fits : (all made : ℕ) (r : Run) (p : Point) (ms : ℕ) → r.plan.turns ≡ all → FitsPoint all made p → r.owed ≡ [] → IsNext (point_call r.plan p) (Pause ms)
+pause_fits : (all made : ℕ) (r : Run) (p : Point) (ms : ℕ) → r.plan.turns ≡ all → FitsPoint all made p → (r.owed ≡ []) × (r.writes ≡ []) → IsNext (point_call r.plan p) (Pause ms)
     → Fits all (suc made) (moved p (Pause ms) r)
 pause_fits all made r AtTree ms plan point paid next = absurd next
 pause_fits all made r (AtMakes settings left) ms plan point paid next = absurd (makes_no_pause left ms next)
-pause_fits all made r (AtFirst settings) ms plan point paid next = absurd next
+pause_fits all made r (AtStore settings) ms plan point paid next = absurd next
+pause_fits all made r (AtFirst settings l) ms plan point paid next = absurd next
 pause_fits all made r (AtNames settings naming s) ms plan point paid next = absurd (names_no_pause naming.left ms next)
 pause_fits all made r (AtTurn AtClock s) ms plan point paid next = absurd next
 pause_fits all made r (AtTurn (AtLook i) s) ms plan point paid next = absurd (look_no_pause (slice_get s.logs i) ms next)
@@ -328,49 +332,104 @@ at_none all made r t none fits more =
 moved_fits : (all made : ℕ) (some : 1 ≤ all) (r : Run) (p : Point) (event : Event) → r.plan.turns ≡ all → FitsPoint all made p → Fits all made r → IsNoPause event → Fits all made (moved p event r)
 moved_fits all made some r AtTree (Config root answer) plan point fits plain = at_none all made r _ point fits (λ f. tree_fits all some r plan answer f)
 moved_fits all made some r (AtMakes settings left) (Make text answer) plan point fits plain = at_none all made r _ point fits (λ f. on_fits all some r plan left answer settings f)
-moved_fits all made some r (AtFirst settings) (Clock answer) plan point fits plain =
-    at_none all made r _ point fits (λ f. names_fits all some r plan [] settings (first_naming settings.defs) (first_naming settings.defs).left (begun r.plan.turns answer) plan)
+moved_fits all made some r (AtStore settings) (StoreAt socket answer) plan point fits plain = at_none all made r _ point fits (λ f. loads_fits all some r plan (loaded r.plan.limit r.slots) settings)
+moved_fits all made some r (AtFirst settings l) (Clock answer) plan point fits plain =
+    at_none all made r _ point fits (λ f. names_fits all some r plan [] settings (first_naming settings.defs) (first_naming settings.defs).left (begun r.plan.turns l answer) plan)
 moved_fits all made some r (AtNames settings naming s) (Names dir answer) plan point fits plain =
     let next = named (names_in answer) naming in
     at_none all made r _ point.0 fits (λ f. names_fits all some r plan (unread_by answer s.now naming.left) settings next next.left s point.1)
 moved_fits all made some r (AtTurn place s) event plan point fits plain = turns_fit all made r place s event plan point fits plain
 moved_fits all made some r _ _ plan point fits plain = fits
 
--- a line may be said before the last turn is over alone
-say_sooner : (all made : ℕ) (some : 1 ≤ all) (plan : Plan) (p : Point) (owed : List (List ℕ)) (event : Event) → FitsPoint all made p → IsPaid p owed → IsNext (call_of plan p owed) event → made < all
-say_sooner all made some plan AtTree owed event point paid next = omega (arith, some, point)
-say_sooner all made some plan (AtMakes settings left) owed event point paid next = omega (arith, some, point)
-say_sooner all made some plan (AtFirst settings) owed event point paid next = omega (arith, some, point)
-say_sooner all made some plan (AtNames settings naming s) owed event point paid next = let none : made ≡ 0 = point.0 in omega (arith, some, none)
-say_sooner all made some plan (AtTurn place s) owed event point paid next = sooner_of all made s point.0 point.1
-say_sooner all made some plan (Over TurnsSpent) owed event point paid next = absurd (let P : List (List ℕ) → Type 0 = λ ls. IsNext (call_of plan (Over TurnsSpent) ls) event in subst P paid next)
-say_sooner all made some plan (Over Stopped) owed event point paid next = point
-say_sooner all made some plan (Over WorkloadDone) owed event point paid next = point
-say_sooner all made some plan (Over Usage) owed event point paid next = point
-say_sooner all made some plan (Over ConfFault) owed event point paid next = point
-say_sooner all made some plan (Over (ConfRefused error)) owed event point paid next = point
-say_sooner all made some plan (Over DiskFault) owed event point paid next = point
-say_sooner all made some plan (Over (NotAJournal slot at)) owed event point paid next = point
-say_sooner all made some plan (Over (JournalFull need limit)) owed event point paid next = point
-say_sooner all made some plan (Over GateFault) owed event point paid next = point
-say_sooner all made some plan (Over SinkFault) owed event point paid next = point
-say_sooner all made some plan (Over ConfTooLarge) owed event point paid next = point
-say_sooner all made some plan (Over (PatternRefused jail place kind)) owed event point paid next = point
-say_sooner all made some plan (Over NumbersSpent) owed event point paid next = point
-say_sooner all made some plan (Over NoMemory) owed event point paid next = point
+-- a run whose turns are not spent made fewer pauses
+fewer : (all made : ℕ) (some : 1 ≤ all) (p : Point) → (p ≡ Over TurnsSpent → ⊥) → FitsPoint all made p → made < all
+fewer all made some AtTree other point = omega (arith, some, point)
+fewer all made some (AtMakes settings left) other point = omega (arith, some, point)
+fewer all made some (AtStore settings) other point = omega (arith, some, point)
+fewer all made some (AtFirst settings l) other point = omega (arith, some, point)
+fewer all made some (AtNames settings naming s) other point = let none : made ≡ 0 = point.0 in omega (arith, some, none)
+fewer all made some (AtTurn place s) other point = sooner_of all made s point.0 point.1
+fewer all made some (Over TurnsSpent) other point = absurd (other refl)
+fewer all made some (Over Stopped) other point = point
+fewer all made some (Over WorkloadDone) other point = point
+fewer all made some (Over Usage) other point = point
+fewer all made some (Over ConfFault) other point = point
+fewer all made some (Over (ConfRefused error)) other point = point
+fewer all made some (Over DiskFault) other point = point
+fewer all made some (Over (NotAJournal slot at)) other point = point
+fewer all made some (Over (JournalFull need limit)) other point = point
+fewer all made some (Over GateFault) other point = point
+fewer all made some (Over SinkFault) other point = point
+fewer all made some (Over ConfTooLarge) other point = point
+fewer all made some (Over (PatternRefused jail place kind)) other point = point
+fewer all made some (Over NumbersSpent) other point = point
+fewer all made some (Over NoMemory) other point = point
 
-paid_none : (p : Point) → IsPaid p []
-paid_none (Over TurnsSpent) = refl
-paid_none _ = tt
+-- where the turns are spent no call comes next
+spent_quiet : (plan : Plan) (p : Point) (owed : List (List ℕ)) (writes : List Write) (event : Event) → IsPaid p owed writes → IsNext (call_behind writes (call_of plan p owed)) event → p ≡ Over TurnsSpent → ⊥
+spent_quiet plan p owed writes event paid next is =
+    let P : Point → Type 0 = λ q. IsPaid q owed writes in
+    let none : IsPaid (Over TurnsSpent) owed writes = subst P is paid in
+    let Q : Point → Type 0 = λ q. IsNext (call_behind writes (call_of plan q owed)) event in
+    let O : List (List ℕ) → Type 0 = λ ls. IsNext (call_behind writes (call_of plan (Over TurnsSpent) ls)) event in
+    let W : List Write → Type 0 = λ ws. IsNext (call_behind ws (call_of plan (Over TurnsSpent) [])) event in
+    subst W none.1 (subst O none.0 (subst Q is next))
+
+-- nor is a slot read
+loading_fewer : (p : Point) (owed : List (List ℕ)) → IsLoading p owed → p ≡ Over TurnsSpent → ⊥
+loading_fewer p owed loading is = let P : Point → Type 0 = λ q. IsLoading q owed in subst P is loading
+
+paid_none : (p : Point) (writes : List Write) → (p ≡ Over TurnsSpent → ⊥) → (owed : List (List ℕ)) → IsPaid p owed writes
+paid_none (Over TurnsSpent) writes other owed = absurd (other refl)
+paid_none _ writes other owed = tt
+
+-- ---- a call on the disk
+
+module _ (all made : ℕ) (some : 1 ≤ all) (r : Run) (fits : Fits all made r) (other : r.point ≡ Over TurnsSpent → ⊥) where
+  broken_fits : Fits all made (broken r)
+  broken_fits = record { plan = fits.plan; point = fewer all made some r.point other fits.point; paid = tt }
+
+  writing_fits : (ws : List Write) → Fits all made (writing ws r)
+  writing_fits [] = record { plan = fits.plan; point = fits.point; paid = paid_none r.point [] other (r.owed ++ r.held) }
+  writing_fits (w ∷ ws) = record { plan = fits.plan; point = fits.point; paid = paid_none r.point (w ∷ ws) other r.owed }
+
+  measured_fits : (answer : Len) → Fits all made (measured answer r)
+  measured_fits (LenIs n) = fits
+  measured_fits LenFailed = broken_fits
+
+  piece_fits : (answer : Piece) → Fits all made (piece_read answer r)
+  piece_fits (PieceIs bytes) = fits
+  piece_fits PieceFailed = broken_fits
+  piece_fits PieceNoMemory = fits
+
+  wrote_fits : (answer : Wrote) → Fits all made (wrote answer r)
+  wrote_fits WroteDone = writing_fits (drop 1 r.writes)
+  wrote_fits WroteFailed = broken_fits
+  wrote_fits WroteNoMemory = fits
+
+  synced_fits : (answer : Synced) → Fits all made (synced answer r)
+  synced_fits SyncDone = writing_fits (drop 1 r.writes)
+  synced_fits SyncFailed = broken_fits
 
 step_fits : (all made : ℕ) (some : 1 ≤ all) (r : Run) (event : Event) → Fits all made r → MayCome r event → Fits all (pauses_after made event) (feed r event)
-step_fits all made some r (Say bytes Done) fits may = record { plan = fits.plan; point = fits.point; paid = paid_none r.point }
-step_fits all made some r (Say bytes SayFailed) fits may = record { plan = fits.plan; point = say_sooner all made some r.plan r.point r.owed (Say bytes SayFailed) fits.point fits.paid may; paid = tt }
+step_fits all made some r (Say bytes Done) fits may =
+    let other = spent_quiet r.plan r.point r.owed r.writes (Say bytes Done) fits.paid may in
+    record { plan = fits.plan; point = fits.point; paid = paid_none r.point r.writes other [] }
+step_fits all made some r (Say bytes SayFailed) fits may =
+    let other = spent_quiet r.plan r.point r.owed r.writes (Say bytes SayFailed) fits.paid may in
+    record { plan = fits.plan; point = fewer all made some r.point other fits.point; paid = tt }
+step_fits all made some r (DiskLen slot answer) fits may = measured_fits all made some r fits (loading_fewer r.point r.owed may.0) answer
+step_fits all made some r (DiskRead slot at len answer) fits may = piece_fits all made some r fits (loading_fewer r.point r.owed may.0) answer
+step_fits all made some r (DiskWrite slot at bytes WroteNoMemory) fits may = absurd may
+step_fits all made some r (DiskWrite slot at bytes answer) fits may = wrote_fits all made some r fits (spent_quiet r.plan r.point r.owed r.writes (DiskWrite slot at bytes answer) fits.paid may.0) answer
+step_fits all made some r (DiskSync slot answer) fits may = synced_fits all made some r fits (spent_quiet r.plan r.point r.owed r.writes (DiskSync slot answer) fits.paid may.0) answer
 step_fits all made some r (Pause ms) fits may =
-    let paid = pause_next r.plan r.point r.owed ms may in
+    let next = next_behind r.writes (call_of r.plan r.point r.owed) (Pause ms) tt may in
+    let written = none_left r.writes (call_of r.plan r.point r.owed) (Pause ms) tt may in
+    let paid = pause_next r.plan r.point r.owed ms next in
     let P : List (List ℕ) → Type 0 = λ ls. IsNext (call_of r.plan r.point ls) (Pause ms) in
     let Q : Option Call → Type 0 = λ c. IsNext c (Pause ms) in
-    pause_fits all made r r.point ms fits.plan fits.point paid (subst Q (paid_call r.plan r.point) (subst P paid may))
+    pause_fits all made r r.point ms fits.plan fits.point (paid, written) (subst Q (paid_call r.plan r.point) (subst P paid next))
 step_fits all made some r event fits may = moved_fits all made some r r.point event fits.plan fits.point fits tt
 
 -- ---- whole runs
@@ -429,21 +488,21 @@ ends_over (PatternRefused jail place kind) r loud ends = ends.point
 ends_over NumbersSpent r loud ends = ends.point
 
 -- a run that was planned ends for its turns exactly where it has made as many pauses
-pub counts_turns : (plan : Plan) (status : Status) (g : History) (es : List Event) → 1 ≤ plan.turns → Along feed MayCome Free (opening plan) g es → Ends status (after feed MayCome Free (opening plan) es)
+pub counts_turns : (plan : Plan) (slots : ℕ → List ℕ) (status : Status) (g : History) (es : List Event) → 1 ≤ plan.turns → Along feed MayCome Free (opening plan slots) g es → Ends status (after feed MayCome Free (opening plan slots) es)
     → CountsTurns plan.turns status es
-counts_turns plan status g es some along ends =
+counts_turns plan slots status g es some along ends =
     let all = plan.turns in
-    let first : Fits all 0 (opening plan) = record { plan = refl; point = refl; paid = tt } in
-    let last = walk all 0 some (opening plan) g es first along in
+    let first : Fits all 0 (opening plan slots) = record { plan = refl; point = refl; paid = tt } in
+    let last = walk all 0 some (opening plan slots) g es first along in
     let made : made_after 0 es ≡ pauses_in es = counted 0 es ∙ omega arith in
     let P : Point → Type 0 = λ p. FitsPoint all (made_after 0 es) p in
     record {
       spent = λ is.
-          let Q : Status → Type 0 = λ s. Ends s (after feed MayCome Free (opening plan) es) in
-          let over : IsOver TurnsSpent (after feed MayCome Free (opening plan) es) = subst Q is ends in
+          let Q : Status → Type 0 = λ s. Ends s (after feed MayCome Free (opening plan slots) es) in
+          let over : IsOver TurnsSpent (after feed MayCome Free (opening plan slots) es) = subst Q is ends in
           let all_made : made_after 0 es ≡ all = subst P over.point last.point in
           sym made ∙ all_made;
       sooner = λ other loud.
-          let less : made_after 0 es < all = over_fits all (made_after 0 es) status other (subst P (ends_over status (after feed MayCome Free (opening plan) es) loud ends) last.point) in
+          let less : made_after 0 es < all = over_fits all (made_after 0 es) status other (subst P (ends_over status (after feed MayCome Free (opening plan slots) es) loud ends) last.point) in
           omega (arith, less, made);
     }

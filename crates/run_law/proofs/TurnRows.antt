@@ -23,7 +23,12 @@ use Rattle.run_law.specs.Said.{line_of, lines_of, rotated_line, stamped, unread_
 use Rattle.run_law.specs.Server.{Server, jails}
 use Rattle.run_law.specs.Turn.{to_accept, to_children, to_end, to_logs, to_starts}
 use Rattle.run_law.specs.declared.status.Status.TheVariants.{TurnsSpent, SinkFault}
-use Rattle.run_law.proofs.RowJails.{after_all, clock, eighth, last_input, log, look, server, seventh, shown, turning, view_of_two}
+use Rattle.record_codec.specs.Definitions.{name as name_codec, place as place_codec}
+use Rattle.record_codec.specs.Inputs.{input, what}
+use Rattle.record_fields.specs.Lists.{list_of}
+use Rattle.record_fields.specs.Numbers.{digits as number_digits}
+use Rattle.record_fields.specs.Texts.{string_spelling}
+use Rattle.run_law.proofs.RowJails.{added, after_all, clock, eighth, last_input, log, look, server, seventh, shown, turning, view_of_two}
 
 -- ---- a log from which nine bytes were read, and one that is new
 
@@ -47,25 +52,25 @@ looks_behind_what_was_read = refl
 abbrev rotated : List Event
 rotated = clock 1000 ∷ look (codes "/a") 9 (File (record { size = 2; head = codes "ab"; bytes = [] })) ∷ []
 
-says_that_it_rotated : next_call (after_all run rotated) ≡ Some (AskSay (codes "1000 INFO [a] rotated /a\n"))
-unfolding brings to_logs to_children to_accept to_starts to_end look_taken rotated_line stamped digits rest_of pieces_of lines_of
+says_that_it_rotated : next_call (after_all run (rotated ++ added)) ≡ Some (AskSay (codes "1000 INFO [a] rotated /a\n"))
+unfolding brings to_logs to_children to_accept to_starts to_end look_taken rotated_line stamped digits rest_of pieces_of lines_of input what name_codec place_codec string_spelling list_of number_digits
 says_that_it_rotated = refl
 
 -- and it is an input, since its place changes
 takes_the_rotation : last_input (after_all run rotated).point ≡ Some 1000
-unfolding brings to_logs to_children to_accept to_starts to_end look_taken rest_of pieces_of
+unfolding brings to_logs to_children to_accept to_starts to_end look_taken rest_of pieces_of input what name_codec place_codec string_spelling list_of number_digits
 takes_the_rotation = refl
 
-then_looks_at_the_second_jail : next_call (after_all run (rotated ++ Say (codes "1000 INFO [a] rotated /a\n") Done ∷ [])) ≡ Some (AskLook (codes "/b") 64 0 65536)
-unfolding brings to_logs to_children to_accept to_starts to_end look_taken rotated_line stamped digits rest_of pieces_of lines_of
+then_looks_at_the_second_jail : next_call (after_all run (rotated ++ added ++ Say (codes "1000 INFO [a] rotated /a\n") Done ∷ [])) ≡ Some (AskLook (codes "/b") 64 0 65536)
+unfolding brings to_logs to_children to_accept to_starts to_end look_taken rotated_line stamped digits rest_of pieces_of lines_of input what name_codec place_codec string_spelling list_of number_digits
 then_looks_at_the_second_jail = refl
 
 -- the new log is read from its start in the next turn
 abbrev behind_a_rotation : List Event
-behind_a_rotation = rotated ++ Say (codes "1000 INFO [a] rotated /a\n") Done ∷ look (codes "/b") 0 Absent ∷ Pause 250 ∷ clock 1001 ∷ []
+behind_a_rotation = rotated ++ added ++ Say (codes "1000 INFO [a] rotated /a\n") Done ∷ look (codes "/b") 0 Absent ∷ Pause 250 ∷ clock 1001 ∷ []
 
 reads_the_new_log_from_its_start : next_call (after_all run behind_a_rotation) ≡ Some (AskLook (codes "/a") 64 0 65536)
-unfolding brings to_logs to_children to_accept to_starts to_end look_taken rotated_line stamped digits rest_of pieces_of lines_of
+unfolding brings to_logs to_children to_accept to_starts to_end look_taken rotated_line stamped digits rest_of pieces_of lines_of input what name_codec place_codec string_spelling list_of number_digits
 reads_the_new_log_from_its_start = refl
 
 -- ---- half a line of a log at its start is lost: the line is said, and nothing is an input
@@ -108,14 +113,14 @@ abbrev from_end : Run
 from_end = turning (server (record view { jails = shown (codes "a") false (record { path = codes "/a"; place = Tail } ∷ []) [] ∷ shown (codes "b") true [] [] ∷ [] }) (log (codes "a") (codes "/a") Tail [] ∷ []) 2)
 
 abbrev placed : List Event
-placed = clock 1000 ∷ look (codes "/a") 0 (File (record { size = 5; head = codes "abcde"; bytes = codes "abcde" })) ∷ Pause 250 ∷ clock 1001 ∷ []
+placed = clock 1000 ∷ look (codes "/a") 0 (File (record { size = 5; head = codes "abcde"; bytes = codes "abcde" })) ∷ added ++ Pause 250 ∷ clock 1001 ∷ []
 
 takes_the_end_as_its_place : last_input (after_all from_end placed).point ≡ Some 1000
-unfolding brings to_logs to_children to_accept to_starts to_end look_taken rest_of pieces_of lines_of
+unfolding brings to_logs to_children to_accept to_starts to_end look_taken rest_of pieces_of lines_of input what name_codec place_codec string_spelling list_of number_digits
 takes_the_end_as_its_place = refl
 
 reads_on_from_the_end : next_call (after_all from_end placed) ≡ Some (AskLook (codes "/a") 64 5 65536)
-unfolding brings to_logs to_children to_accept to_starts to_end look_taken rest_of pieces_of lines_of
+unfolding brings to_logs to_children to_accept to_starts to_end look_taken rest_of pieces_of lines_of input what name_codec place_codec string_spelling list_of number_digits
 reads_on_from_the_end = refl
 
 -- ---- a jail that is idle, and a server that is stopping
@@ -144,8 +149,8 @@ unfolding brings to_logs to_children to_accept to_starts to_end
 not_due_before = refl
 
 -- their lines are one call
-both_end : next_call (after_all (turning (banned 2)) (clock 1600 ∷ [])) ≡ Some (AskSay (codes "1600 NOTICE [a] Unban 192.0.2.7\n1600 NOTICE [a] Unban 192.0.2.8\n"))
-unfolding brings to_logs to_children to_accept to_starts to_end lines_of line_of stamped digits printed octets
+both_end : next_call (after_all (turning (banned 2)) (clock 1600 ∷ added)) ≡ Some (AskSay (codes "1600 NOTICE [a] Unban 192.0.2.7\n1600 NOTICE [a] Unban 192.0.2.8\n"))
+unfolding brings to_logs to_children to_accept to_starts to_end lines_of line_of stamped digits printed octets input what number_digits
 both_end = refl
 
 -- now never goes back
@@ -164,18 +169,18 @@ ends_where_numbers_are_spent = refl
 -- ---- a line that cannot be said
 
 abbrev unsaid : Run
-unsaid = after_all (turning (banned 2)) (clock 1600 ∷ Say (codes "1600 NOTICE [a] Unban 192.0.2.7\n1600 NOTICE [a] Unban 192.0.2.8\n") SayFailed ∷ [])
+unsaid = after_all (turning (banned 2)) (clock 1600 ∷ added ++ Say (codes "1600 NOTICE [a] Unban 192.0.2.7\n1600 NOTICE [a] Unban 192.0.2.8\n") SayFailed ∷ [])
 
 ends_with_the_fault : unsaid.point ≡ Over SinkFault
-unfolding brings to_logs to_children to_accept to_starts to_end lines_of line_of stamped digits printed octets
+unfolding brings to_logs to_children to_accept to_starts to_end lines_of line_of stamped digits printed octets input what number_digits
 ends_with_the_fault = refl
 
 says_no_more : next_call unsaid ≡ None
-unfolding brings to_logs to_children to_accept to_starts to_end lines_of line_of stamped digits printed octets
+unfolding brings to_logs to_children to_accept to_starts to_end lines_of line_of stamped digits printed octets input what number_digits
 says_no_more = refl
 
 counts_none_as_said : unsaid.said ≡ []
-unfolding brings to_logs to_children to_accept to_starts to_end lines_of line_of stamped digits printed octets
+unfolding brings to_logs to_children to_accept to_starts to_end lines_of line_of stamped digits printed octets input what number_digits
 counts_none_as_said = refl
 
 -- ---- the turns that are left

@@ -1,12 +1,15 @@
 -- Calls on the outside with their arguments, and which event is which call.
 use Rattle.std.specs.Prelude.{ℕ, ◌≡◌, List, Option, Some, None}
 use Rattle.f2b_world.specs.declared.event.Event.{Event}
-use Rattle.f2b_world.specs.declared.event.Event.TheVariants.{Say, Make, Clock, Config, Names, Look as LookAt, ChildStart, ChildPoll, ChildKill, Pause}
+use Rattle.f2b_world.specs.declared.event.Event.TheVariants.{Say, DiskWrite, DiskSync, Make, Clock, Config, StoreAt, Names, Look as LookAt, ChildStart, ChildPoll, ChildKill, Pause}
+use Rattle.slot_writes.specs.Writes.{Write, Put, Sync}
 
 pub data Call : Type 0 where
   AskSay : List ℕ → Call
+  AskWrite : Write → Call
   AskTree : List ℕ → Call
   AskMake : List ℕ → Call
+  AskStore : List ℕ → Call
   AskClock : Call
   AskNames : List ℕ → Call
   -- a path, how many of the first bytes, from which offset on, and how many bytes at most
@@ -20,8 +23,11 @@ pub data Call : Type 0 where
 -- the event is this call, with some answer
 abbrev pub Makes : Call → Event → Type 0
 Makes (AskSay line) (Say bytes answer) = bytes ≡ line
+Makes (AskWrite (Put slot at bytes)) (DiskWrite there place written answer) = (there ≡ slot) × (place ≡ at) × (written ≡ bytes)
+Makes (AskWrite (Sync slot)) (DiskSync there answer) = there ≡ slot
 Makes (AskTree root) (Config there answer) = there ≡ root
 Makes (AskMake text) (Make made answer) = made ≡ text
+Makes (AskStore socket) (StoreAt there answer) = there ≡ socket
 Makes AskClock (Clock answer) = Unit {0}
 Makes (AskNames dir) (Names there answer) = there ≡ dir
 Makes (AskLook path head from max) (LookAt there first begin most answer) = (there ≡ path) × (first ≡ head) × (begin ≡ from) × (most ≡ max)

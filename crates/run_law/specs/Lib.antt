@@ -11,6 +11,7 @@ pub mod Server
 pub mod Points
 pub mod Calls
 pub mod News
+pub mod Disk
 pub mod Turn
 pub mod Clock
 pub mod Looks
@@ -20,4 +21,5 @@ pub mod Pause
 pub mod Start
 pub mod Law
 pub mod Stages
+pub mod Stops
 pub mod Served

@@ -1,9 +1,9 @@
 -- What a part of a run hands up: from where to where it goes, whatever the server is, with what the code keeps of it.
 use Rattle.std.specs.Prelude.{ℕ, ◌≡◌, ◌≤◌, ◌++◌, ◌⊎◌, List, [], None, Contains, Ok, Err}
 use Rattle.f2b_base.specs.declared.outside.Tree.{Tree}
-use Rattle.f2b_world.specs.Faults.{Fault, OfSink, OfConfiguration, OfPatterns, Rose}
+use Rattle.f2b_world.specs.Faults.{Fault, OfSink, OfDisk, OfConfiguration, OfPatterns, Rose}
 use Rattle.f2b_world.specs.Reading.{reading}
-use Rattle.f2b_world.specs.Told.{Standing}
+use Rattle.f2b_world.specs.Told.{Adds, Standing}
 use Rattle.filter_regex.specs.declared.error.BuildKind.TheVariants.{Syntax, TooBig}
 use Rattle.filter_regex.specs.declared.error.PatternPlace.{PatternPlace}
 use Rattle.jail_conf.specs.Conf.{conf}
@@ -15,12 +15,17 @@ use Rattle.run_law.specs.Patterns.{Pattern, patterns_of}
 use Rattle.run_law.specs.Points.{Point, Over, Run}
 use Rattle.run_law.specs.Server.{Server}
 use Rattle.run_law.specs.declared.status.Status.{Status}
-use Rattle.run_law.specs.declared.status.Status.TheVariants.{Stopped, TurnsSpent, WorkloadDone, Usage, ConfFault, ConfRefused, SinkFault, PatternRefused, NoMemory}
+use Rattle.run_law.specs.declared.status.Status.TheVariants.{Stopped, TurnsSpent, WorkloadDone, Usage, ConfFault, ConfRefused, DiskFault, SinkFault, PatternRefused, NoMemory}
 
--- the run stands at a point, with all its lines said
+-- nothing is left to write, and all lines are said
+pub record IsStill (r : Run) : Type 0 where
+  pub written : r.writes ≡ []
+  pub paid : r.owed ≡ []
+
+-- the run stands at a point, with nothing left to write and all its lines said
 pub record IsAt (r : Run) (there : Point) : Type 0 where
   pub point : r.point ≡ there
-  pub paid : r.owed ≡ []
+  pub still : IsStill r
 
 -- ---- lines
 
@@ -31,6 +36,7 @@ IsSaying _ = Unit {0}
 
 -- these lines come next
 pub record Owes (r : Run) (lines : List (List ℕ)) : Type 0 where
+  pub written : r.writes ≡ []
   pub owed : r.owed ≡ lines
   pub saying : IsSaying r.point
 
@@ -53,13 +59,14 @@ IsRefusal _ = Unit {0}
 
 -- a run that is refused so at a moment ends with this status once the refusal is said
 pub record Refuses (old new : Standing) (now : ℕ) (refusal status : Status) : Type 0 where
-  pub runs : (r : Run) → r.owed ≡ [] → Halts old.told new.told (refused now refusal r) status
+  pub runs : (r : Run) → IsStill r → Halts old.told new.told (refused now refusal r) status
 
 -- ---- causes
 
--- no count of faults fell
+-- no count of faults fell, and the history went on
 pub record IsSteady (old new : Standing) : Type 0 where
   pub counts : (kind : Fault) → old.faults kind ≤ new.faults kind
+  pub history : Adds old.told new.told (λ g es. Unit {0})
 
 -- a tree defines a jail with this pattern at this place, and its text has no reading
 pub record IsNoPattern (jail : List ℕ) (place : PatternPlace) : Type 0 where
@@ -86,6 +93,7 @@ HasCause old new WorkloadDone = ⊥
 HasCause old new Usage = ⊥
 HasCause old new ConfFault = Rose (old.faults OfConfiguration) (new.faults OfConfiguration)
 HasCause old new (ConfRefused error) = IsNoConfiguration error
+HasCause old new DiskFault = Rose (old.faults OfDisk) (new.faults OfDisk)
 HasCause old new SinkFault = Rose (old.faults OfSink) (new.faults OfSink)
 HasCause old new (PatternRefused jail place Syntax) = IsNoPattern jail place
 HasCause old new (PatternRefused jail place TooBig) = Rose (old.faults OfPatterns) (new.faults OfPatterns)

@@ -1,4 +1,5 @@
--- The start: the configuration, its patterns, the first reading of the clock, the names for wildcards, and the configuration as an input.
+-- The start: the configuration, its patterns, the journal, the first reading of the clock, the names for wildcards, and the configuration
+-- as an input.
 use Rattle.std.specs.Prelude.{ℕ, Bool, true, false, List, [], ◌∷◌, Option, Some, None, Result, Ok, Err}
 use Rattle.f2b_base.specs.declared.input.What.TheVariants.{Config as Configured}
 use Rattle.f2b_base.specs.declared.jail.Defs.{Defs}
@@ -14,15 +15,16 @@ use Rattle.filter_regex.specs.declared.error.BuildKind.TheVariants.{Syntax, TooB
 use Rattle.jail_conf.specs.Conf.{conf}
 use Rattle.jail_conf.specs.declared.conf_error.ConfError.{ConfError}
 use Rattle.jail_conf.specs.declared.settings.Settings.{Settings}
-use Rattle.run_law.specs.Calls.{Call, AskMake, AskNames}
+use Rattle.run_law.specs.Calls.{Call, AskMake, AskNames, AskStore}
 use Rattle.run_law.specs.Changes.{config_changes}
+use Rattle.reconcile.specs.Loads.{Loaded, loaded}
 use Rattle.run_law.specs.News.{News, brings, goes_to, refused}
 use Rattle.run_law.specs.Paths.{Path, Naming, directory, first_naming, named, with_paths}
 use Rattle.run_law.specs.Patterns.{Pattern, patterns_of}
-use Rattle.run_law.specs.Points.{Point, AtMakes, AtFirst, AtNames, AtTurn, AtClock, Run}
+use Rattle.run_law.specs.Points.{Point, AtMakes, AtStore, AtFirst, AtNames, AtTurn, AtClock, Run}
 use Rattle.run_law.specs.Said.{ready_line, unread_line}
 use Rattle.run_law.specs.Server.{Server, begun, following}
-use Rattle.run_law.specs.declared.status.Status.TheVariants.{ConfFault, ConfRefused, ConfTooLarge, PatternRefused}
+use Rattle.run_law.specs.declared.status.Status.TheVariants.{ConfFault, ConfRefused, NotAJournal, ConfTooLarge, PatternRefused}
 
 -- ---- calls
 
@@ -30,15 +32,19 @@ abbrev pub make_call : List Pattern → Option Call
 make_call [] = None
 make_call (p ∷ ps) = Some (AskMake p.text)
 
+-- the slots are beside the socket
+abbrev pub store_call : Settings → Option Call
+store_call settings = Some (AskStore settings.socket)
+
 abbrev pub names_call : List Path → Option Call
 names_call [] = None
 names_call (p ∷ ps) = Some (AskNames (directory p.watch.path))
 
 -- ---- the configuration
 
--- the patterns that are left, and behind the last the clock
+-- the patterns that are left, and behind the last the journal
 abbrev pub to_makes : Settings → List Pattern → Point
-to_makes settings [] = AtFirst settings
+to_makes settings [] = AtStore settings
 to_makes settings (p ∷ ps) = AtMakes settings (p ∷ ps)
 
 abbrev pub defined : Result Settings ConfError → Run → Run
@@ -65,6 +71,16 @@ abbrev pub makes_on : List Pattern → MakeAnswer → Settings → Run → Run
 makes_on [] answer settings r = r
 makes_on (p ∷ ps) answer settings r = made answer settings p ps r
 
+-- ---- the journal
+
+abbrev pub loads : Result Loaded (ℕ × ℕ) → Settings → Run → Run
+loads (Ok l) settings r = goes_to (AtFirst settings l) r
+loads (Err place) settings r = refused 0 (NotAJournal place.0 place.1) r
+
+-- What the slots held as the run began is loaded: nothing was written since.
+abbrev pub store_named : Settings → Run → Run
+store_named settings r = loads (loaded r.plan.limit r.slots) settings r
+
 -- ---- the names, and the configuration as an input
 
 -- a configuration that changes nothing is no input
@@ -88,8 +104,8 @@ to_names before settings naming (p ∷ ps) s r = brings (record { before = befor
 abbrev pub naming_on : List (List ℕ) → Settings → Naming → Server → Run → Run
 naming_on before settings naming s r = to_names before settings naming naming.left s r
 
-abbrev pub first_read : Reading → Settings → Run → Run
-first_read answer settings r = naming_on [] settings (first_naming settings.defs) (begun r.plan.turns answer) r
+abbrev pub first_read : Reading → Settings → Loaded → Run → Run
+first_read answer settings l r = naming_on [] settings (first_naming settings.defs) (begun r.plan.turns l answer) r
 
 -- the names that were given; a directory that is not there has none
 abbrev pub names_in : NamesAnswer → List (List ℕ)

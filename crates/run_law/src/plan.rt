@@ -9,4 +9,6 @@ pub struct Plan {
     pub root: Text,
     /// After how many turns the run ends, at least 1.
     pub turns: u64,
+    /// How long a slot of the journal may get, in bytes, at least 1.
+    pub limit: u64,
 }

@@ -7,6 +7,7 @@ use Rattle.f2b_base.specs.declared.view.WatchView.{WatchView}
 use Rattle.f2b_model.specs.Lists.{AllOf}
 use Rattle.f2b_model.specs.Nows.{jail_now}
 use Rattle.f2b_model.specs.State.{Jail}
+use Rattle.f2b_model.specs.Storable.{IsJailName, IsStorable, IsStorableJail}
 use Rattle.f2b_model.specs.Views.{jail_view, spread}
 use Rattle.f2b_model.specs.Whole.{Now}
 use Rattle.f2b_model.specs.declared.jail_now.JailNow.{JailNow}
@@ -15,7 +16,8 @@ use Rattle.log_follow.specs.Watches.{IsPlace}
 use Rattle.log_set.specs.Logs.{AddsLog, IsSetOf, LogJail, Logs, Watching, awake}
 use Rattle.run_law.specs.Logs.{log_begun, log_jail, logs_begun, logs_of}
 use Rattle.run_law.specs.Server.{jails, log_jails}
-use Rattle.run_start.specs.Followed.{AddsLogs, AreAwake, ArePlaces, AreViewsOfPlaces, AreWatchesOfPlaces, FollowsAll, HasPlaces, logs_at, rules_in}
+use Rattle.run_start.specs.Followed.{AddsLogs, AreAwake, AreNamed, ArePlaces, AreViewsOfPlaces, AreWatchesOfPlaces, FollowsAll, HasPlaces, logs_at, rules_in}
+use Rattle.run_start.proofs.JailLemmas.{rules_of_jails}
 use Rattle.run_steps.specs.declared.clocked.Clocked.{Clocked}
 use Rattle.run_steps.proofs.ToldLemmas.{flat_take_more, map_take_more}
 
@@ -34,6 +36,9 @@ place_at ws i w all below is = all_at (λ (v : WatchView). IsPlace v.place) ws i
 
 pub places_at : (vs : List JailView) (i : ℕ) (v : JailView) → AreViewsOfPlaces vs → i < length vs → v ≡ get_or vs i v → AreWatchesOfPlaces v.watches
 places_at vs i v all below is = all_at (λ (u : JailView). AreWatchesOfPlaces u.watches) vs i v all below is
+
+pub name_at : (vs : List JailView) (i : ℕ) (v : JailView) → AreNamed vs → i < length vs → v ≡ get_or vs i v → IsJailName v.name
+name_at vs i v all below is = all_at (λ (u : JailView). IsJailName u.name) vs i v all below is
 
 pub adds_none : (s : Logs) → AddsLogs s s []
 adds_none s = record { adds = λ js ws is. (let P : List Watching → Type 0 = λ l. IsSetOf s js l in subst P (sym (append-nil ws)) is) }
@@ -54,26 +59,31 @@ pub adds_jail : (a b c : Logs) (vs : List JailView) (i : ℕ) (v : JailView) →
 adds_jail a b c vs i v before more below is =
     adds_on a b c (flat_map logs_at (take i vs)) (logs_at v) _ before more (flat_take_more logs_at vs i v below is)
 
-pub ruleset adding = (place_at, places_at, adds_none, adds_log, adds_jail)
+pub ruleset adding = (place_at, places_at, name_at, adds_none, adds_log, adds_jail)
 
 -- ---- all logs
 
-rules_of_jails : (ns : List JailNow) → map (λ (j : JailNow). rules_of j.definition) ns ≡ map rules_of (map (λ (j : JailNow). j.definition) ns)
-rules_of_jails [] = refl
-rules_of_jails (n ∷ ns) = ap (λ (rs : List Rules). rules_of n.definition ∷ rs) (rules_of_jails ns)
-
 -- the definitions of the view have the same rules
-pub rules_shown : (kept : Clocked) (view : View) (rules : List Rules) (ds : List JailDef) → rules ≡ rules_in kept → view ≡ spread kept.core → ds ≡ view.defs.jails → rules ≡ map rules_of ds
+pub rules_shown : (kept : Clocked) (view : View) (rules : List Rules) (ds : List JailDef) → rules ≡ rules_in kept → view ≡ spread kept.engine.core → ds ≡ view.defs.jails → rules ≡ map rules_of ds
 rules_shown kept view rules ds is shown same =
-    is ∙ rules_of_jails kept.core.jails.jails ∙ ap (λ (v : View). map rules_of v.defs.jails) (sym shown) ∙ ap (map rules_of) (sym same)
+    is ∙ rules_of_jails kept.engine.core.jails.jails ∙ ap (λ (v : View). map rules_of v.defs.jails) (sym shown) ∙ ap (map rules_of) (sym same)
 
 places_of_views : (ns : List JailNow) → AllOf HasPlaces ns → AreViewsOfPlaces (map jail_view ns)
 places_of_views [] all = tt
 places_of_views (n ∷ ns) all = (all.0, places_of_views ns all.1)
 
-pub places_shown : (kept : Clocked) (view : View) (vs : List JailView) → ArePlaces kept → view ≡ spread kept.core → vs ≡ view.jails → AreViewsOfPlaces vs
+pub places_shown : (kept : Clocked) (view : View) (vs : List JailView) → ArePlaces kept → view ≡ spread kept.engine.core → vs ≡ view.jails → AreViewsOfPlaces vs
 places_shown kept view vs all shown same =
-    subst AreViewsOfPlaces (ap (λ (v : View). v.jails) (sym shown) ∙ sym same) (places_of_views kept.core.jails.jails all)
+    subst AreViewsOfPlaces (ap (λ (v : View). v.jails) (sym shown) ∙ sym same) (places_of_views kept.engine.core.jails.jails all)
+
+names_of_views : (ns : List JailNow) → AllOf IsStorableJail ns → AreNamed (map jail_view ns)
+names_of_views [] all = tt
+names_of_views (n ∷ ns) all = (all.0.definition.name, names_of_views ns all.1)
+
+-- what can be stored of a jail has such a name
+pub names_shown : (core : Now) (view : View) (vs : List JailView) → IsStorable core → view ≡ spread core → vs ≡ view.jails → AreNamed vs
+names_shown core view vs storable shown same =
+    subst AreNamed (ap (λ (v : View). v.jails) (sym shown) ∙ sym same) (names_of_views core.jails.jails storable.jails)
 
 all_awake : (js : List Jail) → AreAwake js → map awake (map (λ (j : JailNow). j.definition) (map jail_now js)) ≡ map log_jail js
 all_awake [] are = refl
@@ -85,12 +95,12 @@ all_begun [] = refl
 all_begun (j ∷ js) = ap (λ (ls : List Watching). map (log_begun j.definition.name) j.watches ++ ls) (all_begun js)
 
 -- the set of the view follows the logs of the jails
-pub follows_all : (kept : Clocked) (view : View) (first set : Logs) (ds : List JailDef) (vs : List JailView) → view ≡ spread kept.core → ds ≡ view.defs.jails → vs ≡ view.jails
+pub follows_all : (kept : Clocked) (view : View) (first set : Logs) (ds : List JailDef) (vs : List JailView) → view ≡ spread kept.engine.core → ds ≡ view.defs.jails → vs ≡ view.jails
     → IsSetOf first (map awake ds) [] → AddsLogs first set (flat_map logs_at vs) → FollowsAll kept set
 follows_all kept view first set ds vs shown defs_are views_are begins adds = record {
   sets = λ s keeps awake_are.
       let P : List LogJail → List Watching → Type 0 = λ js ws. IsSetOf set js ws in
-      let core : kept.core.jails.jails ≡ map jail_now (jails s) = ap (λ (n : Now). n.jails.jails) keeps.core in
+      let core : kept.engine.core.jails.jails ≡ map jail_now (jails s) = ap (λ (n : Now). n.jails.jails) keeps.core in
       let js : map awake ds ≡ log_jails s =
       ap (map awake) (defs_are ∙ ap (λ (v : View). v.defs.jails) shown ∙ ap (map (λ (j : JailNow). j.definition)) core) ∙ all_awake (jails s) awake_are in
       let ws : flat_map logs_at vs ≡ logs_of [] (jails s) =
@@ -100,4 +110,4 @@ follows_all kept view first set ds vs shown defs_are views_are begins adds = rec
       subst (λ (l : List Watching). IsSetOf set (log_jails s) l) ws two;
 }
 
-pub ruleset following = (rules_shown, places_shown, follows_all)
+pub ruleset following = (rules_shown, places_shown, names_shown, follows_all)

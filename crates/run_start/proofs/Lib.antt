@@ -1,5 +1,6 @@
 pub mod OrderLemmas
 pub mod PathLemmas
+pub mod FewLemmas
 pub mod FoundLemmas
 pub mod ListingLemmas
 pub mod JailLemmas

@@ -11,7 +11,7 @@ use Rattle.run_steps.proofs.ToldLemmas.{flat_take_more}
 use Rattle.run_start.proofs.OrderLemmas.{expansion_is}
 
 -- the paths from a place on begin with the one there
-front_is : (ps : List Path) (i : ℕ) (p : Path) → i < length ps → p ≡ get_or ps i p → drop i ps ≡ p ∷ drop (i + 1) ps
+pub front_is : (ps : List Path) (i : ℕ) (p : Path) → i < length ps → p ≡ get_or ps i p → drop i ps ≡ p ∷ drop (i + 1) ps
 front_is ps i p below is = rw add-one (drop-cons ps i p below ∙ ap (λ (q : Path). q ∷ drop (suc i) ps) (sym is))
 
 -- a path without a wildcard stands for itself

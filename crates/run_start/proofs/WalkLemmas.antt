@@ -11,7 +11,7 @@ use Rattle.run_law.specs.News.{brings}
 use Rattle.run_law.specs.Paths.{Path, directory, expanded_path, named, settled}
 use Rattle.run_law.specs.Points.{AtNames, Run}
 use Rattle.run_law.specs.Server.{Server}
-use Rattle.run_law.specs.Stages.{Brings, BringFails, IsAt}
+use Rattle.run_law.specs.Stages.{Brings, BringFails, IsAt, IsStill}
 use Rattle.run_law.specs.Start.{names_call, names_in, names_read, naming_on, to_names, unread_by}
 use Rattle.run_law.specs.declared.status.Status.{Status}
 use Rattle.run_law.specs.declared.status.Status.TheVariants.{NoMemory}
@@ -19,7 +19,7 @@ use Rattle.run_law.proofs.PointLemmas.{goes_refl, goes_trans, halts_after, halts
 use Rattle.run_start.specs.Listings.{AsksNames, Lists}
 use Rattle.run_start.specs.Walks.{WalkFails, WalksTo, naming_of, walking}
 use Rattle.run_start.specs.declared.listing.Listing.{Listing}
-use Rattle.run_start.specs.declared.naming.PathWalk.{PathWalk}
+use Rattle.run_start.specs.declared.walk.PathWalk.{PathWalk}
 use Rattle.run_steps.specs.Keeping.{KeepsClocked, news_of}
 use Rattle.run_steps.proofs.BringLemmas.{unbrought_cause}
 use Rattle.run_steps.specs.declared.clocked.Clocked.{Clocked}
@@ -28,22 +28,22 @@ use Rattle.run_steps.specs.declared.clocked.Clocked.{Clocked}
 
 pub walks_none : (a : Standing) (settings : Settings) (walk : PathWalk) → WalksTo a a settings walk walk
 walks_none a settings walk = record {
-  runs = λ here s paid keeps. record { here = here; paid = paid; goes = goes_refl a.told (walking settings walk s here); keeps = keeps };
+  runs = λ here s still keeps. record { here = here; still = still; goes = goes_refl a.told (walking settings walk s here); keeps = keeps };
 }
 
 pub walks_trans : (a b c : Standing) (settings : Settings) (from mid to : PathWalk) → WalksTo a b settings from mid → WalksTo b c settings mid to → WalksTo a c settings from to
 walks_trans a b c settings from mid to p q = record {
-  runs = λ here s paid keeps.
-      let one = p.runs here s paid keeps in
-      let two = q.runs one.here s one.paid one.keeps in
-      record { here = two.here; paid = two.paid; goes = goes_trans a.told b.told c.told _ _ _ one.goes two.goes; keeps = two.keeps };
+  runs = λ here s still keeps.
+      let one = p.runs here s still keeps in
+      let two = q.runs one.here s one.still one.keeps in
+      record { here = two.here; still = two.still; goes = goes_trans a.told b.told c.told _ _ _ one.goes two.goes; keeps = two.keeps };
 }
 
 pub walk_fails_on : (a b c : Standing) (settings : Settings) (from mid : PathWalk) (status : Status) → WalksTo a b settings from mid → WalkFails b c settings mid status → WalkFails a c settings from status
 walk_fails_on a b c settings from mid status p q = record {
-  runs = λ here s paid keeps.
-      let one = p.runs here s paid keeps in
-      halts_after a.told b.told c.told _ _ status one.goes (q.runs one.here s one.paid one.keeps);
+  runs = λ here s still keeps.
+      let one = p.runs here s still keeps in
+      halts_after a.told b.told c.told _ _ status one.goes (q.runs one.here s one.still one.keeps);
 }
 
 pub ruleset walking_on = (walks_none, walks_trans, walk_fails_on)
@@ -71,10 +71,10 @@ module _ (a b : Standing) (settings : Settings) (walk : PathWalk) (after : Clock
     pub at : IsAt to (AtNames settings (naming_of walk) s)
     pub keeps : KeepsClocked s after
 
-  comes : (here : Run) (s : Server) → here.owed ≡ [] → KeepsClocked s walk.clocked → Comes (walking settings walk s here) s
-  comes here s paid keeps =
+  comes : (here : Run) (s : Server) → IsStill here → KeepsClocked s walk.clocked → Comes (walking settings walk s here) s
+  comes here s still keeps =
       let P : Run → Type 0 = λ r. Comes r s in
-      let one = brought.runs here (λ t. here.point) (AtNames settings (naming_of walk)) s (λ t. tt) (record { point = refl; paid = paid }) keeps in
+      let one = brought.runs here (λ t. here.point) (AtNames settings (naming_of walk)) s (λ t. tt) (record { point = refl; still = still }) keeps in
       subst P (sym (goes_on settings walk p ps s here left)) (record { to = one.to; goes = one.goes; at = one.at; keeps = one.keeps })
 
   listed : (c : Standing) (answer : NamesAnswer) (to : Run) (s : Server) → Called b (Names (directory p.watch.path) answer) c → IsAt to (AtNames settings (naming_of walk) s)
@@ -95,8 +95,8 @@ module _ (a b : Standing) (settings : Settings) (walk : PathWalk) (after : Clock
       → found ≡ walk.found ++ expanded_path p listing.names → settled found ps ≡ naming_of next → next.clocked ≡ after → next.before ≡ listing.unread
       → WalksTo a c settings walk next
   walk_next c now listing next found timely lists more rest same before = record {
-    runs = λ here s paid keeps.
-        let one = comes here s paid keeps in
+    runs = λ here s still keeps.
+        let one = comes here s still keeps in
         let answer = lists.answer in
         let naming : named (names_in answer) (naming_of walk) ≡ naming_of next =
         ap (λ (l : List Path). named (names_in answer) (record { found = walk.found; left = l })) left
@@ -110,7 +110,7 @@ module _ (a b : Standing) (settings : Settings) (walk : PathWalk) (after : Clock
         let R : Clocked → Type 0 = λ k. KeepsClocked s k in
         record {
           here = one.to;
-          paid = one.at.paid;
+          still = one.at.still;
           goes = goes_trans a.told b.told c.told _ one.to _ one.goes (subst Q there (listed c answer one.to s lists.called one.at));
           keeps = subst R (sym same) one.keeps;
         };
@@ -119,8 +119,8 @@ module _ (a b : Standing) (settings : Settings) (walk : PathWalk) (after : Clock
   -- memory ran out behind that
   pub listed_memory : (c : Standing) → AsksNames b c p → WalkFails a c settings walk NoMemory
   listed_memory c asks = record {
-    runs = λ here s paid keeps.
-        let one = comes here s paid keeps in
+    runs = λ here s still keeps.
+        let one = comes here s still keeps in
         halts_after a.told b.told c.told _ one.to NoMemory one.goes (asked_halts c asks.answer one.to s asks.asked one.at);
   }
 
@@ -135,14 +135,14 @@ slice_brought a b slice walk after same brought =
 pub lines_unsaid : (a b : Standing) (settings : Settings) (walk : PathWalk) (p : Path) (ps : List Path) (status : Status) → walk.left.now ≡ p ∷ ps
     → BringFails KeepsClocked a b (news_of walk.before None []) walk.clocked status → WalkFails a b settings walk status
 lines_unsaid a b settings walk p ps status left fails = record {
-  runs = λ here s paid keeps.
+  runs = λ here s still keeps.
       let P : Run → Type 0 = λ r. Halts a.told b.told r status in
       subst P (sym (goes_on settings walk p ps s here left))
-      (fails.runs here (λ t. here.point) (AtNames settings (naming_of walk)) s (λ t. tt) (record { point = refl; paid = paid }) keeps);
+      (fails.runs here (λ t. here.point) (AtNames settings (naming_of walk)) s (λ t. tt) (record { point = refl; still = still }) keeps);
 }
 
 -- memory ran out at once
 pub walk_memory : (a : Standing) (settings : Settings) (walk : PathWalk) → WalkFails a a settings walk NoMemory
-walk_memory a settings walk = record { runs = λ here s paid keeps. halts_here a.told (walking settings walk s here) }
+walk_memory a settings walk = record { runs = λ here s still keeps. halts_here a.told (walking settings walk s here) }
 
 pub ruleset naming = (walk_next, listed_memory, lines_unsaid, walk_memory, unbrought_cause)

@@ -1,24 +1,30 @@
--- The first turn of a run: its server has the jails of the configuration, with the paths that were found.
+-- The first turn of a run: its server goes on from what was loaded, and has the jails of the configuration, with the paths that were found.
 use Rattle.std.specs.Prelude.{◌≡◌, List, [], map}
-use Rattle.f2b_model.specs.Moves.{fresh}
+use Rattle.f2b_model.specs.State.{Jail}
 use Rattle.f2b_world.specs.Told.{Standing}
 use Rattle.child_table.specs.Children.{nobody}
 use Rattle.jail_conf.specs.declared.settings.Settings.{Settings}
-use Rattle.run_law.specs.Law.{Goes}
+use Rattle.reconcile.specs.Engines.{EngineNow}
+use Rattle.reconcile.specs.Loads.{Loaded}
+use Rattle.run_law.specs.Law.{Goes, Halts}
 use Rattle.run_law.specs.Paths.{Path, with_paths}
 use Rattle.run_law.specs.Points.{AtFirst, Run}
 use Rattle.run_law.specs.Server.{Server, jails}
 use Rattle.run_law.specs.Stages.{IsAt}
 use Rattle.run_law.specs.Start.{first_turn}
 use Rattle.run_law.specs.declared.plan.Plan.{Plan}
+use Rattle.run_law.specs.declared.status.Status.{Status}
+use Rattle.run_start.specs.Followed.{AreAwake}
 use Rattle.run_steps.specs.Keeping.{KeepsClocked}
+use Rattle.run_steps.specs.Starting.{KeepsLoaded}
 use Rattle.run_steps.specs.declared.clocked.Clocked.{Clocked}
 
--- what the code keeps of a server whose jails are as the configuration adds them, before its first turn
+-- What the code keeps of a server before its first turn: its jails are those of the configuration, and none is idle.
 pub record KeepsFirst (plan : Plan) (settings : Settings) (s : Server) (kept : Clocked) : Type 0 where
   pub clocked : KeepsClocked s kept
   pub found : List Path
-  pub jails : jails s ≡ map fresh (with_paths settings.defs found).jails
+  pub definitions : map (λ (j : Jail). j.definition) (jails s) ≡ (with_paths settings.defs found).jails
+  pub awake : AreAwake (jails s)
   pub logs : s.logs ≡ []
   pub children : s.children ≡ nobody
   pub left : s.left ≡ plan.turns
@@ -31,6 +37,10 @@ pub record Begun (old new : Standing) (plan : Plan) (settings : Settings) (r : R
   pub at : IsAt to (first_turn server)
   pub keeps : KeepsFirst plan settings server kept
 
--- from the first reading of the clock to the first turn
-pub record Begins (old new : Standing) (plan : Plan) (settings : Settings) (kept : Clocked) : Type 0 where
-  pub runs : (r : Run) → r.plan ≡ plan → IsAt r (AtFirst settings) → Begun old new plan settings r kept
+-- from the first reading of the clock to the first turn, where the engine is what was loaded
+pub record Begins (old new : Standing) (plan : Plan) (settings : Settings) (engine : EngineNow) (kept : Clocked) : Type 0 where
+  pub runs : (r : Run) (l : Loaded) → r.plan ≡ plan → IsAt r (AtFirst settings l) → KeepsLoaded l engine → Begun old new plan settings r kept
+
+-- the run ends on the way
+pub record BeginFails (old new : Standing) (plan : Plan) (settings : Settings) (engine : EngineNow) (status : Status) : Type 0 where
+  pub runs : (r : Run) (l : Loaded) → r.plan ≡ plan → IsAt r (AtFirst settings l) → KeepsLoaded l engine → Halts old.told new.told r status

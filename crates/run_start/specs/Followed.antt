@@ -4,6 +4,7 @@ use Rattle.f2b_base.specs.declared.view.JailView.{JailView}
 use Rattle.f2b_base.specs.declared.view.WatchView.{WatchView}
 use Rattle.f2b_model.specs.Lists.{AllOf}
 use Rattle.f2b_model.specs.State.{Jail}
+use Rattle.f2b_model.specs.Storable.{IsJailName}
 use Rattle.f2b_model.specs.declared.jail_now.JailNow.{JailNow}
 use Rattle.filter_regex.specs.Rules.{Rules, rules_of}
 use Rattle.log_follow.specs.Watches.{IsPlace}
@@ -15,7 +16,7 @@ use Rattle.run_steps.specs.declared.clocked.Clocked.{Clocked}
 
 -- what is searched by, jail by jail
 abbrev pub rules_in : Clocked → List Rules
-rules_in kept = map (λ (j : JailNow). rules_of j.definition) kept.core.jails.jails
+rules_in kept = map (λ (j : JailNow). rules_of j.definition) kept.engine.core.jails.jails
 
 -- what is kept of each of these logs is a place
 abbrev pub AreWatchesOfPlaces : List WatchView → Type 0
@@ -28,7 +29,11 @@ abbrev pub HasPlaces : JailNow → Type 0
 HasPlaces j = AreWatchesOfPlaces j.watches
 
 abbrev pub ArePlaces : Clocked → Type 0
-ArePlaces kept = AllOf HasPlaces kept.core.jails.jails
+ArePlaces kept = AllOf HasPlaces kept.engine.core.jails.jails
+
+-- each of these jails has a name that a jail can have
+abbrev pub AreNamed : List JailView → Type 0
+AreNamed vs = AllOf (λ (v : JailView). IsJailName v.name) vs
 
 -- the logs of no jail rest
 abbrev pub AreAwake : List Jail → Type 0

@@ -1,4 +1,5 @@
 pub mod Configured
+pub mod Few
 pub mod First
 pub mod Followed
 pub mod Found

@@ -1,10 +1,9 @@
 //! The configuration with the paths that were found.
 ghost use Rattle.std.specs.Prelude.{◌≡◌, ◌++◌, [], IfOk, OnOk, map};
-ghost use Rattle.f2b_model.specs.Bounds.{IsBounded};
-ghost use Rattle.f2b_model.specs.Lists.{AllOf};
-ghost use Rattle.f2b_model.specs.Sound.{AreFitDefs};
+ghost use Rattle.f2b_model.specs.Storable.{AreStorableDefs};
 ghost use Rattle.run_law.specs.Paths.{once_each, with_paths};
-ghost use Rattle.run_start.specs.Found.{found_next, is_among, watches_at, with_watches};
+ghost use Rattle.run_start.specs.Few.{AreFew, watches_at};
+ghost use Rattle.run_start.specs.Found.{AreTexts, found_next, is_among, with_watches};
 
 use crate::path::JailPath;
 use f2b_base::{Defs, JailDef, NoMemory, Plain, Seq, Text, WatchDef};
@@ -62,14 +61,24 @@ fn jails_with(
     Ok(with)
 }
 
+// Looks at each path, which is UTF-8 by its type: nothing else is done.
+#[tactic(auto, using(crate::proofs::FoundLemmas::seeing))]
+fn see_paths(paths: &[JailPath])
+    ensures { AreTexts paths.now }
+{
+    for path in paths {
+        let _path = path.watch().path.as_str();
+    }
+}
+
 /// The definitions with the paths that were found in place of their own, each path of a jail once.
 pub fn with_paths(alloc: Global, defs: &Defs, found: &[JailPath]) -> Result<Defs, NoMemory>
-    requires fit { AreFitDefs defs.now }
-    requires bounded { AllOf IsBounded defs.now.jails }
+    requires storable { AreStorableDefs defs.now }
+    requires few { AreFew found.now [] }
     ensures value { IfOk result (λ with. with ≡ with_paths defs.now found.now) }
-    ensures fit { IfOk result AreFitDefs }
-    ensures bounded { IfOk result (λ with. AllOf IsBounded with.jails) }
+    ensures storable { IfOk result AreStorableDefs }
 {
+    see_paths(found);
     Ok(Defs {
         purge: defs.purge,
         jails: jails_with(alloc, defs.jails.as_slice(), found)?,

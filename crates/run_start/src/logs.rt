@@ -1,7 +1,8 @@
 //! The logs of the jails.
 ghost use Rattle.std.specs.Prelude.{◌≡◌, IfOk, OnOk, flat_map, map};
+ghost use Rattle.f2b_model.specs.Storable.{IsJailName};
 ghost use Rattle.run_law.specs.Logs.{log_begun};
-ghost use Rattle.run_start.specs.Followed.{AddsLogs, ArePlaces, AreViewsOfPlaces, AreWatchesOfPlaces, FollowsAll, logs_at, rules_in};
+ghost use Rattle.run_start.specs.Followed.{AddsLogs, AreNamed, ArePlaces, AreViewsOfPlaces, AreWatchesOfPlaces, FollowsAll, logs_at, rules_in};
 
 use f2b_base::{JailView, NoMemory, Text, WatchView};
 use filter_regex::Filter;
@@ -17,7 +18,8 @@ fn add_watches(
     jail: &Text,
     watches: &[WatchView],
 ) -> Result<(), NoMemory>
-    requires { AreWatchesOfPlaces watches.now }
+    requires named { IsJailName jail.now }
+    requires places { AreWatchesOfPlaces watches.now }
     ensures { OnOk result (AddsLogs set.old set.new (map (log_begun jail.now) watches.now)) }
 {
     for watch in watches {
@@ -29,7 +31,8 @@ fn add_watches(
 // Follows the logs of these jails, behind those that are followed.
 #[tactic(auto, using(crate::proofs::FollowLemmas::adding))]
 fn add_jails(alloc: Global, set: &mut LogSet<'_>, jails: &[JailView]) -> Result<(), NoMemory>
-    requires { AreViewsOfPlaces jails.now }
+    requires named { AreNamed jails.now }
+    requires places { AreViewsOfPlaces jails.now }
     ensures { OnOk result (AddsLogs set.old set.new (flat_map logs_at jails.now)) }
 {
     for jail in jails {
@@ -50,7 +53,7 @@ pub fn follow<'f>(
     ensures { IfOk result (FollowsAll clocked.entry.now) }
 {
     // By the state and not by the configuration: a start over what was stored begins its logs in the same way.
-    let view = clocked.core.view()?;
+    let view = clocked.engine.core().view()?;
     let mut set = LogSet::new(alloc, filters, view.defs.jails.as_slice())?;
     add_jails(alloc, &mut set, view.jails.as_slice())?;
     Ok(set)

@@ -4,30 +4,20 @@ ghost use Rattle.log_follow.specs.Globs.{has_wildcard};
 ghost use Rattle.run_law.specs.Paths.{expanded_path};
 ghost use Rattle.run_law.specs.Stages.{HasCause, IsSteady};
 ghost use Rattle.run_start.specs.Walks.{IsWild, WalkFails, WalksTo};
+ghost use Rattle.run_steps.specs.Keeping.{IsPlacedIn};
 ghost use Rattle.std.specs.Prelude.{true};
 
 use crate::listing::{Listing, list};
 use crate::path::JailPath;
 use crate::paths::{push_watches, settle};
-use f2b_base::{Bytes, NoMemory, Seq, Text};
-use f2b_world::{Directories, World};
+use crate::walk::PathWalk;
+use f2b_base::{NoMemory, Seq, Text};
+use f2b_world::{Directories, Disk, World};
 use jail_conf::Settings;
 use log_follow::expand_path;
 use run_law::Status;
-use run_steps::{Clocked, bring};
+use run_steps::bring;
 use std::alloc::Global;
-
-/// The walk over the paths of all jails.
-#[derive(Drop)]
-pub struct PathWalk<'p> {
-    pub clocked: Clocked,
-    /// The paths that are settled.
-    pub found: Seq<JailPath>,
-    /// The paths that are still to come. The first of them has a wildcard, if there is one.
-    pub left: &'p [JailPath],
-    /// The lines of the last listing.
-    pub before: Seq<Bytes>,
-}
 
 // The paths that a path with a wildcard stands for, behind those that are found.
 #[tactic(auto, using(crate::proofs::PathLemmas::expanding))]
@@ -54,8 +44,8 @@ fn first_of(left: &[JailPath]) -> (&JailPath, &[JailPath])
 }
 
 // Says the lines of the last listing, and lists the directory of the first path that is left.
-#[tactic(auto, using(crate::proofs::WalkLemmas::naming, run_law::proofs::CauseLemmas::counting))]
-fn name_next<'p, W: World + Directories>(
+#[tactic(auto, using(crate::proofs::WalkLemmas::naming, crate::proofs::FewLemmas::counting_paths, run_law::proofs::CauseLemmas::counting))]
+fn name_next<'p, W: World + Directories + Disk>(
     alloc: Global,
     world: &mut W,
     settings: &Settings,
@@ -63,10 +53,12 @@ fn name_next<'p, W: World + Directories>(
 ) -> Result<PathWalk<'p>, Status>
     requires wild { IsWild walk.left.now }
     requires some { 1 ≤ length walk.left.now }
+    requires placed { IsPlacedIn (W.stands world.old).told walk.clocked }
     ensures ok { IfOk result (WalksTo (W.stands world.old) (W.stands world.new) settings.now walk.entry) }
     ensures err { IfErr result (WalkFails (W.stands world.old) (W.stands world.new) settings.now walk.entry) }
     ensures cause { IfErr result (HasCause (W.stands world.old) (W.stands world.new)) }
     ensures steady { IsSteady (W.stands world.old) (W.stands world.new) }
+    ensures placed { IfOk result (λ after. IsPlacedIn (W.stands world.new).told after.clocked) }
     ensures wild { IfOk result (λ after. IsWild after.left.now) }
     ensures shorter { IfOk result (λ after. length after.left.now < length walk.entry.left.now) }
 {
@@ -92,18 +84,20 @@ fn name_next<'p, W: World + Directories>(
 
 /// Names all paths that are left, one after the other. Where none is left there is nothing that can fail.
 #[tactic(auto, using(crate::proofs::WalkLemmas::walking_on, run_law::proofs::CauseLemmas::counting))]
-pub fn name_all<'p, W: World + Directories>(
+pub fn name_all<'p, W: World + Directories + Disk>(
     alloc: Global,
     world: &mut W,
     settings: &Settings,
     walk: PathWalk<'p>,
 ) -> Result<PathWalk<'p>, Status>
-    requires { IsWild walk.left.now }
+    requires wild { IsWild walk.left.now }
+    requires placed { IsPlacedIn (W.stands world.old).told walk.clocked }
     ensures ok { IfOk result (WalksTo (W.stands world.old) (W.stands world.new) settings.now walk.entry) }
     ensures err { IfErr result (WalkFails (W.stands world.old) (W.stands world.new) settings.now walk.entry) }
     ensures some { IfErr result (λ status. 1 ≤ length walk.entry.left.now) }
     ensures cause { IfErr result (HasCause (W.stands world.old) (W.stands world.new)) }
     ensures steady { IsSteady (W.stands world.old) (W.stands world.new) }
+    ensures placed { IfOk result (λ after. IsPlacedIn (W.stands world.new).told after.clocked) }
     ensures whole { IfOk result (λ after. after.left.now ≡ []) }
 {
     let mut walk = walk;

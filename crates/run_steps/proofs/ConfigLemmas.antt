@@ -46,7 +46,7 @@ changes_of s defs fit watched =
     let now : Test own idle = changes_is defs n (are_same_defs defs own) kept fit watched (same_defs_law defs own) refl in
     subst (λ (ds : Defs). Test ds (is_any_idle s.jails.jails)) (defs_now_are s) (subst (λ (b : Bool). Test own b) (idle_now s.jails.jails) now)
 
-pub change_told : (kept : Clocked) (defs : Defs) (changes : Bool) → AreFitDefs defs → AreWatched kept.core.jails → IsTrue changes ↔ (configured_now defs kept.core ≢ kept.core)
+pub change_told : (kept : Clocked) (defs : Defs) (changes : Bool) → AreFitDefs defs → AreWatched kept.engine.core.jails → IsTrue changes ↔ (configured_now defs kept.engine.core ≢ kept.engine.core)
     → TellsChange kept defs changes
 change_told kept defs changes fit watched is s keeps =
     let Told : Now → Type 0 = λ n. IsTrue changes ↔ (configured_now defs n ≢ n) in

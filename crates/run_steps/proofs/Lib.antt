@@ -1,6 +1,7 @@
 pub mod ToldLemmas
+pub mod StoredLemmas
+pub mod WriteLemmas
 pub mod BringLemmas
 pub mod ConfigLemmas
 pub mod StartLemmas
 pub mod RunningLemmas
-pub mod NumberLemmas

@@ -6,23 +6,29 @@ use Rattle.f2b_base.specs.declared.jail.Defs.{Defs}
 use Rattle.f2b_model.specs.Lanes.{books_now}
 use Rattle.f2b_model.specs.Sound.{IsSound}
 use Rattle.f2b_model.specs.Steps.{moves_now}
-use Rattle.f2b_model.specs.Whole.{is_whole_spent, now_of, step_now, told_now}
-use Rattle.f2b_model.specs.declared.told.Told.{Told}
-use Rattle.f2b_world.specs.Told.{Standing}
+use Rattle.f2b_model.specs.Whole.{is_whole_spent, now_of, step_now}
+use Rattle.f2b_model.specs.Storable.{IsStorableInput}
+use Rattle.f2b_world.specs.Faults.{OfDisk, Rose}
+use Rattle.f2b_world.specs.Told.{History, Standing}
+use Rattle.ban_journal.specs.Answers.{said}
+use Rattle.ban_journal.specs.Places.{IsPlaced}
+use Rattle.slot_writes.specs.Entries.{Entry, Full, Spent}
+use Rattle.reconcile.specs.Answers.{entry_for}
 use Rattle.log_set.specs.Logs.{IsSetOf}
 use Rattle.run_law.specs.Changes.{config_changes}
 use Rattle.run_law.specs.News.{News}
 use Rattle.run_law.specs.Server.{Server, log_jails}
 use Rattle.run_law.specs.Stages.{IsUnsaid}
 use Rattle.run_law.specs.declared.status.Status.{Status}
-use Rattle.run_law.specs.declared.status.Status.TheVariants.{NumbersSpent}
+use Rattle.run_law.specs.declared.status.Status.TheVariants.{DiskFault, JournalFull, NumbersSpent}
 use Rattle.run_steps.specs.declared.clocked.Clocked.{Clocked}
 use Rattle.run_steps.specs.declared.running.Running.{Running}
 
--- the middle state of a sound state, and the time
+-- the middle state of a sound state, where its journal stands, and the time
 pub record KeepsClocked (s : Server) (kept : Clocked) : Type 0 where
-  pub core : kept.core ≡ now_of s.state
+  pub core : kept.engine.core ≡ now_of s.state
   pub sound : IsSound s.state
+  pub journal : kept.engine.journal ≡ s.position
   pub now : kept.now ≡ s.now
   pub word : kept.word ≡ s.word
 
@@ -46,24 +52,32 @@ pub record IsTimedAlike (before after : Clocked) : Type 0 where
   pub now : after.now ≡ before.now
   pub word : after.word ≡ before.word
 
--- the step of an input, and what it tells
-pub record StepsTo (before : Clocked) (what : What) (after : Clocked) (told : Told) : Type 0 where
-  pub core : after.core ≡ step_now before.core (input_of before what)
-  pub tells : told ≡ told_now before.core (input_of before what)
-  pub time : IsTimedAlike before after
+-- what becomes of it in the journal
+abbrev pub entry_at : Clocked → What → Entry
+entry_at kept what = entry_for kept.engine (input_of kept what)
+
+-- it can be stored
+abbrev pub IsStorableAt : Clocked → What → Type 0
+IsStorableAt kept what = IsStorableInput (input_of kept what)
+
+-- the slots are as long as the journal knows of them
+abbrev pub IsPlacedIn : Option History → Clocked → Type 0
+IsPlacedIn told kept = IsPlaced kept.engine.journal told
 
 -- serials and ids are not used up
 abbrev pub IsLive : Clocked → Type 0
-IsLive kept = is_whole_spent moves_now books_now kept.core ≡ false
+IsLive kept = is_whole_spent moves_now books_now kept.engine.core ≡ false
 
 -- what the code keeps has made the step of what happened, if that is an input
 abbrev pub Makes : Clocked → Option What → Clocked → Type 0
-Makes before None after = after.core ≡ before.core
-Makes before (Some what) after = (after.core ≡ step_now before.core (input_of before what)) × IsLive before
+Makes before None after = after.engine.core ≡ before.engine.core
+Makes before (Some what) after = (after.engine.core ≡ step_now before.engine.core (input_of before what)) × IsLive before
 
--- What was brought was not taken: no number was left for what happened, or lines could not be said.
+-- What was brought was not taken: no number was left for what happened, or no room, the disk failed, or lines could not be said.
 abbrev pub IsUnbrought : Clocked → Option What → Standing → Standing → Status → Type 0
-IsUnbrought kept (Some what) old new NumbersSpent = is_whole_spent moves_now books_now kept.core ≡ true
+IsUnbrought kept (Some what) old new NumbersSpent = entry_at kept what ≡ Spent
+IsUnbrought kept (Some what) old new (JournalFull need limit) = (bytes : ℕ) × (entry_at kept what ≡ Full bytes) × (need ≡ said bytes) × (limit ≡ kept.engine.journal.limit)
+IsUnbrought kept (Some what) old new DiskFault = Rose (old.faults OfDisk) (new.faults OfDisk)
 IsUnbrought kept what old new status = IsUnsaid old new status
 
 -- a configuration is told to change the state of any server that is kept so exactly where it does

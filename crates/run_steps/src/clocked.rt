@@ -1,22 +1,19 @@
 //! `Clocked`, what takes inputs.
 ghost use Rattle.std.specs.Prelude.{◌≤◌};
-ghost use Rattle.f2b_base.specs.Limits.{latest_reading};
-ghost use Rattle.f2b_model.specs.Jobs.{AreById};
-ghost use Rattle.run_steps.specs.Numbers.{AreById-prop};
+ghost use Rattle.f2b_base.specs.Limits.{last_moment};
 
 use f2b_base::Defs;
-use jail_core::Core;
+use reconcile::Engine;
 
-/// The state, and the moment and the word of its next input.
+/// The state with its journal, and the moment and the word of its next input.
 #[derive(Drop)]
 pub struct Clocked {
-    pub core: Core,
-    /// The greatest reading so far, in seconds since 1970, at most the latest reading.
+    pub engine: Engine,
+    /// The greatest reading so far, in seconds since 1970, or the moment of what was loaded where that is later.
     pub now: u64,
     /// The last reading's word.
     pub word: u64,
-    ghost timely: { now ≤ latest_reading },
-    ghost numbered: { AreById 0 core.lanes.jobs core.lanes.next_job } by { AreById-prop 0 core.lanes.jobs core.lanes.next_job },
+    ghost timely: { now ≤ last_moment },
 }
 
 impl Clocked {
@@ -28,6 +25,6 @@ impl Clocked {
         requires { AreFitDefs defs.now }
         ensures { TellsChange self.entry.now defs.now result }
     {
-        self.core.config_changes(defs)
+        self.engine.core().config_changes(defs)
     }
 }

@@ -1,35 +1,51 @@
 //! Taking what an event brings.
-ghost use Rattle.std.specs.Prelude.{◌≡◌, ◌++◌, List, Option, Some, IfErr, IfOk, IfSome, OnOk};
-ghost use Rattle.f2b_model.specs.Bounds.{IsBoundedWhat};
-ghost use Rattle.f2b_model.specs.Sound.{IsFitWhat};
+ghost use Rattle.std.specs.Prelude.{◌≡◌, ◌++◌, Option, Some, IfErr, IfOk, IfSome};
 ghost use Rattle.run_law.specs.Said.{lines_of};
 ghost use Rattle.run_law.specs.Stages.{Brings, BringFails, IsSteady, IsUnsaid};
-ghost use Rattle.run_steps.specs.Keeping.{IsTimedAlike, IsUnbrought, KeepsClocked, Makes, StepsTo, news_of};
+ghost use Rattle.run_steps.specs.Keeping.{IsPlacedIn, IsStorableAt, IsTimedAlike, IsUnbrought, KeepsClocked, Makes, news_of};
+ghost use Rattle.run_steps.specs.Writing.{WriteFails, Writes};
 
 use crate::clocked::Clocked;
 use crate::say::{refuse, say_all};
 use crate::told::{push_lines, push_told};
 use f2b_base::{Bytes, Input, NoMemory, Seq, What};
 use f2b_model::Told;
-use f2b_world::World;
+use f2b_world::{Disk, World};
+use reconcile::EngineError;
 use run_law::Status;
 use std::alloc::Global;
 
-// The step alone, with what it tells.
-#[tactic(auto, using(crate::proofs::NumberLemmas::step_numbered))]
-fn step(clocked: Clocked, what: What) -> Result<(Clocked, Told), NoMemory>
-    requires fit { IsFitWhat what }
-    requires bounded { IsBoundedWhat what }
-    ensures { IfOk result (λ r. StepsTo clocked what r.0 r.1) }
+// Writes an input and makes its step, with what it tells. Where it is not written the run ends, once that is said.
+#[tactic(auto, using(crate::proofs::WriteLemmas::writing, run_law::proofs::CauseLemmas::counting))]
+fn step<W: World + Disk>(
+    alloc: Global,
+    world: &mut W,
+    clocked: Clocked,
+    what: What,
+) -> Result<(Clocked, Told), Status>
+    requires storable { IsStorableAt clocked what }
+    requires placed { IsPlacedIn (W.stands world.old).told clocked }
+    ensures ok { IfOk result (λ r. Writes (W.stands world.old) (W.stands world.new) clocked what r.0 r.1) }
+    ensures err { IfErr result (WriteFails (W.stands world.old) (W.stands world.new) clocked what) }
+    ensures cause { IfErr result (IsUnbrought clocked (Some what) (W.stands world.old) (W.stands world.new)) }
+    ensures steady { IsSteady (W.stands world.old) (W.stands world.new) }
+    ensures placed { IfOk result (λ r. IsPlacedIn (W.stands world.new).told r.0) }
 {
-    let Clocked { core, now, word } = clocked;
+    let Clocked { engine, now, word } = clocked;
     let input = Input {
         secs: now,
         word,
         what,
     };
-    let (core, told) = core.take(&input)?;
-    Ok((Clocked { core, now, word }, told))
+    match engine.take(alloc, world, input) {
+        Ok((engine, told)) => Ok((Clocked { engine, now, word }, told)),
+        Err(EngineError::Spent) => Err(refuse(alloc, world, now, Status::NumbersSpent)),
+        Err(EngineError::Full { need, limit }) => {
+            Err(refuse(alloc, world, now, Status::JournalFull { need, limit }))
+        }
+        Err(EngineError::DiskFault) => Err(refuse(alloc, world, now, Status::DiskFault)),
+        Err(EngineError::NoMemory) => Err(Status::NoMemory),
+    }
 }
 
 // Lines that come first, those of what a step told, and lines that come behind.
@@ -51,7 +67,7 @@ fn lines_in(
 
 // Takes an input with its lines.
 #[tactic(auto, using(crate::proofs::BringLemmas::bringing, crate::proofs::BringLemmas::unbrought, run_law::proofs::CauseLemmas::counting))]
-fn bring_input<W: World>(
+fn bring_input<W: World + Disk>(
     alloc: Global,
     world: &mut W,
     clocked: Clocked,
@@ -59,19 +75,17 @@ fn bring_input<W: World>(
     what: What,
     behind: &[Bytes],
 ) -> Result<Clocked, Status>
-    requires fit { IsFitWhat what }
-    requires bounded { IsBoundedWhat what }
+    requires storable { IsStorableAt clocked what }
+    requires placed { IsPlacedIn (W.stands world.old).told clocked }
     ensures ok { IfOk result (Brings KeepsClocked (W.stands world.old) (W.stands world.new) (news_of before.now (Some what) behind.now) clocked) }
     ensures err { IfErr result (BringFails KeepsClocked (W.stands world.old) (W.stands world.new) (news_of before.now (Some what) behind.now) clocked) }
     ensures cause { IfErr result (IsUnbrought clocked (Some what) (W.stands world.old) (W.stands world.new)) }
     ensures steady { IsSteady (W.stands world.old) (W.stands world.new) }
     ensures makes { IfOk result (Makes clocked (Some what)) }
     ensures rest { IfOk result (IsTimedAlike clocked) }
+    ensures placed { IfOk result (IsPlacedIn (W.stands world.new).told) }
 {
-    if clocked.core.spent() {
-        return Err(refuse(alloc, world, clocked.now, Status::NumbersSpent));
-    }
-    let (clocked, told) = step(clocked, what)?;
+    let (clocked, told) = step(alloc, world, clocked, what)?;
     let lines = lines_in(alloc, clocked.now, before, &told, behind)?;
     say_all(alloc, world, lines.as_slice())?;
     Ok(clocked)
@@ -86,11 +100,13 @@ fn bring_lines<W: World>(
     before: &[Bytes],
     behind: &[Bytes],
 ) -> Result<Clocked, Status>
+    requires { IsPlacedIn (W.stands world.old).told clocked }
     ensures ok { IfOk result (Brings KeepsClocked (W.stands world.old) (W.stands world.new) (news_of before.now Option.None behind.now) clocked) }
     ensures err { IfErr result (BringFails KeepsClocked (W.stands world.old) (W.stands world.new) (news_of before.now Option.None behind.now) clocked) }
     ensures cause { IfErr result (IsUnsaid (W.stands world.old) (W.stands world.new)) }
     ensures steady { IsSteady (W.stands world.old) (W.stands world.new) }
     ensures same { IfOk result (λ after. after ≡ clocked) }
+    ensures placed { IfOk result (IsPlacedIn (W.stands world.new).told) }
 {
     let mut lines = Seq::new(alloc);
     push_lines(&mut lines, before)?;
@@ -99,9 +115,10 @@ fn bring_lines<W: World>(
     Ok(clocked)
 }
 
-/// Takes what an event brings: lines that come first, what happened, if that is an input, and lines that come behind.
+/// Takes what an event brings: lines that come first, what happened, if that is an input, and lines that come behind. An input is on
+/// the disk before its lines are said.
 #[tactic(auto, using(crate::proofs::BringLemmas::unbrought))]
-pub fn bring<W: World>(
+pub fn bring<W: World + Disk>(
     alloc: Global,
     world: &mut W,
     clocked: Clocked,
@@ -109,14 +126,15 @@ pub fn bring<W: World>(
     what: Option<What>,
     behind: &[Bytes],
 ) -> Result<Clocked, Status>
-    requires fit { IfSome what IsFitWhat }
-    requires bounded { IfSome what IsBoundedWhat }
+    requires storable { IfSome what (IsStorableAt clocked) }
+    requires placed { IsPlacedIn (W.stands world.old).told clocked }
     ensures ok { IfOk result (Brings KeepsClocked (W.stands world.old) (W.stands world.new) (news_of before.now what behind.now) clocked) }
     ensures err { IfErr result (BringFails KeepsClocked (W.stands world.old) (W.stands world.new) (news_of before.now what behind.now) clocked) }
     ensures cause { IfErr result (IsUnbrought clocked what (W.stands world.old) (W.stands world.new)) }
     ensures steady { IsSteady (W.stands world.old) (W.stands world.new) }
     ensures makes { IfOk result (Makes clocked what) }
     ensures rest { IfOk result (IsTimedAlike clocked) }
+    ensures placed { IfOk result (IsPlacedIn (W.stands world.new).told) }
 {
     match what {
         Some(what) => bring_input(alloc, world, clocked, before, what, behind),

@@ -5,13 +5,15 @@ use Rattle.std.specs.List.{flat_map}
 use Rattle.std.proofs.lemmas.List.{map-append, take-append-drop}
 use Rattle.std.proofs.lemmas.List.Elements.{Contains-append_left, Contains-append_right}
 use Rattle.f2b_base.specs.declared.jail.JailDef.{JailDef}
+use Rattle.f2b_model.specs.Lists.{AllOf}
 use Rattle.f2b_world.specs.Told.{History, Standing, Adds, grown}
 use Rattle.f2b_world.specs.Walks.{after, Along}
 use Rattle.f2b_world.specs.declared.answer.MakeAnswer.TheVariants.{Built as WasBuilt}
 use Rattle.f2b_world.specs.declared.event.Event.{Event}
 use Rattle.f2b_world.specs.declared.event.Event.TheVariants.{Make}
+use Rattle.f2b_world.proofs.AddsLemmas.{adds_weaker}
 use Rattle.f2b_world.proofs.WalkLemmas.{after_append, along_append}
-use Rattle.filter_regex.specs.Builds.{answer, built}
+use Rattle.filter_regex.specs.Builds.{AreCalls, answer, built}
 use Rattle.filter_regex.specs.Builds as filter
 use Rattle.filter_regex.specs.Rules.{Rules, patterns, rules_of}
 use Rattle.filter_regex.specs.declared.error.BuildKind.{BuildKind}
@@ -20,8 +22,9 @@ use Rattle.filter_regex.specs.declared.error.PatternError.{PatternError}
 use Rattle.filter_regex.specs.declared.error.PatternError.TheVariants.{Refused, NoMemory as MemoryError}
 use Rattle.filter_regex.specs.declared.error.PatternPlace.{PatternPlace}
 use Rattle.jail_conf.specs.declared.settings.Settings.{Settings}
+use Rattle.reconcile.specs.Laws.{ChangesNoSlot}
 use Rattle.run_law.specs.Calls.{Call, AskMake, IsNext}
-use Rattle.run_law.specs.Law.{Free, Goes, Halts, MayCome, call_of, feed, moved, next_call}
+use Rattle.run_law.specs.Law.{Free, Goes, Halts, MayCome, feed, moved, next_call}
 use Rattle.run_law.specs.News.{goes_to, refused}
 use Rattle.run_law.specs.Patterns.{Pattern, pattern_in, patterns_of_jail}
 use Rattle.run_law.specs.Points.{Point, Run}
@@ -30,7 +33,10 @@ use Rattle.run_law.specs.Start.{to_makes}
 use Rattle.run_law.specs.declared.status.Status.{Status}
 use Rattle.run_law.specs.declared.status.Status.TheVariants.{PatternRefused, NoMemory}
 use Rattle.run_law.proofs.CauseLemmas.{refused_cause}
-use Rattle.run_law.proofs.PointLemmas.{halts_after, halts_here}
+use Rattle.run_law.proofs.DiskLemmas.{may_beside, next_beside}
+use Rattle.run_law.proofs.LongLemmas.{goes_on}
+use Rattle.run_law.proofs.PointLemmas.{halts_after, halts_here, next_at}
+use Rattle.run_steps.specs.Starting.{LeavesSlots}
 use Rattle.run_trees.specs.Building.{BuildFails, Builds, IsCaused}
 use Rattle.run_trees.specs.Trees.{IsOfTree}
 
@@ -57,14 +63,12 @@ module _ (d : JailDef) (settings : Settings) (left : List Pattern) where
   come_at ps r at = ap (λ (p : Point). goes_to p r) at.point
 
   next_make : (p : Placed) (ps : List Placed) (r : Run) → IsAt r (at_first (p ∷ ps)) → next_call r ≡ Some (AskMake p.1)
-  next_make p ps r at =
-      ap (λ (point : Point). call_of r.plan point r.owed) at.point
-      ∙ ap (λ (lines : List (List ℕ)). call_of r.plan (at_first (p ∷ ps)) lines) at.paid
+  next_make p ps r at = next_at r (at_first (p ∷ ps)) at
 
   may_make : (p : Placed) (ps : List Placed) (r : Run) (event : Event) → IsAt r (at_first (p ∷ ps)) → IsNext (Some (AskMake p.1)) event → MayCome r event
   may_make p ps r event at is =
       let P : Option Call → Type 0 = λ c. IsNext c event in
-      subst P (sym (next_make p ps r at)) is
+      may_beside r event (next_beside (Some (AskMake p.1)) event tt is) (subst P (sym (next_make p ps r at)) is)
 
   -- a pattern that was built leads to the next
   feed_built : (p : Placed) (ps : List Placed) (r : Run) → IsAt r (at_first (p ∷ ps)) → feed r (Make p.1 WasBuilt) ≡ come ps r
@@ -75,7 +79,7 @@ module _ (d : JailDef) (settings : Settings) (left : List Pattern) where
   passes (p ∷ ps) r g at =
       let event : Event = Make p.1 WasBuilt in
       let P : Run → Type 0 = λ s. Passes s (grown g (event ∷ [])) (built ps) in
-      let there : IsAt (come ps r) (at_first ps) = record { point = refl; paid = at.paid } in (
+      let there : IsAt (come ps r) (at_first ps) = record { point = refl; still = record { written = at.still.written; paid = at.still.paid } } in (
         record { holds = tt; allowed = may_make p ps r event at refl; honest = tt; bounded = tt },
         subst P (sym (feed_built p ps r at)) (passes ps (come ps r) (grown g (event ∷ [])) there),
       )
@@ -83,7 +87,7 @@ module _ (d : JailDef) (settings : Settings) (left : List Pattern) where
   comes_to : (ps : List Placed) (r : Run) → IsAt r (at_first ps) → run_after r (built ps) ≡ come [] r
   comes_to [] r at = come_at [] r at
   comes_to (p ∷ ps) r at =
-      let there : IsAt (come ps r) (at_first ps) = record { point = refl; paid = at.paid } in
+      let there : IsAt (come ps r) (at_first ps) = record { point = refl; still = record { written = at.still.written; paid = at.still.paid } } in
       ap (λ (s : Run). run_after s (built ps)) (feed_built p ps r at) ∙ comes_to ps (come ps r) there
 
   -- a pattern that was refused ends the run
@@ -123,7 +127,7 @@ module _ (d : JailDef) (settings : Settings) (left : List Pattern) where
       ∙ ap (to_makes settings) (append_assoc (map (pattern_in d) before) (map (pattern_in d) after) left)
 
   divided_at : (ps before after : List Placed) (r : Run) → ps ≡ before ++ after → IsAt r (at_first d settings left ps) → IsAt r (at_first d settings (behind after) before)
-  divided_at ps before after r is at = record { point = at.point ∙ divided ps before after is; paid = at.paid }
+  divided_at ps before after r is at = record { point = at.point ∙ divided ps before after is; still = at.still }
 
   -- memory ran out on the way
   halts_within : (a b : Option History) (ps : List Placed) (r : Run) → IsAt r (at_first d settings left ps) → Adds a b (λ g es. (n : ℕ) × (es ≡ built (take n ps))) → Halts a b r NoMemory
@@ -148,7 +152,7 @@ module _ (d : JailDef) (settings : Settings) (left : List Pattern) where
       let there = divided_at ps w.before rest r w.order at in
       let mid : Run = come d settings (behind rest) [] r in
       let reached : run_after r (built w.before) ≡ mid = comes_to d settings (behind rest) w.before r there in
-      let here : IsAt mid (at_first d settings left rest) = record { point = refl; paid = at.paid } in
+      let here : IsAt mid (at_first d settings left rest) = record { point = refl; still = record { written = at.still.written; paid = at.still.paid } } in
       let P : Run → Type 0 = λ s. Passes s (grown adds.0 (built w.before)) (event ∷ []) in
       let Q : List Event → Type 0 = λ es. Passes r adds.0 es in
       let along : Passes r adds.0 (built w.before ++ event ∷ []) =
@@ -169,8 +173,10 @@ jail_built old new d rules builds = record {
     runs = λ r is at. record {
       to = come d settings left [] r;
       goes = goes_through d settings left old.told new.told (patterns (rules_of d)) r at builds.told;
-      at = record { point = refl; paid = at.paid };
+      at = record { point = refl; still = record { written = at.still.written; paid = at.still.paid } };
       asked = is;
+      slots = refl;
+      unclosed = refl;
     };
   };
 }
@@ -190,7 +196,7 @@ jail_refused old mid new d jail place kind status builds name refuses = record {
         let Q : List ℕ → Type 0 = λ n. Refuses mid new 0 (PatternRefused n place kind) status in
         halts_after old.told mid.told new.told r (refused 0 (PatternRefused d.name place kind) r) status
         (goes_away d settings left old.told mid.told (patterns (rules_of d)) place kind r at builds.told)
-        ((subst Q name refuses).runs r at.paid);
+        ((subst Q name refuses).runs r at.still);
   };
 }
 
@@ -204,6 +210,23 @@ jail_untold old new d place kind builds = record {
         (goes_away d settings left old.told new.told (patterns (rules_of d)) place kind r at builds.told)
         (halts_here new.told over);
   };
+}
+
+-- ---- slots, and how long they are
+
+-- building a pattern writes nothing
+makes_still : (ps : List Placed) → AllOf ChangesNoSlot (built ps)
+makes_still [] = tt
+makes_still (p ∷ ps) = (tt, makes_still ps)
+
+pub jail_still : (old new : Standing) (d : JailDef) (rules : Rules) → filter.Builds (rules_of d) (Ok rules) old new → LeavesSlots old new
+jail_still old new d rules builds =
+    adds_weaker (λ g es. es ≡ built (patterns (rules_of d))) (λ g es. AllOf ChangesNoSlot es) old.told new.told builds.told (λ g es is. subst (AllOf ChangesNoSlot) (sym is) (makes_still (patterns (rules_of d))))
+
+pub jail_steady : (old new : Standing) (d : JailDef) (outcome : Result Rules PatternError) → filter.Builds (rules_of d) outcome old new → IsSteady old new
+jail_steady old new d outcome builds = record {
+  counts = builds.steady;
+  history = goes_on (λ (g : History) (es : List Event). AreCalls (rules_of d) outcome es) old.told new.told builds.told;
 }
 
 -- ---- causes
@@ -242,14 +265,11 @@ pub jail_caused : (old mid new : Standing) (d : JailDef) (jail : List ℕ) (plac
 jail_caused old mid new d jail place kind status builds name steady seen = record {
   cause = λ settings is stands.
       let Q : List ℕ → Type 0 = λ n. IsRefusedAs mid new (PatternRefused n place kind) status in
-      refused_cause old mid new (PatternRefused d.name place kind) status (refusal_cause old mid d place kind builds settings is stands) (record { counts = builds.steady }) steady (subst Q name seen);
+      refused_cause old mid new (PatternRefused d.name place kind) status (refusal_cause old mid d place kind builds settings is stands) (jail_steady old mid d (Err (Refused place kind)) builds) steady (subst Q name seen);
 }
 
 -- want of memory is free
 pub memory_caused : (old new : Standing) (d : JailDef) → IsCaused old new d NoMemory
 memory_caused old new d = record { cause = λ settings is stands. tt }
 
-pub jail_steady : (old new : Standing) (d : JailDef) (outcome : Result Rules PatternError) → filter.Builds (rules_of d) outcome old new → IsSteady old new
-jail_steady old new d outcome builds = record { counts = builds.steady }
-
-pub ruleset building = (jail_built, jail_unbuilt, jail_refused, jail_untold, jail_caused, memory_caused, jail_steady)
+pub ruleset building = (jail_built, jail_still, jail_unbuilt, jail_refused, jail_untold, jail_caused, memory_caused, jail_steady)

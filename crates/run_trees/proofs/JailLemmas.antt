@@ -10,7 +10,7 @@ use Rattle.f2b_world.specs.Told.{Standing}
 use Rattle.filter_regex.specs.Rules.{IsSupported}
 use Rattle.jail_conf.specs.declared.settings.Settings.{Settings}
 use Rattle.run_law.specs.Patterns.{patterns_of_jail}
-use Rattle.run_law.specs.Points.{Point, AtFirst}
+use Rattle.run_law.specs.Points.{Point, AtStore}
 use Rattle.run_law.specs.Stages.{HasCause, IsSteady}
 use Rattle.run_law.specs.Start.{to_makes}
 use Rattle.run_law.specs.declared.plan.Plan.{Plan}
@@ -57,8 +57,8 @@ module _ (settings : Settings) where
     pub next_supported : AllOf IsSupported settings.defs.jails → IsSupported d
     next_supported all = subst IsSupported (sym is) (all_at IsSupported settings.defs.jails i d all less)
 
-  -- behind the last jail comes the clock
-  pub all_built : (a b : Standing) (plan : Plan) (from : Point) (i : ℕ) → length settings.defs.jails ≤ i → Starts a b plan from (jails_left i) → Starts a b plan from (AtFirst settings)
+  -- behind the last jail comes the journal
+  pub all_built : (a b : Standing) (plan : Plan) (from : Point) (i : ℕ) → length settings.defs.jails ≤ i → Starts a b plan from (jails_left i) → Starts a b plan from (AtStore settings)
   all_built a b plan from i end starts =
       let P : Point → Type 0 = λ p. Starts a b plan from p in
       subst P (ap (λ (ds : List JailDef). to_makes settings (flat_map patterns_of_jail ds)) (drop_all i settings.defs.jails end)) starts

@@ -22,8 +22,8 @@ use Rattle.run_law.specs.declared.status.Status.{Status}
 use Rattle.run_law.specs.declared.status.Status.TheVariants.{ConfFault, ConfRefused, ConfTooLarge, NoMemory}
 use Rattle.run_law.proofs.CauseLemmas.{refused_cause, steady_call, steady_refl}
 use Rattle.run_law.proofs.PointLemmas.{halts_after, halts_here, point_goes}
-use Rattle.run_steps.specs.Starting.{StartFails, Starts}
-use Rattle.run_steps.proofs.StartLemmas.{refused_call, starts_call, start_fails_here}
+use Rattle.run_steps.specs.Starting.{LeavesSlots, StartFails, Starts}
+use Rattle.run_steps.proofs.StartLemmas.{leaves_call, refused_call, starts_call, start_fails_here}
 use Rattle.run_trees.specs.Trees.{IsDecided, IsOfTree, IsRead}
 
 -- ---- what a tree comes to
@@ -91,6 +91,13 @@ pub asked_steady : (a b : Standing) (event : Option Event) → Asked a event b �
 asked_steady a b None asked = let P : Standing → Type 0 = λ s. IsSteady a s in subst P (sym asked) (steady_refl a)
 asked_steady a b (Some event) asked = steady_call a b event asked
 
+-- a configuration that was read is no write
+pub tree_still : (a b : Standing) (root : List ℕ) (answer : TreeAnswer) (settings : Settings) → Asked a (config_event root answer) b → IsDecided answer (Ok settings) → LeavesSlots a b
+tree_still a b root (TreeGiven tree) settings asked is = leaves_call a b (Config root (TreeGiven tree)) tt asked
+tree_still a b root TreeFailed settings asked is = absurd is
+tree_still a b root TreeTooLarge settings asked is = absurd is
+tree_still a b root TreeNoMemory settings asked is = absurd is
+
 -- ---- refusals
 
 pub tree_refusal : (answer : TreeAnswer) (refusal : Status) → IsDecided answer (Err refusal) → IsRefusal refusal
@@ -124,4 +131,4 @@ tree_stored TreeFailed settings is = absurd is
 tree_stored TreeTooLarge settings is = absurd is
 tree_stored TreeNoMemory settings is = absurd is
 
-pub ruleset reading = (tree_accepted, tree_refused, tree_unread, asked_steady, tree_refusal, tree_caused, tree_is, tree_stored)
+pub ruleset reading = (tree_accepted, tree_still, tree_refused, tree_unread, asked_steady, tree_refusal, tree_caused, tree_is, tree_stored)

@@ -3,10 +3,10 @@ ghost use Rattle.std.specs.Prelude.{◌≡◌, ◌++◌, [], ◌∷◌, IfErr, I
 ghost use Rattle.f2b_model.specs.Lists.{AllOf};
 ghost use Rattle.filter_regex.specs.Rules.{IsSupported, rules_of};
 ghost use Rattle.run_law.specs.Patterns.{patterns_of};
-ghost use Rattle.run_law.specs.Points.{AtFirst};
+ghost use Rattle.run_law.specs.Points.{AtStore};
 ghost use Rattle.run_law.specs.Stages.{HasCause, IsSteady};
 ghost use Rattle.run_law.specs.Start.{to_makes};
-ghost use Rattle.run_steps.specs.Starting.{Starts, StartFails};
+ghost use Rattle.run_steps.specs.Starting.{LeavesSlots, Starts, StartFails};
 ghost use Rattle.run_trees.specs.Building.{BuildFails, Builds, IsCaused};
 ghost use Rattle.run_trees.specs.Trees.{IsOfTree};
 
@@ -24,6 +24,7 @@ fn build_filter<W: World>(alloc: Global, world: &mut W, jail: &JailDef) -> Resul
     requires { IsSupported jail.now }
     ensures value { IfOk result (λ filter. filter ≡ rules_of jail.now) }
     ensures ok { OnOk result (Builds (W.stands world.old) (W.stands world.new) jail.now) }
+    ensures still { OnOk result (LeavesSlots (W.stands world.old) (W.stands world.new)) }
     ensures err { IfErr result (BuildFails (W.stands world.old) (W.stands world.new) jail.now) }
     ensures cause { IfErr result (IsCaused (W.stands world.old) (W.stands world.new) jail.now) }
     ensures steady { IsSteady (W.stands world.old) (W.stands world.new) }
@@ -53,7 +54,7 @@ fn push_filter(filters: &mut Vec<Filter>, filter: Filter) -> Result<(), NoMemory
 }
 
 /// Builds the filters of all jails, in their order: each pattern by one call, up to the first that is not built.
-#[tactic(auto, using(crate::proofs::JailLemmas::all_built, run_law::proofs::CauseLemmas::counting))]
+#[tactic(auto, using(crate::proofs::JailLemmas::all_built, run_steps::proofs::StartLemmas::leaving, run_law::proofs::CauseLemmas::counting))]
 pub fn build_filters<W: World>(
     alloc: Global,
     world: &mut W,
@@ -63,7 +64,8 @@ pub fn build_filters<W: World>(
     requires tree { IsOfTree settings.now }
     requires supported { AllOf IsSupported settings.now.defs.jails }
     ensures value { IfOk result (λ filters. filters.items ≡ map rules_of settings.now.defs.jails) }
-    ensures ok { OnOk result (Starts (W.stands world.old) (W.stands world.new) plan.now (to_makes settings.now (patterns_of settings.now.defs)) (AtFirst settings.now)) }
+    ensures ok { OnOk result (Starts (W.stands world.old) (W.stands world.new) plan.now (to_makes settings.now (patterns_of settings.now.defs)) (AtStore settings.now)) }
+    ensures still { OnOk result (LeavesSlots (W.stands world.old) (W.stands world.new)) }
     ensures err { IfErr result (StartFails (W.stands world.old) (W.stands world.new) plan.now (to_makes settings.now (patterns_of settings.now.defs))) }
     ensures cause { IfErr result (HasCause (W.stands world.old) (W.stands world.new)) }
     ensures steady { IsSteady (W.stands world.old) (W.stands world.new) }

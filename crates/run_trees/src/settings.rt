@@ -1,5 +1,5 @@
 //! The configuration of a run.
-ghost use Rattle.std.specs.Prelude.{◌≡◌, IfErr, IfOk};
+ghost use Rattle.std.specs.Prelude.{◌≡◌, IfErr, IfOk, OnOk};
 ghost use Rattle.f2b_base.specs.declared.outside.TreeAnswer.TheVariants.{Tree as TreeGiven};
 ghost use Rattle.f2b_model.specs.Bounds.{IsBounded};
 ghost use Rattle.f2b_model.specs.Lists.{AllOf};
@@ -10,7 +10,7 @@ ghost use Rattle.run_law.specs.Patterns.{patterns_of};
 ghost use Rattle.run_law.specs.Points.{AtTree};
 ghost use Rattle.run_law.specs.Stages.{HasCause, IsSteady};
 ghost use Rattle.run_law.specs.Start.{to_makes};
-ghost use Rattle.run_steps.specs.Starting.{Starts, StartFails};
+ghost use Rattle.run_steps.specs.Starting.{LeavesSlots, Starts, StartFails};
 ghost use Rattle.run_trees.specs.Trees.{IsDecided, IsOfTree};
 
 use f2b_base::{NoMemory, Tree, TreeAnswer};
@@ -54,6 +54,7 @@ pub fn read_settings<W: World>(
     plan: &Plan,
 ) -> Result<Settings, Status>
     ensures ok { IfOk result (λ settings. Starts (W.stands world.old) (W.stands world.new) plan.now AtTree (to_makes settings (patterns_of settings.defs))) }
+    ensures still { OnOk result (LeavesSlots (W.stands world.old) (W.stands world.new)) }
     ensures defined { IfOk result IsOfTree }
     ensures fit { IfOk result (λ settings. AreFitDefs settings.defs) }
     ensures supported { IfOk result (λ settings. AllOf IsSupported settings.defs.jails) }

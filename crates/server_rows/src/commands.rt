@@ -109,7 +109,7 @@ const ROWS: [Row; 7] = [
         action: CHECKED,
         readings: &[1700001000],
         children: &[],
-        fails: &[13],
+        fails: &[35],
         transcript: "1700001000 INFO Server ready\n1700001000 INFO [web] Found 192.0.2.7\n1700001000 NOTICE [web] Ban 192.0.2.7\nstart 0 up\npause\npoll 0\nstart 1 look: failed\n1700001000 WARNING [web/note] check failed: not started\n1700001000 INFO [web/note] restart\nstart 2 down\npause\npoll 2\nstart 3 up\npause\npoll 3\nstart 4 add 192.0.2.7\npause\npoll 4\npause\n",
     },
     // Sixteen commands run at once, and the next one once there is room.

@@ -35,7 +35,7 @@ const OPEN: &[File] = &[(
     "[web]\nenabled = true\nlogpath = /log\nignoreself = false\ndatepattern = Epoch\nfailregex = (<IP4>\nfindtime = 600\nmaxretry = 3\nbantime = 60\n",
 )];
 
-const STARTS: [Row; 7] = [
+const STARTS: [Row; 11] = [
     Row {
         words: "",
         conf: WEB,
@@ -98,9 +98,49 @@ const STARTS: [Row; 7] = [
         conf: WEB,
         log: &[],
         readings: &[1000],
-        fails: &[4],
+        fails: &[18],
         status: 9,
         said: "",
+    },
+    // The slots cannot be read.
+    Row {
+        words: "--conf /c --turns 3",
+        conf: WEB,
+        log: &[],
+        readings: &[1000],
+        fails: &[4],
+        status: 5,
+        said: "0 ERROR disk\n",
+    },
+    // Nothing is said of an input that is not written.
+    Row {
+        words: "--conf /c --turns 3",
+        conf: WEB,
+        log: &[],
+        readings: &[1000],
+        fails: &[15],
+        status: 5,
+        said: "1000 ERROR disk\n",
+    },
+    // There is no room for the configuration.
+    Row {
+        words: "--conf /c --journal-limit 50 --turns 3",
+        conf: WEB,
+        log: &[],
+        readings: &[1000],
+        fails: &[],
+        status: 7,
+        said: "1000 ERROR journal full: 84 of 50\n",
+    },
+    // Each option stands there once.
+    Row {
+        words: "--conf /c --turns 3 --turns 3",
+        conf: WEB,
+        log: &[],
+        readings: &[1000],
+        fails: &[],
+        status: 2,
+        said: "0 ERROR usage\n",
     },
 ];
 
@@ -173,7 +213,7 @@ const RUNS: [Row; 7] = [
             "om 192.0.2.7\r\n1700000100 fail from 999.1.1.1\nno date\n",
         ],
         readings: &[1700000110],
-        fails: &[5, 8],
+        fails: &[19, 22],
         status: 0,
         said: "1700000110 INFO Server ready\n1700000110 INFO [web] Found 192.0.2.7\n",
     },

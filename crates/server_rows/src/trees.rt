@@ -87,7 +87,7 @@ const ROWS: [Row; 10] = [
             (0, "/log/b", Some("1700000990 fail from 192.0.2.11\n")),
         ],
         children: &[],
-        fails: &[4],
+        fails: &[8],
         status: 0,
         said: "1700001000 WARNING [web] cannot read /log/a*\n1700001000 INFO Server ready\n1700001000 INFO [web] Found 192.0.2.11\n",
     },

@@ -14,6 +14,7 @@ use Rattle.f2b_model.specs.declared.jail_now.JailNow.{JailNow}
 use Rattle.f2b_world.specs.Told.{Standing, Called}
 use Rattle.f2b_world.specs.declared.event.Event.TheVariants.{Clock}
 use Rattle.log_set.specs.Logs.{IsSetOf, Logs}
+use Rattle.reconcile.specs.Engines.{EngineNow}
 use Rattle.run_law.specs.Clock.{tick_news}
 use Rattle.run_law.specs.Law.{Goes}
 use Rattle.run_law.specs.News.{brings, nothing, only}
@@ -22,12 +23,14 @@ use Rattle.run_law.specs.Server.{Server, log_jails, read_at}
 use Rattle.run_law.specs.Stages.{Brings, BringFails, IsAt, Moves, MoveFails}
 use Rattle.run_law.specs.Turn.{to_logs}
 use Rattle.run_law.specs.declared.status.Status.{Status}
+use Rattle.ban_journal.specs.Places.{IsPlaced}
+use Rattle.run_law.proofs.CauseLemmas.{called_placed}
 use Rattle.run_law.proofs.EntryLemmas.{saying_logs}
 use Rattle.run_law.proofs.JailLemmas.{tick_jails}
 use Rattle.run_law.proofs.PointLemmas.{says_none, turn_goes}
 use Rattle.run_law.proofs.StageLemmas.{brings_same, brings_told, fails_same, halts_bringing, reaches_brought}
 use Rattle.run_steps.proofs.RunningLemmas.{bring_beside, bring_fails_beside, clocked_as}
-use Rattle.run_steps.specs.Keeping.{KeepsClocked, KeepsRunning, news_of}
+use Rattle.run_steps.specs.Keeping.{IsPlacedIn, KeepsClocked, KeepsRunning, news_of}
 use Rattle.run_steps.specs.declared.clocked.Clocked.{Clocked}
 use Rattle.run_steps.specs.declared.running.Running.{Running}
 use Rattle.server_top.specs.Ticks.{ReadsAt, ReadsClock, at_clock, tick_of}
@@ -48,9 +51,9 @@ either_news false s = refl
 -- the law's news are a tick where the code finds one
 news_are : (kept : Clocked) (s : Server) → KeepsClocked s kept → tick_news s ≡ news_of [] (tick_of kept) [] s
 news_are kept s keeps =
-    let due : is_ban_due moves s.now s.state.jails ≡ is_ban_due moves_now kept.now kept.core.jails =
+    let due : is_ban_due moves s.now s.state.jails ≡ is_ban_due moves_now kept.now kept.engine.core.jails =
     due_now s.now s.state ∙ sym (ap₂ (λ at (n : Now). is_ban_due moves_now at n.jails) keeps.now keeps.core) in
-    ap (λ (b : Bool). cond b (only Tick) nothing) due ∙ either_news (is_ban_due moves_now kept.now kept.core.jails) s
+    ap (λ (b : Bool). cond b (only Tick) nothing) due ∙ either_news (is_ban_due moves_now kept.now kept.engine.core.jails) s
 
 -- a tick is taken beside the logs
 pub tick_beside : (a b : Standing) (kept : Running) (after : Clocked) → Brings KeepsClocked a b (news_of [] (Some Tick) []) kept.clocked after → Brings KeepsRunning a b (news_of [] (Some Tick) []) kept (clocked_as kept after)
@@ -63,7 +66,7 @@ module _ (kept : Running) where
   news_if : (what : Option What) → tick_of kept.clocked ≡ what → (s : Server) → KeepsRunning s kept → news_of [] (tick_of kept.clocked) [] s ≡ news_of [] what [] s
   news_if what is s keeps = ap (λ (o : Option What). news_of [] o [] s) is
 
-  module _ (due : is_ban_due moves_now kept.clocked.now kept.clocked.core.jails ≡ true) where
+  module _ (due : is_ban_due moves_now kept.clocked.now kept.clocked.engine.core.jails ≡ true) where
     pub due_ticks : tick_of kept.clocked ≡ Some Tick
     due_ticks = ap (λ (b : Bool). cond b (Some Tick) None) due
 
@@ -73,7 +76,7 @@ module _ (kept : Running) where
     pub due_fails : (a b : Standing) (status : Status) → BringFails KeepsRunning a b (news_of [] (Some Tick) []) kept status → BringFails KeepsRunning a b (news_of [] (tick_of kept.clocked) []) kept status
     due_fails a b status fails = fails_same KeepsRunning a b (news_of [] (tick_of kept.clocked) []) (news_of [] (Some Tick) []) kept status (news_if (Some Tick) due_ticks) fails
 
-  pub none_brings : (a : Standing) → is_ban_due moves_now kept.clocked.now kept.clocked.core.jails ≡ false → Brings KeepsRunning a a (news_of [] (tick_of kept.clocked) []) kept kept
+  pub none_brings : (a : Standing) → is_ban_due moves_now kept.clocked.now kept.clocked.engine.core.jails ≡ false → Brings KeepsRunning a a (news_of [] (tick_of kept.clocked) []) kept kept
   none_brings a none =
       brings_same KeepsRunning a a (news_of [] (tick_of kept.clocked) []) (news_of [] None []) kept kept (news_if None (ap (λ (b : Bool). cond b (Some Tick) None) none))
       (record { runs = λ r at next s saying is_at keeps. brings_told KeepsRunning a a (news_of [] None [] s) r at next s kept saying is_at refl (says_none a) keeps })
@@ -85,8 +88,9 @@ pub ruleset ending = (due_ticks, due_brings, due_fails, none_brings)
 -- the code's part of a server at a reading
 read_keeps : (before mid : Clocked) (answer : Reading) (s : Server) → ReadsAt before answer mid → KeepsClocked s before → KeepsClocked (read_at answer s) mid
 read_keeps before mid answer s reads keeps = record {
-  core = reads.core ∙ keeps.core;
+  core = ap (λ (e : EngineNow). e.core) reads.engine ∙ keeps.core;
   sound = keeps.sound;
+  journal = ap (λ (e : EngineNow). e.journal) reads.engine ∙ keeps.journal;
   now = reads.now ∙ ap (λ n. max n (min answer.secs latest_reading)) keeps.now;
   word = reads.word;
 }
@@ -100,6 +104,14 @@ running_read before mid answer s reads logs children left keeps =
 pub clock_reads : (a b : Standing) (answer : Reading) (before after : Running) → Called a (Clock answer) b → ReadsAt before.clocked answer after.clocked → after.logs ≡ before.logs → after.children ≡ before.children
     → after.left ≡ before.left → ReadsClock a b before after
 clock_reads a b answer before after call reads logs children left = record { answer = answer; call = call; reads = reads; logs = logs; children = children; left = left }
+
+-- the journal stands where it stood
+pub clock_placed : (a b : Standing) (answer : Reading) (before after : Clocked) → Called a (Clock answer) b → ReadsAt before answer after → IsPlacedIn a.told before → IsPlacedIn b.told after
+clock_placed a b answer before after call reads is =
+    let P : EngineNow → Type 0 = λ e. IsPlaced e.journal b.told in
+    subst P (sym reads.engine) (called_placed before.engine.journal a b (Clock answer) call is)
+
+pub ruleset clocking = (clock_reads, clock_placed)
 
 module _ (a b c : Standing) (before mid : Running) (reads : ReadsClock a b before mid) where
   -- the clock leads to what a tick brings

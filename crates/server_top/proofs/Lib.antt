@@ -1,3 +1,4 @@
+pub mod OptionLemmas
 pub mod ClockLemmas
 pub mod NumberLemmas
 pub mod PauseLemmas

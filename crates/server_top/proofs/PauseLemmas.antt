@@ -10,6 +10,7 @@ use Rattle.run_law.specs.Server.{Server}
 use Rattle.run_law.specs.Stages.{IsAt, Moves, MoveFails}
 use Rattle.run_law.specs.Turn.{to_end}
 use Rattle.run_law.specs.declared.status.Status.TheVariants.{TurnsSpent}
+use Rattle.run_law.proofs.DiskLemmas.{written_call}
 use Rattle.run_law.proofs.PointLemmas.{paid_call, turn_goes}
 use Rattle.run_steps.specs.Keeping.{KeepsRunning}
 use Rattle.run_steps.specs.declared.running.Running.{Running}
@@ -34,13 +35,13 @@ pause_moves a b before after some call clocked logs children left = record {
       let kept : Running = record { clocked = before.clocked; logs = before.logs; children = before.children; left = n } in
       let same : kept ≡ after = λ i. record { clocked = sym clocked i; logs = sym logs i; children = sym children i; left = sym left_is i } in
       let t : Server = record s { left = n } in
-      let keeps_next : KeepsRunning t kept = record { clocked = record { core = keeps.clocked.core; sound = keeps.clocked.sound; now = keeps.clocked.now; word = keeps.clocked.word }; logs = keeps.logs; children = keeps.children; left = refl } in
+      let keeps_next : KeepsRunning t kept = record { clocked = record { core = keeps.clocked.core; sound = keeps.clocked.sound; journal = keeps.clocked.journal; now = keeps.clocked.now; word = keeps.clocked.word }; logs = keeps.logs; children = keeps.children; left = refl } in
       let P : Running → Type 0 = λ k. KeepsRunning t k in
       record {
         to = paused s r;
         server = t;
         goes = pause_goes a b r s call at;
-        at = record { point = next_is n s (omega (arith, some, is)); paid = at.paid };
+        at = record { point = next_is n s (omega (arith, some, is)); still = record { written = at.still.written; paid = at.still.paid } };
         keeps = subst P same keeps_next;
       };
 }
@@ -51,7 +52,7 @@ pause_ends a b before last call = record {
       let none : s.left - 1 ≡ 0 = let is : before.left ≡ s.left = keeps.left in omega (arith, is, last) in
       let point : turned (s.left - 1) s ≡ Over TurnsSpent = ap (λ n. turned n s) none in
       let over : next_call (paused s r) ≡ None =
-      ap (λ (ls : List (List ℕ)). call_of r.plan (next_turn s) ls) at.paid ∙ ap (λ (p : Point). call_of r.plan p []) point ∙ paid_call r.plan (Over TurnsSpent) in
+      written_call r.writes (call_of r.plan (next_turn s) r.owed) at.still.written ∙ ap (λ (ls : List (List ℕ)). call_of r.plan (next_turn s) ls) at.still.paid ∙ ap (λ (p : Point). call_of r.plan p []) point ∙ paid_call r.plan (Over TurnsSpent) in
       record { last = paused s r; goes = pause_goes a b r s call at; ends = record { point = point; none = over } };
 }
 

@@ -1,79 +1,142 @@
 -- A run from its plan to its end.
-use Rattle.std.proofs.Common.{◌≡◌, List, [], ◌∷◌, map, refl, sym, ◌∙◌, subst}
+use Rattle.std.proofs.Common.{ℕ, ◌≡◌, List, [], Option, Some, None, refl, sym, ◌∙◌, subst}
 use Rattle.child_table.specs.Children.{Children, nobody}
-use Rattle.f2b_world.specs.Told.{Standing}
-use Rattle.f2b_model.specs.Lists.{AllOf}
-use Rattle.f2b_model.specs.Moves.{fresh}
-use Rattle.f2b_model.specs.State.{Jail}
-use Rattle.f2b_base.specs.declared.jail.JailDef.{JailDef}
+use Rattle.f2b_world.specs.Told.{Adds, History, Standing}
+use Rattle.jail_conf.specs.Laws.{AreWithinLimits}
 use Rattle.jail_conf.specs.declared.settings.Settings.{Settings}
+use Rattle.jail_conf.proofs.AcceptedLemmas.{conf_is_within}
 use Rattle.log_set.specs.Logs.{IsSetOf, Logs, Watching}
-use Rattle.run_law.specs.Law.{Goes, Halts, opening}
+use Rattle.reconcile.specs.Engines.{EngineNow}
+use Rattle.reconcile.specs.Loads.{AreSound}
+use Rattle.run_law.specs.Law.{Halts, opening}
 use Rattle.run_law.specs.Logs.{logs_of}
-use Rattle.run_law.specs.Paths.{with_paths}
-use Rattle.run_law.specs.Patterns.{patterns_of}
-use Rattle.run_law.specs.Points.{AtFirst, AtTree, Point, Run}
+use Rattle.run_law.specs.Points.{AtStore, AtTree, Over, Point, Run}
 use Rattle.run_law.specs.Server.{Server, following, jails, log_jails}
-use Rattle.run_law.specs.Stages.{MoveFails}
-use Rattle.run_law.specs.Start.{to_makes}
+use Rattle.run_law.specs.Stages.{IsSteady, MoveFails}
+use Rattle.run_law.specs.Stops.{HoldsThese}
 use Rattle.run_law.specs.declared.plan.Plan.{Plan}
 use Rattle.run_law.specs.declared.status.Status.{Status}
 use Rattle.run_law.specs.declared.status.Status.TheVariants.{NoMemory}
-use Rattle.run_law.proofs.PointLemmas.{goes_trans, halts_after, halts_here}
-use Rattle.run_steps.proofs.StartLemmas.{starts_trans}
-use Rattle.run_start.specs.First.{Begins, Begun, KeepsFirst}
-use Rattle.run_start.specs.Followed.{AreAwake, FollowsAll}
-use Rattle.run_steps.specs.Keeping.{KeepsClocked, KeepsRunning}
-use Rattle.run_steps.specs.Starting.{StartFails, Starts}
+use Rattle.run_law.proofs.LongLemmas.{Any}
+use Rattle.run_law.proofs.PointLemmas.{goes_trans, halts_after, halts_here, over_ends, paid_call}
+use Rattle.run_load.specs.Loading.{IsUnloaded, LoadFails, LoadsTo}
+use Rattle.run_start.specs.First.{BeginFails, Begins, Begun, KeepsFirst}
+use Rattle.run_start.specs.Followed.{FollowsAll}
+use Rattle.run_steps.proofs.StartLemmas.{holds_on}
+use Rattle.run_steps.specs.Keeping.{KeepsRunning}
+use Rattle.run_steps.specs.Starting.{Arrives, LeavesSlots, StartFails, Starts}
 use Rattle.run_steps.specs.declared.clocked.Clocked.{Clocked}
-use Rattle.run_steps.specs.declared.running.Running.{Running}
-use Rattle.server_top.specs.Prepared.{Prepares}
+use Rattle.run_trees.specs.Trees.{IsOfTree}
+use Rattle.server_top.specs.Prepared.{PlanHalts, Prepares, ResumeFails, Resumes}
 use Rattle.server_top.specs.Ticks.{at_clock}
 
--- ---- the start
+-- ---- worlds that do not tell
+
+-- a history that is told was told before
+told_before : (old new : Option History) → Adds old new Any → (h : History) → new ≡ Some h → (g : History) × (old ≡ Some g)
+told_before old None on h told = absurd (let e : None ≡ Some h = told in cc)
+told_before old (Some k) on h told = (on.0, on.2)
+
+-- of a history that is not told any more a run has halted
+halts_untold : (old : Option History) (r : Run) (status : Status) → Halts old None r status
+halts_untold old r status =
+    let last : Run = record r { point = Over status; owed = []; writes = [] } in
+    record { last = last; goes = record { events = tt }; ends = over_ends status last (record { point = refl; none = paid_call r.plan (Over status) }) }
+
+halts_by : (old new : Option History) (r : Run) (status : Status) → ((h : History) → new ≡ Some h → Halts old new r status) → Halts old new r status
+halts_by old None r status halts = halts_untold old r status
+halts_by old (Some h) r status halts = halts h refl
+
+-- ---- from the naming of the slots on
+
+-- a configuration that was accepted is within its limits
+pub limits_of : (settings : Settings) → IsOfTree settings → AreWithinLimits settings.defs
+limits_of settings of = conf_is_within of.tree settings of.defined
+
+module _ (a b c : Standing) (plan : Plan) (settings : Settings) (engine : EngineNow) (loads : LoadsTo a b plan settings engine) (steady : IsSteady b c) where
+  pub resumes : (kept : Clocked) → Begins b c plan settings engine kept → Resumes a c plan settings kept
+  resumes kept begins = record {
+    runs = λ r at un sound h told.
+        let t = told_before b.told c.told steady.history h told in
+        let one = loads.runs r at un sound t.0 t.1 in
+        let begun = begins.runs one.arrives.to one.comes one.arrives.asked one.arrives.at one.keeps in
+        record {
+          to = begun.to;
+          server = begun.server;
+          goes = goes_trans a.told b.told c.told r one.arrives.to begun.to one.arrives.goes begun.goes;
+          at = begun.at;
+          keeps = begun.keeps;
+        };
+  }
+
+  pub resume_fails_on : (status : Status) → BeginFails b c plan settings engine status → ResumeFails a c plan settings status
+  resume_fails_on status fails = record {
+    runs = λ r at un sound. halts_by a.told c.told r status (λ h told.
+        let t = told_before b.told c.told steady.history h told in
+        let one = loads.runs r at un sound t.0 t.1 in
+        halts_after a.told b.told c.told r one.arrives.to status one.arrives.goes (fails.runs one.arrives.to one.comes one.arrives.asked one.arrives.at one.keeps));
+  }
+
+-- the slots could not be loaded
+pub resume_fails : (a b : Standing) (plan : Plan) (settings : Settings) (status : Status) → LoadFails a b plan settings status → ResumeFails a b plan settings status
+resume_fails a b plan settings status fails = record { runs = λ r at un sound. fails.runs r at un }
+
+pub ruleset resuming = (limits_of, resumes, resume_fails_on, resume_fails)
+
+-- ---- the whole start
 
 -- the configuration cannot be had
-pub fails_read : (a b : Standing) (plan : Plan) (status : Status) → StartFails a b plan AtTree status → Halts a.told b.told (opening plan) status
-fails_read a b plan status fails = fails.runs (opening plan) refl (record { point = refl; paid = refl })
+pub fails_read : (a b : Standing) (plan : Plan) (status : Status) → StartFails a b plan AtTree status → PlanHalts a b plan status
+fails_read a b plan status fails = record {
+  runs = λ slots holds sound. fails.runs (opening plan slots) refl (record { point = refl; still = record { written = refl; paid = refl } });
+}
 
--- a part behind it fails
-pub fails_on : (a b c : Standing) (plan : Plan) (mid : Point) (status : Status) → Starts a b plan AtTree mid → StartFails b c plan mid status → Halts a.told c.told (opening plan) status
-fails_on a b c plan mid status p q =
-    let one = p.runs (opening plan) refl (record { point = refl; paid = refl }) in
-    halts_after a.told b.told c.told (opening plan) one.to status one.goes (q.runs one.to one.asked one.at)
+module _ (a b c : Standing) (plan : Plan) (settings : Settings) (starts : Starts a b plan AtTree (AtStore settings)) (leaves : LeavesSlots a b) where
+  arrived : (slots : ℕ → List ℕ) → Arrives a b plan (opening plan slots) (AtStore settings)
+  arrived slots = starts.runs (opening plan slots) refl (record { point = refl; still = record { written = refl; paid = refl } })
 
--- and one behind that
-pub fails_behind : (a b c d : Standing) (plan : Plan) (mid late : Point) (status : Status) → Starts a b plan AtTree mid → Starts b c plan mid late → StartFails c d plan late status
-    → Halts a.told d.told (opening plan) status
-fails_behind a b c d plan mid late status p q last = fails_on a c d plan late status (starts_trans a b c plan AtTree mid late p q) last
+  unloaded : (slots : ℕ → List ℕ) → HoldsThese slots a.told → IsUnloaded b.told plan (arrived slots).to
+  unloaded slots holds =
+      let one = arrived slots in
+      let P : (ℕ → List ℕ) → Type 0 = λ s. HoldsThese s b.told in
+      record { asked = one.asked; unclosed = one.unclosed; holds = subst P (sym one.slots) (holds_on slots a b leaves holds) }
 
-pub prepares : (a b c d : Standing) (plan : Plan) (settings : Settings) (kept : Clocked) → Starts a b plan AtTree (to_makes settings (patterns_of settings.defs))
-    → Starts b c plan (to_makes settings (patterns_of settings.defs)) (AtFirst settings) → Begins c d plan settings kept → Prepares a d plan kept
-prepares a b c d plan settings kept p q begins =
-    let one = p.runs (opening plan) refl (record { point = refl; paid = refl }) in
-    let two = q.runs one.to one.asked one.at in
-    let begun = begins.runs two.to two.asked two.at in
-    record {
-      settings = settings;
-      to = begun.to;
-      server = begun.server;
-      goes = goes_trans a.told b.told d.told (opening plan) one.to begun.to one.goes (goes_trans b.told c.told d.told one.to two.to begun.to two.goes begun.goes);
-      at = begun.at;
-      keeps = begun.keeps;
-    }
+  sound_still : (slots : ℕ → List ℕ) → AreSound slots → AreSound (arrived slots).to.slots
+  sound_still slots sound = subst AreSound (sym (arrived slots).slots) sound
 
--- memory ran out before the logs were followed
-pub fails_unfollowed : (a d : Standing) (plan : Plan) (kept : Clocked) → Prepares a d plan kept → Halts a.told d.told (opening plan) NoMemory
-fails_unfollowed a d plan kept prepared = halts_after a.told d.told d.told (opening plan) prepared.to NoMemory prepared.goes (halts_here d.told prepared.to)
+  pub prepares : (kept : Clocked) → Resumes b c plan settings kept → Prepares a c plan kept
+  prepares kept resumes = record {
+    settings = settings;
+    runs = λ slots holds sound h told.
+        let one = arrived slots in
+        let begun = resumes.runs one.to one.at (unloaded slots holds) (sound_still slots sound) h told in
+        record {
+          to = begun.to;
+          server = begun.server;
+          goes = goes_trans a.told b.told c.told (opening plan slots) one.to begun.to one.goes begun.goes;
+          at = begun.at;
+          keeps = begun.keeps;
+        };
+  }
+
+  pub fails_on : (status : Status) → ResumeFails b c plan settings status → PlanHalts a c plan status
+  fails_on status fails = record {
+    runs = λ slots holds sound.
+        let one = arrived slots in
+        halts_after a.told b.told c.told (opening plan slots) one.to status one.goes (fails.runs one.to one.at (unloaded slots holds) (sound_still slots sound));
+  }
+
+pub ruleset preparing = (fails_read, prepares, fails_on)
 
 -- ---- behind the start
 
-all_awake : (ds : List JailDef) → AreAwake (map fresh ds)
-all_awake [] = tt
-all_awake (d ∷ ds) = (refl, all_awake ds)
-
-are_awake : (plan : Plan) (settings : Settings) (s : Server) (kept : Clocked) → KeepsFirst plan settings s kept → AreAwake (jails s)
-are_awake plan settings s kept keeps = subst AreAwake (sym keeps.jails) (all_awake (with_paths settings.defs keeps.found).jails)
+-- memory ran out before the logs were followed
+pub fails_unfollowed : (a d : Standing) (plan : Plan) (kept : Clocked) → Prepares a d plan kept → PlanHalts a d plan NoMemory
+fails_unfollowed a d plan kept prepared = record {
+  runs = λ slots holds sound. halts_by a.told d.told (opening plan slots) NoMemory (λ h told.
+      let begun = prepared.runs slots holds sound h told in
+      halts_after a.told d.told d.told (opening plan slots) begun.to NoMemory begun.goes (halts_here d.told begun.to));
+}
 
 -- what the code keeps at the first turn
 running_first : (plan : Plan) (settings : Settings) (s : Server) (kept : Clocked) (logs : Logs) (t : Children) → t ≡ nobody → KeepsFirst plan settings s kept → FollowsAll kept logs
@@ -81,18 +144,20 @@ running_first : (plan : Plan) (settings : Settings) (s : Server) (kept : Clocked
 running_first plan settings s kept logs t none keeps follows =
     let P : List Watching → Type 0 = λ old. IsSetOf logs (log_jails s) (logs_of old (jails s)) in
     record {
-      clocked = record { core = keeps.clocked.core; sound = keeps.clocked.sound; now = keeps.clocked.now; word = keeps.clocked.word };
-      logs = subst P (sym keeps.logs) (follows.sets s keeps.clocked (are_awake plan settings s kept keeps));
+      clocked = record { core = keeps.clocked.core; sound = keeps.clocked.sound; journal = keeps.clocked.journal; now = keeps.clocked.now; word = keeps.clocked.word };
+      logs = subst P (sym keeps.logs) (follows.sets s keeps.clocked keeps.awake);
       children = none ∙ sym keeps.children;
       left = sym keeps.left;
     }
 
-pub serves : (a d e : Standing) (plan : Plan) (kept : Clocked) (logs : Logs) (t : Children) (status : Status) → Prepares a d plan kept → FollowsAll kept logs → t ≡ nobody
-    → MoveFails KeepsRunning d e at_clock (record { clocked = kept; logs = logs; children = t; left = plan.turns }) status → Halts a.told e.told (opening plan) status
-serves a d e plan kept logs t status prepared follows none fails =
-    halts_after a.told d.told e.told (opening plan) prepared.to status prepared.goes
-    (fails.runs prepared.to (following prepared.server) prepared.at (running_first plan prepared.settings prepared.server kept logs t none prepared.keeps follows))
-
-pub ruleset preparing = (fails_read, fails_on, fails_behind, prepares)
+pub serves : (a d e : Standing) (plan : Plan) (kept : Clocked) (logs : Logs) (t : Children) (status : Status) → Prepares a d plan kept → FollowsAll kept logs → t ≡ nobody → IsSteady d e
+    → MoveFails KeepsRunning d e at_clock (record { clocked = kept; logs = logs; children = t; left = plan.turns }) status → PlanHalts a e plan status
+serves a d e plan kept logs t status prepared follows none steady fails = record {
+  runs = λ slots holds sound. halts_by a.told e.told (opening plan slots) status (λ h told.
+      let b = told_before d.told e.told steady.history h told in
+      let begun = prepared.runs slots holds sound b.0 b.1 in
+      halts_after a.told d.told e.told (opening plan slots) begun.to status begun.goes
+      (fails.runs begun.to (following begun.server) begun.at (running_first plan prepared.settings begun.server kept logs t none begun.keeps follows)));
+}
 
 pub ruleset serving = (fails_unfollowed, serves)

@@ -1,13 +1,14 @@
 -- Runs of words that ask for nothing.
 use Rattle.std.proofs.Common.{ℕ, ◌≡◌, List, Option, Some, None, inl, inr, refl, sym, subst}
 use Rattle.f2b_world.specs.Told.{Standing}
-use Rattle.run_law.specs.Served.{IsCaused}
+use Rattle.run_law.specs.Served.{IsCaused, IsRun}
 use Rattle.run_law.specs.Stages.{IsRefusedAs, IsUnsaid}
 use Rattle.run_law.specs.Words.{plan_of}
 use Rattle.run_law.specs.declared.plan.Plan.{Plan}
 use Rattle.run_law.specs.declared.status.Status.{Status}
 use Rattle.run_law.specs.declared.status.Status.TheVariants.{Stopped, TurnsSpent, WorkloadDone, Usage, ConfFault, ConfRefused, DiskFault, NotAJournal, JournalFull, GateFault, SinkFault, ConfTooLarge, PatternRefused, NumbersSpent, NoMemory}
 use Rattle.run_law.proofs.ServeLemmas.{run_memory}
+use Rattle.server_top.specs.Prepared.{BeginsSound}
 use Rattle.server_top.specs.Usage.{IsOfUsage}
 
 unsaid_usage : (words : List (List ℕ)) (old new : Standing) (status : Status) → IsUnsaid old new status → IsCaused words old new status × IsOfUsage status
@@ -37,4 +38,8 @@ pub not_none : (plan : Plan) (o : Option Plan) → o ≡ Some plan → o ≡ Non
 not_none plan None some none = absurd (cc)
 not_none plan (Some other) some none = absurd (cc)
 
-pub ruleset running = (run_memory)
+-- memory ran out before the words were read
+pub begins_memory : (s : Standing) (words : List (List ℕ)) → BeginsSound s.told → IsRun s.told s.told words NoMemory
+begins_memory s words begins = run_memory s words
+
+pub ruleset running = (begins_memory)

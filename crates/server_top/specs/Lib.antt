@@ -1,3 +1,4 @@
+pub mod Options
 pub mod Prepared
 pub mod Ticks
 pub mod Usage

@@ -18,7 +18,7 @@ at_clock s = AtTurn AtClock s
 
 -- now never goes back, and a reading above the latest counts as it
 pub record ReadsAt (before : Clocked) (answer : Reading) (after : Clocked) : Type 0 where
-  pub core : after.core ≡ before.core
+  pub engine : after.engine ≡ before.engine
   pub now : after.now ≡ max before.now (min answer.secs latest_reading)
   pub word : after.word ≡ answer.word
 
@@ -33,4 +33,4 @@ pub record ReadsClock (old new : Standing) (before after : Running) : Type 0 whe
 
 -- a tick, where a ban is due
 abbrev pub tick_of : Clocked → Option What
-tick_of kept = if is_ban_due moves_now kept.now kept.core.jails then Some Tick else None
+tick_of kept = if is_ban_due moves_now kept.now kept.engine.core.jails then Some Tick else None

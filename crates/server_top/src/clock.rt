@@ -2,11 +2,11 @@
 ghost use Rattle.std.specs.Prelude.{◌≡◌, [], IfErr, IfOk, Some};
 ghost use Rattle.run_law.specs.Stages.{Brings, BringFails, HasCause, IsSteady, Moves, MoveFails};
 ghost use Rattle.run_law.specs.Turn.{to_logs};
-ghost use Rattle.run_steps.specs.Keeping.{KeepsRunning, news_of};
+ghost use Rattle.run_steps.specs.Keeping.{IsPlacedIn, KeepsRunning, news_of};
 ghost use Rattle.server_top.specs.Ticks.{ReadsAt, ReadsClock, at_clock, tick_of};
 
 use f2b_base::{LATEST_READING, Reading, What};
-use f2b_world::World;
+use f2b_world::{Disk, World};
 use run_law::Status;
 use run_steps::{Clocked, Running, bring};
 use std::alloc::Global;
@@ -16,25 +16,30 @@ const FORGOTTEN_A_TURN: u64 = 10_000;
 
 // Takes over a reading of the clock. Now never goes back, and a reading above the latest counts as it. What no longer matters of
 // failures gives its memory back.
-#[tactic(auto, using(run_steps::proofs::NumberLemmas::same_numbered))]
 fn at_reading(clocked: Clocked, reading: Reading) -> Clocked
     ensures { ReadsAt clocked reading result }
 {
-    let Clocked { core, now, word: _ } = clocked;
-    let mut core = core;
-    let _ = core.sweep(FORGOTTEN_A_TURN);
+    let Clocked {
+        engine,
+        now,
+        word: _,
+    } = clocked;
+    let mut engine = engine;
+    let _ = engine.sweep(FORGOTTEN_A_TURN);
     Clocked {
-        core,
+        engine,
         now: now.max(reading.secs.min(LATEST_READING)),
         word: reading.word,
     }
 }
 
 // Reads the clock. The logs, the commands that run and the turns that are left stay as they are.
-#[tactic(auto, using(crate::proofs::ClockLemmas::clock_reads, run_law::proofs::CauseLemmas::counting))]
+#[tactic(auto, using(crate::proofs::ClockLemmas::clocking, run_law::proofs::CauseLemmas::counting))]
 fn read<'f, W: World>(world: &mut W, running: Running<'f>) -> Running<'f>
+    requires placed { IsPlacedIn (W.stands world.old).told running.clocked }
     ensures reads { ReadsClock (W.stands world.old) (W.stands world.new) running.entry result }
     ensures steady { IsSteady (W.stands world.old) (W.stands world.new) }
+    ensures placed { IsPlacedIn (W.stands world.new).told result.clocked }
 {
     let reading = world.clock();
     let Running {
@@ -52,17 +57,19 @@ fn read<'f, W: World>(world: &mut W, running: Running<'f>) -> Running<'f>
 }
 
 // Takes a tick, which ends the bans that are due.
-#[tactic(auto, using(crate::proofs::ClockLemmas::ticking, run_steps::proofs::BringLemmas::unbrought_cause, run_law::proofs::CauseLemmas::counting))]
-fn tick<'f, W: World>(
+#[tactic(auto, using(crate::proofs::ClockLemmas::ticking, run_steps::proofs::BringLemmas::unbrought_cause, run_steps::proofs::StoredLemmas::storing, run_law::proofs::CauseLemmas::counting))]
+fn tick<'f, W: World + Disk>(
     alloc: Global,
     world: &mut W,
     running: Running<'f>,
 ) -> Result<Running<'f>, Status>
+    requires placed { IsPlacedIn (W.stands world.old).told running.clocked }
     ensures ok { IfOk result (Brings KeepsRunning (W.stands world.old) (W.stands world.new) (news_of [] (Some What.Tick) []) running.entry) }
     ensures err { IfErr result (BringFails KeepsRunning (W.stands world.old) (W.stands world.new) (news_of [] (Some What.Tick) []) running.entry) }
     ensures cause { IfErr result (HasCause (W.stands world.old) (W.stands world.new)) }
     ensures steady { IsSteady (W.stands world.old) (W.stands world.new) }
     ensures left { IfOk result (λ after. after.left ≡ running.entry.left) }
+    ensures placed { IfOk result (λ after. IsPlacedIn (W.stands world.new).told after.clocked) }
 {
     let Running {
         clocked,
@@ -81,19 +88,21 @@ fn tick<'f, W: World>(
 
 // Takes a tick where a ban is due. Where none is due no memory is asked for.
 #[tactic(auto, using(crate::proofs::ClockLemmas::ending, run_law::proofs::CauseLemmas::counting))]
-fn end_due<'f, W: World>(
+fn end_due<'f, W: World + Disk>(
     alloc: Global,
     world: &mut W,
     running: Running<'f>,
 ) -> Result<Running<'f>, Status>
+    requires placed { IsPlacedIn (W.stands world.old).told running.clocked }
     ensures ok { IfOk result (Brings KeepsRunning (W.stands world.old) (W.stands world.new) (news_of [] (tick_of running.entry.clocked) []) running.entry) }
     ensures err { IfErr result (BringFails KeepsRunning (W.stands world.old) (W.stands world.new) (news_of [] (tick_of running.entry.clocked) []) running.entry) }
     ensures due { IfErr result (λ status. tick_of running.entry.clocked ≡ Some What.Tick) }
     ensures cause { IfErr result (HasCause (W.stands world.old) (W.stands world.new)) }
     ensures steady { IsSteady (W.stands world.old) (W.stands world.new) }
     ensures left { IfOk result (λ after. after.left ≡ running.entry.left) }
+    ensures placed { IfOk result (λ after. IsPlacedIn (W.stands world.new).told after.clocked) }
 {
-    if running.clocked.core.ban_due(running.clocked.now) {
+    if running.clocked.engine.core().ban_due(running.clocked.now) {
         return tick(alloc, world, running);
     }
     Ok(running)
@@ -101,16 +110,18 @@ fn end_due<'f, W: World>(
 
 /// Reads the clock, and ends the bans that are due.
 #[tactic(auto, using(crate::proofs::ClockLemmas::reading, run_law::proofs::CauseLemmas::counting))]
-pub fn read_clock<'f, W: World>(
+pub fn read_clock<'f, W: World + Disk>(
     alloc: Global,
     world: &mut W,
     running: Running<'f>,
 ) -> Result<Running<'f>, Status>
+    requires placed { IsPlacedIn (W.stands world.old).told running.clocked }
     ensures ok { IfOk result (Moves KeepsRunning (W.stands world.old) (W.stands world.new) at_clock to_logs running.entry) }
     ensures err { IfErr result (MoveFails KeepsRunning (W.stands world.old) (W.stands world.new) at_clock running.entry) }
     ensures cause { IfErr result (HasCause (W.stands world.old) (W.stands world.new)) }
     ensures steady { IsSteady (W.stands world.old) (W.stands world.new) }
     ensures left { IfOk result (λ after. after.left ≡ running.entry.left) }
+    ensures placed { IfOk result (λ after. IsPlacedIn (W.stands world.new).told after.clocked) }
 {
     let running = read(world, running);
     let running = end_due(alloc, world, running)?;

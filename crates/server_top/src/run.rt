@@ -1,30 +1,82 @@
 //! The run of the server.
 ghost use Rattle.std.specs.Prelude.{◌≡◌, ◌≤◌, IfErr, IfOk, IsSome, None, OnOk, map, string_bytes};
 ghost use Rattle.f2b_world.specs.Told.{Adds};
-ghost use Rattle.run_jobs.specs.Runs.{TriesJobsInOrder};
-ghost use Rattle.run_law.specs.Law.{Halts, opening};
+ghost use Rattle.f2b_model.specs.Storable.{AreStorableDefs};
+ghost use Rattle.filter_regex.specs.Rules.{rules_of};
+ghost use Rattle.run_jobs.specs.Runs.{HoldBytes, TriesJobsInOrder};
+ghost use Rattle.run_law.specs.Points.{AtStore, AtTree};
 ghost use Rattle.run_law.specs.Served.{IsCaused, IsRun};
 ghost use Rattle.run_law.specs.Stages.{HasCause, IsSteady};
+ghost use Rattle.run_law.specs.Stops.{held_in};
 ghost use Rattle.run_law.specs.Words.{plan_of};
 ghost use Rattle.run_law.specs.declared.status.Status.TheVariants.{TurnsSpent as AllTurns};
 ghost use Rattle.run_start.specs.Followed.{ArePlaces, rules_in};
-ghost use Rattle.server_top.specs.Prepared.{Prepares};
+ghost use Rattle.run_steps.specs.Keeping.{IsPlacedIn};
+ghost use Rattle.run_steps.specs.Starting.{LeavesSlots, StartFails, Starts};
+ghost use Rattle.run_trees.specs.Trees.{IsOfTree};
+ghost use Rattle.server_top.specs.Prepared.{BeginsSound, PlanHalts, Prepares, ResumeFails, Resumes};
 ghost use Rattle.server_top.specs.Usage.{IsOfUsage};
 
 use crate::turns::make_turns;
 use crate::words::read_words;
 use child_table::ChildTable;
-use f2b_world::{Children, Directories, World};
+use f2b_world::{Children, Directories, Disk, Store, World};
 use filter_regex::Filter;
+use jail_conf::Settings;
 use run_law::{Plan, Status};
+use run_load::load_journal;
 use run_start::{first_turn, follow};
 use run_steps::{Clocked, Running, refuse};
 use run_trees::{build_filters, read_settings};
 use std::alloc::Global;
 
+// The configuration, and the filters of all jails.
+#[tactic(auto, using(run_steps::proofs::StartLemmas::starting, run_steps::proofs::StartLemmas::leaving, run_law::proofs::CauseLemmas::counting))]
+fn configure<W: World>(
+    alloc: Global,
+    world: &mut W,
+    plan: &Plan,
+) -> Result<(Settings, Vec<Filter>), Status>
+    ensures ok { IfOk result (λ r. Starts (W.stands world.old) (W.stands world.new) plan.now AtTree (AtStore r.0)) }
+    ensures still { OnOk result (LeavesSlots (W.stands world.old) (W.stands world.new)) }
+    ensures defined { IfOk result (λ r. IsOfTree r.0) }
+    ensures storable { IfOk result (λ r. AreStorableDefs r.0.defs) }
+    ensures filters { IfOk result (λ r. r.1.items ≡ map rules_of r.0.defs.jails) }
+    ensures err { IfErr result (StartFails (W.stands world.old) (W.stands world.new) plan.now AtTree) }
+    ensures cause { IfErr result (HasCause (W.stands world.old) (W.stands world.new)) }
+    ensures steady { IsSteady (W.stands world.old) (W.stands world.new) }
+{
+    let settings = read_settings(alloc, world, plan)?;
+    let filters = build_filters(alloc, world, plan, &settings)?;
+    Ok((settings, filters))
+}
+
+// The state that was stored, with the configuration as its next input.
+#[tactic(auto, using(crate::proofs::ServeLemmas::resuming, run_law::proofs::CauseLemmas::counting))]
+fn resume<W: World + Directories + Store + Disk>(
+    alloc: Global,
+    world: &mut W,
+    plan: &Plan,
+    settings: &Settings,
+) -> Result<Clocked, Status>
+    requires defined { IsOfTree settings.now }
+    requires storable { AreStorableDefs settings.now.defs }
+    ensures ok { IfOk result (Resumes (W.stands world.old) (W.stands world.new) plan.now settings.now) }
+    ensures rules { IfOk result (λ clocked. rules_in clocked ≡ map rules_of settings.now.defs.jails) }
+    ensures places { IfOk result ArePlaces }
+    ensures err { IfErr result (ResumeFails (W.stands world.old) (W.stands world.new) plan.now settings.now) }
+    ensures cause { IfErr result (HasCause (W.stands world.old) (W.stands world.new)) }
+    ensures steady { IsSteady (W.stands world.old) (W.stands world.new) }
+    ensures placed { IfOk result (IsPlacedIn (W.stands world.new).told) }
+{
+    let engine = load_journal(alloc, world, plan, settings)?;
+    let clocked = first_turn(alloc, world, plan, settings, engine)?;
+    Ok(clocked)
+}
+
 // The start: the filters of all jails, and what is kept of the server before its first turn.
 #[tactic(auto, using(crate::proofs::ServeLemmas::preparing, run_law::proofs::CauseLemmas::counting))]
-fn prepare<W: World + Directories>(
+fn prepare<W: World + Directories + Store + Disk>(
     alloc: Global,
     world: &mut W,
     plan: &Plan,
@@ -32,27 +84,28 @@ fn prepare<W: World + Directories>(
     ensures ok { IfOk result (λ r. Prepares (W.stands world.old) (W.stands world.new) plan.now r.1) }
     ensures filters { IfOk result (λ r. r.0.items ≡ rules_in r.1) }
     ensures places { IfOk result (λ r. ArePlaces r.1) }
-    ensures err { IfErr result (Halts (W.stands world.old).told (W.stands world.new).told (opening plan.now)) }
+    ensures err { IfErr result (PlanHalts (W.stands world.old) (W.stands world.new) plan.now) }
     ensures cause { IfErr result (HasCause (W.stands world.old) (W.stands world.new)) }
     ensures steady { IsSteady (W.stands world.old) (W.stands world.new) }
+    ensures placed { IfOk result (λ r. IsPlacedIn (W.stands world.new).told r.1) }
 {
-    let settings = read_settings(alloc, world, plan)?;
-    let filters = build_filters(alloc, world, plan, &settings)?;
-    let clocked = first_turn(alloc, world, plan, &settings)?;
+    let (settings, filters) = configure(alloc, world, plan)?;
+    let clocked = resume(alloc, world, plan, &settings)?;
     Ok((filters, clocked))
 }
 
 // What the plan asks for.
 #[tactic(auto, using(crate::proofs::ServeLemmas::serving, run_law::proofs::CauseLemmas::counting))]
-fn serve<W: World + Directories + Children>(
+fn serve<W: World + Directories + Children + Store + Disk>(
     alloc: Global,
     world: &mut W,
     plan: &Plan,
 ) -> Result<(), Status>
     requires { 1 ≤ plan.now.turns }
-    ensures ok { OnOk result (Halts (W.stands world.old).told (W.stands world.new).told (opening plan.now) AllTurns) }
-    ensures err { IfErr result (Halts (W.stands world.old).told (W.stands world.new).told (opening plan.now)) }
+    ensures ok { OnOk result (PlanHalts (W.stands world.old) (W.stands world.new) plan.now AllTurns) }
+    ensures err { IfErr result (PlanHalts (W.stands world.old) (W.stands world.new) plan.now) }
     ensures cause { IfErr result (HasCause (W.stands world.old) (W.stands world.new)) }
+    ensures steady { IsSteady (W.stands world.old) (W.stands world.new) }
 {
     // The logs borrow the filters, which so stand here until the run is over.
     let (filters, clocked) = prepare(alloc, world, plan)?;
@@ -69,13 +122,13 @@ fn serve<W: World + Directories + Children>(
 
 // Reads the words, and does what they ask for.
 #[tactic(auto, using(crate::proofs::UsageLemmas::running))]
-fn run<W: World + Directories + Children>(
+fn run<W: World + Directories + Children + Store + Disk>(
     alloc: Global,
     words: &[String],
     world: &mut W,
 ) -> Result<(), Status>
-    ensures ok { OnOk result (IsRun (W.stands world.old).told (W.stands world.new).told (map string_bytes words.now) AllTurns) }
-    ensures err { IfErr result (IsRun (W.stands world.old).told (W.stands world.new).told (map string_bytes words.now)) }
+    ensures ok { OnOk result (BeginsSound (W.stands world.old).told → IsRun (W.stands world.old).told (W.stands world.new).told (map string_bytes words.now) AllTurns) }
+    ensures err { IfErr result (λ status. BeginsSound (W.stands world.old).told → IsRun (W.stands world.old).told (W.stands world.new).told (map string_bytes words.now) status) }
     ensures cause { IfErr result (IsCaused (map string_bytes words.now) (W.stands world.old) (W.stands world.new)) }
     ensures planned { OnOk result (IsSome (plan_of (map string_bytes words.now))) }
     ensures usage { IfErr result (λ status. plan_of (map string_bytes words.now) ≡ None → IsOfUsage status) }
@@ -87,19 +140,21 @@ fn run<W: World + Directories + Children>(
 }
 
 /// Runs the server as its words ask: `--conf DIR` follows the logs of the enabled jails of the configuration in that directory without
-/// end, and `--turns N` behind it ends the run after N turns.
+/// end. Behind it `--turns N` ends the run after N turns, and `--journal-limit BYTES` says how long a slot of the journal may get.
 ///
-/// Each call on the outside is the one that the law gives after the calls before it, and the run ends where the law gives none. Lines
-/// are said in the order of what happened, all that an event tells in one call, before any other call. In each lane the jobs that the run
-/// has tried are the first of those that were made for it, in order.
+/// Each call on the outside is the one that the law gives after the calls before it, and the run ends where the law gives none. The run
+/// goes on from the state that its slots come to, and keeps each input over a stop before anything tells of it. Lines are said in the order
+/// of what happened, all that an event tells in one call, before any other call. In each lane the jobs that the run has tried are the first
+/// of those that were made for it, in order.
 #[tactic(auto, using(crate::proofs::TriedLemmas::tries))]
-pub fn server<W: World + Directories + Children>(
+pub fn server<W: World + Directories + Children + Store + Disk>(
     alloc: Global,
     words: &[String],
     world: &mut W,
 ) -> Status
-    ensures law { IsRun (W.stands world.old).told (W.stands world.new).told (map string_bytes words.now) result }
-    ensures tried { Adds (W.stands world.old).told (W.stands world.new).told (λ g es. TriesJobsInOrder (map string_bytes words.now) es) }
+    // Where the history is told, and the state that its slots come to is sound, as one is that a run has stored.
+    ensures law { BeginsSound (W.stands world.old).told → IsRun (W.stands world.old).told (W.stands world.new).told (map string_bytes words.now) result }
+    ensures tried { BeginsSound (W.stands world.old).told → Adds (W.stands world.old).told (W.stands world.new).told (λ g es. HoldBytes (held_in g) → TriesJobsInOrder (map string_bytes words.now) (held_in g) es) }
 
     // In every world, told or not.
     ensures cause { IsCaused (map string_bytes words.now) (W.stands world.old) (W.stands world.new) result }

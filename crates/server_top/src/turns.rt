@@ -3,12 +3,12 @@ ghost use Rattle.std.specs.Prelude.{◌≡◌, ◌≤◌, ◌<◌, ◌+◌, IfEr
 ghost use Rattle.run_law.specs.Stages.{HasCause, IsSteady, Moves, MoveFails};
 ghost use Rattle.run_law.specs.Turn.{to_children, to_end};
 ghost use Rattle.run_law.specs.declared.status.Status.TheVariants.{TurnsSpent as AllTurns};
-ghost use Rattle.run_steps.specs.Keeping.{KeepsRunning};
+ghost use Rattle.run_steps.specs.Keeping.{IsPlacedIn, KeepsRunning};
 ghost use Rattle.server_top.specs.Ticks.{at_clock};
 
 use crate::clock::read_clock;
 use crate::pause::{last_pause, pause};
-use f2b_world::{Children, World};
+use f2b_world::{Children, Disk, World};
 use run_law::Status;
 use run_steps::Running;
 use std::alloc::Global;
@@ -17,16 +17,18 @@ use turn_logs::look_at_logs;
 
 // The clock and the looks of a turn.
 #[tactic(auto, using(crate::proofs::TurnLemmas::turning, run_law::proofs::CauseLemmas::counting))]
-fn observe<'f, W: World>(
+fn observe<'f, W: World + Disk>(
     alloc: Global,
     world: &mut W,
     running: Running<'f>,
 ) -> Result<Running<'f>, Status>
+    requires placed { IsPlacedIn (W.stands world.old).told running.clocked }
     ensures ok { IfOk result (Moves KeepsRunning (W.stands world.old) (W.stands world.new) at_clock to_children running.entry) }
     ensures err { IfErr result (MoveFails KeepsRunning (W.stands world.old) (W.stands world.new) at_clock running.entry) }
     ensures cause { IfErr result (HasCause (W.stands world.old) (W.stands world.new)) }
     ensures steady { IsSteady (W.stands world.old) (W.stands world.new) }
     ensures left { IfOk result (λ after. after.left ≡ running.entry.left) }
+    ensures placed { IfOk result (λ after. IsPlacedIn (W.stands world.new).told after.clocked) }
 {
     let running = read_clock(alloc, world, running)?;
     let running = look_at_logs(alloc, world, running)?;
@@ -35,16 +37,18 @@ fn observe<'f, W: World>(
 
 // The commands of a turn: those that run, and those that are to be started.
 #[tactic(auto, using(crate::proofs::TurnLemmas::acting, run_law::proofs::CauseLemmas::counting))]
-fn act<'f, W: World + Children>(
+fn act<'f, W: World + Children + Disk>(
     alloc: Global,
     world: &mut W,
     running: Running<'f>,
 ) -> Result<Running<'f>, Status>
+    requires placed { IsPlacedIn (W.stands world.old).told running.clocked }
     ensures ok { IfOk result (Moves KeepsRunning (W.stands world.old) (W.stands world.new) to_children to_end running.entry) }
     ensures err { IfErr result (MoveFails KeepsRunning (W.stands world.old) (W.stands world.new) to_children running.entry) }
     ensures cause { IfErr result (HasCause (W.stands world.old) (W.stands world.new)) }
     ensures steady { IsSteady (W.stands world.old) (W.stands world.new) }
     ensures left { IfOk result (λ after. after.left ≡ running.entry.left) }
+    ensures placed { IfOk result (λ after. IsPlacedIn (W.stands world.new).told after.clocked) }
 {
     let running = poll_children(alloc, world, running)?;
     let running = start_children(alloc, world, running)?;
@@ -53,16 +57,18 @@ fn act<'f, W: World + Children>(
 
 // What a turn does before its pause.
 #[tactic(auto, using(crate::proofs::TurnLemmas::turning, run_law::proofs::CauseLemmas::counting))]
-fn work<'f, W: World + Children>(
+fn work<'f, W: World + Children + Disk>(
     alloc: Global,
     world: &mut W,
     running: Running<'f>,
 ) -> Result<Running<'f>, Status>
+    requires placed { IsPlacedIn (W.stands world.old).told running.clocked }
     ensures ok { IfOk result (Moves KeepsRunning (W.stands world.old) (W.stands world.new) at_clock to_end running.entry) }
     ensures err { IfErr result (MoveFails KeepsRunning (W.stands world.old) (W.stands world.new) at_clock running.entry) }
     ensures cause { IfErr result (HasCause (W.stands world.old) (W.stands world.new)) }
     ensures steady { IsSteady (W.stands world.old) (W.stands world.new) }
     ensures left { IfOk result (λ after. after.left ≡ running.entry.left) }
+    ensures placed { IfOk result (λ after. IsPlacedIn (W.stands world.new).told after.clocked) }
 {
     let running = observe(alloc, world, running)?;
     let running = act(alloc, world, running)?;
@@ -71,33 +77,37 @@ fn work<'f, W: World + Children>(
 
 // A turn that is not the last.
 #[tactic(auto, using(crate::proofs::TurnLemmas::turning, run_law::proofs::CauseLemmas::counting))]
-fn turn<'f, W: World + Children>(
+fn turn<'f, W: World + Children + Disk>(
     alloc: Global,
     world: &mut W,
     running: Running<'f>,
 ) -> Result<Running<'f>, Status>
-    requires { 1 < running.left }
+    requires left { 1 < running.left }
+    requires placed { IsPlacedIn (W.stands world.old).told running.clocked }
     ensures ok { IfOk result (Moves KeepsRunning (W.stands world.old) (W.stands world.new) at_clock at_clock running.entry) }
     ensures err { IfErr result (MoveFails KeepsRunning (W.stands world.old) (W.stands world.new) at_clock running.entry) }
     ensures cause { IfErr result (HasCause (W.stands world.old) (W.stands world.new)) }
     ensures steady { IsSteady (W.stands world.old) (W.stands world.new) }
     ensures left { IfOk result (λ after. after.left + 1 ≡ running.entry.left) }
+    ensures placed { IfOk result (λ after. IsPlacedIn (W.stands world.new).told after.clocked) }
 {
     let running = work(alloc, world, running)?;
     Ok(pause(world, running))
 }
 
 // The last turn.
-#[tactic(auto, using(crate::proofs::TurnLemmas::turning))]
-fn last_turn<W: World + Children>(
+#[tactic(auto, using(crate::proofs::TurnLemmas::turning, run_law::proofs::CauseLemmas::counting))]
+fn last_turn<W: World + Children + Disk>(
     alloc: Global,
     world: &mut W,
     running: Running<'_>,
 ) -> Result<(), Status>
-    requires { running.left ≡ 1 }
+    requires left { running.left ≡ 1 }
+    requires placed { IsPlacedIn (W.stands world.old).told running.clocked }
     ensures ok { OnOk result (MoveFails KeepsRunning (W.stands world.old) (W.stands world.new) at_clock running.entry AllTurns) }
     ensures err { IfErr result (MoveFails KeepsRunning (W.stands world.old) (W.stands world.new) at_clock running.entry) }
     ensures cause { IfErr result (HasCause (W.stands world.old) (W.stands world.new)) }
+    ensures steady { IsSteady (W.stands world.old) (W.stands world.new) }
 {
     let running = work(alloc, world, running)?;
     last_pause(world, running);
@@ -106,15 +116,17 @@ fn last_turn<W: World + Children>(
 
 /// Makes the turns that are left, and ends the run.
 #[tactic(auto, using(crate::proofs::TurnLemmas::turning, run_law::proofs::CauseLemmas::counting))]
-pub fn make_turns<W: World + Children>(
+pub fn make_turns<W: World + Children + Disk>(
     alloc: Global,
     world: &mut W,
     first: Running<'_>,
 ) -> Result<(), Status>
-    requires { 1 ≤ first.left }
+    requires left { 1 ≤ first.left }
+    requires placed { IsPlacedIn (W.stands world.old).told first.clocked }
     ensures ok { OnOk result (MoveFails KeepsRunning (W.stands world.old) (W.stands world.new) at_clock first.entry AllTurns) }
     ensures err { IfErr result (MoveFails KeepsRunning (W.stands world.old) (W.stands world.new) at_clock first.entry) }
     ensures cause { IfErr result (HasCause (W.stands world.old) (W.stands world.new)) }
+    ensures steady { IsSteady (W.stands world.old) (W.stands world.new) }
 {
     let mut running = first;
     while running.left > 1 {

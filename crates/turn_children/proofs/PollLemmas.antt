@@ -6,7 +6,7 @@ use Rattle.std.proofs.lemmas.List.Edits.{length-remove}
 use Rattle.f2b_base.specs.declared.job.Outcome.{Outcome}
 use Rattle.f2b_base.specs.declared.job.Outcome.TheVariants.{Status as EndedWith, TimedOut}
 use Rattle.f2b_model.proofs.ListLemmas.{by_test}
-use Rattle.f2b_world.specs.Told.{Standing, Called}
+use Rattle.f2b_world.specs.Told.{Called, History, Standing}
 use Rattle.f2b_world.specs.declared.answer.PollAnswer.{PollAnswer}
 use Rattle.f2b_world.specs.declared.answer.PollAnswer.TheVariants.{Running as StillRuns, Ended as PollEnded, Failed}
 use Rattle.f2b_world.specs.declared.event.Event.TheVariants.{ChildPoll, ChildKill}
@@ -26,7 +26,7 @@ use Rattle.run_law.specs.declared.status.Status.TheVariants.{NoMemory}
 use Rattle.run_law.proofs.EntryLemmas.{saying_polls}
 use Rattle.run_law.proofs.PointLemmas.{goes_refl, goes_trans, halts_after, halts_here, turn_goes}
 use Rattle.run_law.proofs.StageLemmas.{move_fails_on, moves_trans}
-use Rattle.run_steps.specs.Keeping.{KeepsRunning, news_of}
+use Rattle.run_steps.specs.Keeping.{IsPlacedIn, KeepsRunning, news_of}
 use Rattle.run_steps.specs.declared.running.Running.{Running}
 use Rattle.turn_children.specs.Polling.{EndBrings, EndFails, HasPassed, IsGone, at_kill, outcome_of, place_behind}
 
@@ -41,7 +41,7 @@ keeps_children before after s t keeps clocked logs left children =
     let same : mid ≡ after = λ i. record { clocked = sym clocked i; logs = sym logs i; children = sym children i; left = sym left i } in
     let P : Running → Type 0 = λ k. KeepsRunning u k in
     subst P same (record {
-      clocked = record { core = keeps.clocked.core; sound = keeps.clocked.sound; now = keeps.clocked.now; word = keeps.clocked.word };
+      clocked = record { core = keeps.clocked.core; sound = keeps.clocked.sound; journal = keeps.clocked.journal; now = keeps.clocked.now; word = keeps.clocked.word };
       logs = keeps.logs;
       children = refl;
       left = keeps.left;
@@ -67,7 +67,7 @@ module _ (a : Standing) (place : ℕ) (child : Child) (outcome : Outcome) (befor
             to = ended_as true outcome child place s r;
             server = gone_passed child.job place s;
             goes = goes_refl a.told (ended_as true outcome child place s r);
-            at = record { point = refl; paid = at.paid };
+            at = record { point = refl; still = record { written = at.still.written; paid = at.still.paid } };
             keeps = passed_keeps before after place child.job s passed keeps;
           });
     }
@@ -113,7 +113,14 @@ passed_left before after place job passed = passed.left
 pub gone_left : (before mid after : Running) (place : ℕ) → IsGone place before mid → after.left ≡ mid.left → after.left ≡ before.left
 gone_left before mid after place gone_is same = same ∙ gone_is.left
 
-pub ruleset child_ends = (end_passed, end_brought, end_unbrought, end_lost, passed_fewer, ended_fewer, passed_left, gone_left)
+-- the journal stands where it did
+pub passed_placed : (before after : Running) (place job : ℕ) (told : Option History) → HasPassed place job before after → IsPlacedIn told before.clocked → IsPlacedIn told after.clocked
+passed_placed before after place job told passed placed = subst (IsPlacedIn told) (sym passed.clocked) placed
+
+pub gone_placed : (before mid : Running) (place : ℕ) (told : Option History) → IsGone place before mid → IsPlacedIn told before.clocked → IsPlacedIn told mid.clocked
+gone_placed before mid place told gone_is placed = subst (IsPlacedIn told) (sym gone_is.clocked) placed
+
+pub ruleset child_ends = (end_passed, end_brought, end_unbrought, end_lost, passed_fewer, ended_fewer, passed_left, gone_left, passed_placed, gone_placed)
 
 -- the place behind a child is the next one, where it is not late
 goes_behind : (now place : ℕ) (c : Child) (behind : ℕ) → place_behind now place c ≡ Some behind → (is_late now c ≡ false) × (place + 1 ≡ behind)
@@ -179,7 +186,7 @@ module _ (before : Running) (place : ℕ) (child : Child) (there : slice_get bef
         ap (λ (more : Bool). cond more (AtTurn (AtPoll place) s) (to_accept s)) is
 
     here : (r : Run) (s : Server) → IsAt r (to_polls place s) → KeepsRunning s before → IsAt r (AtTurn (AtPoll place) s)
-    here r s at keeps = record { point = at.point ∙ stands_at s keeps; paid = at.paid }
+    here r s at keeps = record { point = at.point ∙ stands_at s keeps; still = at.still }
 
     module _ (a b : Standing) (answer : PollAnswer) (call : Called a (ChildPoll child.job answer) b) where
       -- it has ended
@@ -239,7 +246,7 @@ module _ (before : Running) (place : ℕ) (child : Child) (there : slice_get bef
                   to = polled StillRuns child place s r;
                   server = s;
                   goes = still_goes r s (sym told ∙ none) at_poll keeps;
-                  at = record { point = ap (λ (l : Bool). still_point l place s) lates ∙ point s; paid = at.paid };
+                  at = record { point = ap (λ (l : Bool). still_point l place s) lates ∙ point s; still = record { written = at.still.written; paid = at.still.paid } };
                   keeps = keeps;
                 };
           }

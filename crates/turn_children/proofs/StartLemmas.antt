@@ -7,7 +7,7 @@ use Rattle.f2b_base.specs.declared.job.Job.{Job}
 use Rattle.f2b_base.specs.declared.job.Outcome.TheVariants.{NotStarted}
 use Rattle.f2b_base.specs.declared.job.UpLane.{UpLane}
 use Rattle.f2b_model.specs.Checks.{check_of}
-use Rattle.f2b_model.specs.Jobs.{AreById, is_head, next_due}
+use Rattle.f2b_model.specs.Jobs.{is_head, next_due}
 use Rattle.f2b_model.specs.Lists.{placed}
 use Rattle.f2b_model.specs.Starts.{checks_left, jobs_then, tries_left, unchecked, unstarted}
 use Rattle.f2b_model.specs.Whole.{Now, step_now}
@@ -32,14 +32,14 @@ use Rattle.run_law.specs.Starts.{child_started, with_child, without_child}
 use Rattle.run_law.specs.Turn.{start_place, start_point, to_end, to_starts}
 use Rattle.run_law.specs.declared.status.Status.{Status}
 use Rattle.run_law.specs.declared.status.Status.TheVariants.{NoMemory}
-use Rattle.run_law.proofs.CauseLemmas.{steady_call, steady_refl}
+use Rattle.run_law.proofs.CauseLemmas.{steady_call, steady_placed, steady_refl}
 use Rattle.run_law.proofs.EntryLemmas.{saying_starts}
 use Rattle.run_law.proofs.PointLemmas.{goes_trans, halts_after, halts_here, turn_goes}
 use Rattle.run_law.proofs.StageLemmas.{move_fails_here}
-use Rattle.run_steps.specs.Keeping.{IsTimedAlike, KeepsRunning, Makes, news_of}
+use Rattle.run_steps.specs.Keeping.{IsPlacedIn, IsTimedAlike, KeepsRunning, Makes, news_of}
 use Rattle.run_steps.specs.declared.clocked.Clocked.{Clocked}
 use Rattle.run_steps.specs.declared.running.Running.{Running}
-use Rattle.turn_children.specs.Launches.{next_job, next_start, place_for, place_of}
+use Rattle.turn_children.specs.Launches.{IsNextStart, next_job, next_start, place_for, place_of}
 use Rattle.turn_children.specs.Starting.{ComesNearer, HasNotStarted, HasStarted, checks_then, is_check}
 use Rattle.turn_children.specs.declared.launch.Launch.{Launch}
 use Rattle.turn_children.proofs.PollLemmas.{keeps_children}
@@ -105,19 +105,19 @@ checks_of t up jobs id lane is =
     (λ passed. absurd (let e : None ≡ Some lane = rw passed at is in cc))
     (λ not_passed. rw not_passed at is)
 
-pub start_room : (kept : Running) (child : Child) (text : List ℕ) → next_start kept ≡ Some (AtStart child text) → length kept.children.running < most_children
-start_room kept child text is =
-    let of = start_of kept child text is in
-    (due_of kept.clocked.now kept.children kept.clocked.core.lanes.jobs of.job of.next).0
+pub start_room : (kept : Running) (launch : Launch) → IsNextStart kept (Some launch) → length kept.children.running < most_children
+start_room kept launch is =
+    let of = start_of kept launch.child launch.text (sym is.next) in
+    (due_of kept.clocked.now kept.children kept.clocked.engine.core.lanes.jobs of.job of.next).0
 
-pub start_apart : (kept : Running) (child : Child) (text : List ℕ) → next_start kept ≡ Some (AtStart child text) → runs child.job kept.children ≡ false
-start_apart kept child text is =
-    let of = start_of kept child text is in
-    let due = (due_of kept.clocked.now kept.children kept.clocked.core.lanes.jobs of.job of.next).1 in
-    let first = checked_first kept.children kept.clocked.core.lanes.up kept.clocked.core.lanes.jobs of.job.id in
-    let same = child_is kept.clocked.now of.job first child text of.place in
+pub start_apart : (kept : Running) (launch : Launch) → IsNextStart kept (Some launch) → runs launch.child.job kept.children ≡ false
+start_apart kept launch is =
+    let of = start_of kept launch.child launch.text (sym is.next) in
+    let due = (due_of kept.clocked.now kept.children kept.clocked.engine.core.lanes.jobs of.job of.next).1 in
+    let first = checked_first kept.children kept.clocked.engine.core.lanes.up kept.clocked.engine.core.lanes.jobs of.job.id in
+    let same = child_is kept.clocked.now of.job first launch.child launch.text of.place in
     let P : ℕ → Type 0 = λ id. has id (jobs_of kept.children.running) ≡ false in
-    subst P (sym same) (not_running kept.clocked.now (jobs_of kept.children.running) kept.clocked.core.lanes.jobs of.job due)
+    subst P (sym same) (not_running kept.clocked.now (jobs_of kept.children.running) kept.clocked.engine.core.lanes.jobs of.job due)
 
 -- ---- where a run stands that may start a child
 
@@ -136,8 +136,8 @@ same_next : (kept : Running) (s : Server) → KeepsRunning s kept → next_in s.
 same_next kept s keeps =
     let now = keeps.clocked.now in
     let children = keeps.children in
-    let up : kept.clocked.core.lanes.up ≡ lanes_up s = ap (λ (n : Now). n.lanes.up) keeps.clocked.core in
-    let js : kept.clocked.core.lanes.jobs ≡ jobs s = ap (λ (n : Now). n.lanes.jobs) keeps.clocked.core in
+    let up : kept.clocked.engine.core.lanes.up ≡ lanes_up s = ap (λ (n : Now). n.lanes.up) keeps.clocked.core in
+    let js : kept.clocked.engine.core.lanes.jobs ≡ jobs s = ap (λ (n : Now). n.lanes.jobs) keeps.clocked.core in
     sym (λ i. next_in (now i) (children i) (up i) (js i))
 
 pub starts_at : (kept : Running) (o : Option Place) → next_start kept ≡ o → (s : Server) → KeepsRunning s kept → to_starts s ≡ point_in o s
@@ -155,9 +155,9 @@ started_keeps before after child s is keeps = keeps_children before after s (sta
 not_started_keeps : (before after : Running) (child : Child) (s : Server) → HasNotStarted child before after → KeepsRunning s before → KeepsRunning (without_child child s) after
 not_started_keeps before after child s is keeps = keeps_children before after s (not_started child s.children) keeps is.clocked is.logs is.left (is.children ∙ ap (not_started child) keeps.children)
 
-module _ (kept : Running) (launch : Launch) (next : next_start kept ≡ Some (place_of launch)) where
+module _ (kept : Running) (launch : Launch) (next : IsNextStart kept (Some launch)) where
   here : (r : Run) (s : Server) → IsAt r (to_starts s) → KeepsRunning s kept → IsAt r (AtTurn (place_of launch) s)
-  here r s at keeps = record { point = at.point ∙ starts_at kept (Some (place_of launch)) next s keeps; paid = at.paid }
+  here r s at keeps = record { point = at.point ∙ starts_at kept (Some (place_of launch)) (sym next.next) s keeps; still = at.still }
 
   start_goes : (a b : Standing) (answer : StartAnswer) (r : Run) (s : Server) → Called a (ChildStart launch.child.job launch.text answer) b → IsAt r (AtTurn (place_of launch) s)
       → Goes a.told b.told r (child_started answer launch.child s r)
@@ -176,7 +176,7 @@ module _ (kept : Running) (launch : Launch) (next : next_start kept ≡ Some (pl
             to = child_started Started launch.child s r;
             server = with_child launch.child s;
             goes = start_goes a b Started r s (answered Started is) at_start;
-            at = record { point = refl; paid = at.paid };
+            at = record { point = refl; still = record { written = at.still.written; paid = at.still.paid } };
             keeps = started_keeps kept after launch.child s runs_now keeps;
           };
     }
@@ -206,6 +206,13 @@ module _ (kept : Running) (launch : Launch) (next : next_start kept ≡ Some (pl
         by_answer StartNoMemory asked =
             let P : Standing → Type 0 = λ x. IsSteady a x in
             subst P (sym asked) (steady_refl a)
+
+    -- the journal stands where it did
+    pub started_placed : (after : Running) → HasStarted launch.child kept after → IsPlacedIn a.told kept.clocked → IsPlacedIn b.told after.clocked
+    started_placed after is placed = subst (IsPlacedIn b.told) (sym is.clocked) (steady_placed kept.clocked.engine.journal a b start_steady placed)
+
+    pub unstarted_placed : (mid : Running) → HasNotStarted launch.child kept mid → IsPlacedIn a.told kept.clocked → IsPlacedIn b.told mid.clocked
+    unstarted_placed mid is placed = subst (IsPlacedIn b.told) (sym is.clocked) (steady_placed kept.clocked.engine.journal a b start_steady placed)
 
     module _ (c : Standing) (mid : Running) (is : answer ≡ StartFailed) (not_now : HasNotStarted launch.child kept mid) where
       -- it could not be started
@@ -238,22 +245,22 @@ length-placed : (c : Child) (cs : List Child) → length (placed comes_before c 
 length-placed c [] = omega arith
 length-placed c (d ∷ ds) = by_test (nat_lt c.job d.job) _ (λ before. rw before (omega arith)) (λ behind. rw behind (omega (arith, length-placed c ds)))
 
-pub started_nearer : (before after : Running) (launch : Launch) → next_start before ≡ Some (place_of launch) → HasStarted launch.child before after → ComesNearer before after false
+pub started_nearer : (before after : Running) (launch : Launch) → IsNextStart before (Some launch) → HasStarted launch.child before after → ComesNearer before after false
 started_nearer before after launch next is =
-    let room = start_room before launch.child launch.text next in
+    let room = start_room before launch next in
     let one : length after.children.running ≡ length before.children.running + 1 =
     ap (λ (t : Children). length t.running) is.children ∙ length-placed launch.child before.children.running in
-    let checks : checks_then after ≡ checks_then before = ap (λ (k : Clocked). checks_left (jobs_then k.now k.core)) is.clocked in
-    let tries : tries_left (jobs_then after.clocked.now after.clocked.core) ≡ tries_left (jobs_then before.clocked.now before.clocked.core) =
-    ap (λ (k : Clocked). tries_left (jobs_then k.now k.core)) is.clocked in
+    let checks : checks_then after ≡ checks_then before = ap (λ (k : Clocked). checks_left (jobs_then k.now k.engine.core)) is.clocked in
+    let tries : tries_left (jobs_then after.clocked.now after.clocked.engine.core) ≡ tries_left (jobs_then before.clocked.now before.clocked.engine.core) =
+    ap (λ (k : Clocked). tries_left (jobs_then k.now k.engine.core)) is.clocked in
     record {
       checks = omega (arith, checks);
       steps = λ no. omega (arith, one, tries, room);
       fewer = λ yes. absurd (let e : false ≡ true = yes in cc);
     }
 
-module _ (before mid after : Running) (launch : Launch) (next : next_start before ≡ Some (place_of launch)) (not_now : HasNotStarted launch.child before mid) (time : IsTimedAlike mid.clocked after.clocked)
-    (children : after.children ≡ mid.children) (by_id : AreById 0 before.clocked.core.lanes.jobs before.clocked.core.lanes.next_job) where
+module _ (before mid after : Running) (launch : Launch) (next : IsNextStart before (Some launch)) (not_now : HasNotStarted launch.child before mid) (time : IsTimedAlike mid.clocked after.clocked)
+    (children : after.children ≡ mid.children) where
   as_many : length after.children.running ≡ length before.children.running
   as_many = ap (λ (t : Children). length t.running) (children ∙ not_now.children)
 
@@ -265,24 +272,24 @@ module _ (before mid after : Running) (launch : Launch) (next : next_start befor
   now_is = time.now ∙ ap (λ (k : Clocked). k.now) not_now.clocked
 
   of : IsStartOf before launch.child launch.text
-  of = start_of before launch.child launch.text next
+  of = start_of before launch.child launch.text (sym next.next)
 
-  due : next_due before.clocked.now (jobs_of before.children.running) before.clocked.core.lanes.jobs ≡ Some of.job
-  due = (due_of before.clocked.now before.children before.clocked.core.lanes.jobs of.job of.next).1
+  due : next_due before.clocked.now (jobs_of before.children.running) before.clocked.engine.core.lanes.jobs ≡ Some of.job
+  due = (due_of before.clocked.now before.children before.clocked.engine.core.lanes.jobs of.job of.next).1
 
   command_nearer : Makes before.clocked (Some (end_of Command launch.child.job NotStarted)) after.clocked → ComesNearer before after false
   command_nearer makes =
-      let same : launch.child.job ≡ of.job.id = child_is before.clocked.now of.job (checked_first before.children before.clocked.core.lanes.up before.clocked.core.lanes.jobs of.job.id) launch.child launch.text of.place in
+      let same : launch.child.job ≡ of.job.id = child_is before.clocked.now of.job (checked_first before.children before.clocked.engine.core.lanes.up before.clocked.engine.core.lanes.jobs of.job.id) launch.child launch.text of.place in
       let P : ℕ → Type 0 = λ id. Makes before.clocked (Some (end_of Command id NotStarted)) after.clocked in
       let made = subst P same makes in
-      let law = starts_end.tried before.clocked.core before.clocked.now before.clocked.word (jobs_of before.children.running) of.job made.1 by_id due in
-      let stepped : Now = step_now before.clocked.core (unstarted before.clocked.now before.clocked.word of.job.id) in
-      let core : after.clocked.core ≡ stepped = made.0 in
+      let law = starts_end.tried before.clocked.engine.core before.clocked.now before.clocked.word (jobs_of before.children.running) of.job made.1 next.by_id due in
+      let stepped : Now = step_now before.clocked.engine.core (unstarted before.clocked.now before.clocked.word of.job.id) in
+      let core : after.clocked.engine.core ≡ stepped = made.0 in
       let checks : checks_then after ≡ checks_left (jobs_then before.clocked.now stepped) = λ i. checks_left (jobs_then (now_is i) (core i)) in
-      let tries : tries_left (jobs_then after.clocked.now after.clocked.core) ≡ tries_left (jobs_then before.clocked.now stepped) = λ i. tries_left (jobs_then (now_is i) (core i)) in
+      let tries : tries_left (jobs_then after.clocked.now after.clocked.engine.core) ≡ tries_left (jobs_then before.clocked.now stepped) = λ i. tries_left (jobs_then (now_is i) (core i)) in
       let Q : ℕ → Type 0 = λ n. n ≤ checks_then before in
-      let R : ℕ → Type 0 = λ n. n < tries_left (jobs_then before.clocked.now before.clocked.core) in
-      let fewer_tries : tries_left (jobs_then after.clocked.now after.clocked.core) < tries_left (jobs_then before.clocked.now before.clocked.core) = subst R (sym tries) law.1 in
+      let R : ℕ → Type 0 = λ n. n < tries_left (jobs_then before.clocked.now before.clocked.engine.core) in
+      let fewer_tries : tries_left (jobs_then after.clocked.now after.clocked.engine.core) < tries_left (jobs_then before.clocked.now before.clocked.engine.core) = subst R (sym tries) law.1 in
       record {
         checks = subst Q (sym checks) law.0;
         steps = λ no. omega (arith, as_many, fewer_tries);
@@ -291,15 +298,15 @@ module _ (before mid after : Running) (launch : Launch) (next : next_start befor
 
   check_nearer : Check ≡ launch.child.task → Makes before.clocked (Some (end_of Check launch.child.job NotStarted)) after.clocked → ComesNearer before after true
   check_nearer is makes =
-      let first = checked_first before.children before.clocked.core.lanes.up before.clocked.core.lanes.jobs of.job.id in
+      let first = checked_first before.children before.clocked.engine.core.lanes.up before.clocked.engine.core.lanes.jobs of.job.id in
       let same : launch.child.job ≡ of.job.id = child_is before.clocked.now of.job first launch.child launch.text of.place in
       let lane = lane_of_check before.clocked.now of.job first launch.child launch.text of.place (sym is) in
-      let checked : check_of before.clocked.core.lanes.up of.job.id before.clocked.core.lanes.jobs ≡ Some lane.0 = checks_of before.children before.clocked.core.lanes.up before.clocked.core.lanes.jobs of.job.id lane.0 lane.1 in
+      let checked : check_of before.clocked.engine.core.lanes.up of.job.id before.clocked.engine.core.lanes.jobs ≡ Some lane.0 = checks_of before.children before.clocked.engine.core.lanes.up before.clocked.engine.core.lanes.jobs of.job.id lane.0 lane.1 in
       let P : ℕ → Type 0 = λ id. Makes before.clocked (Some (end_of Check id NotStarted)) after.clocked in
       let made = subst P same makes in
-      let law = starts_end.checked before.clocked.core before.clocked.now before.clocked.word of.job.id lane.0 made.1 by_id checked in
-      let stepped : Now = step_now before.clocked.core (unchecked before.clocked.now before.clocked.word of.job.id) in
-      let core : after.clocked.core ≡ stepped = made.0 in
+      let law = starts_end.checked before.clocked.engine.core before.clocked.now before.clocked.word of.job.id lane.0 made.1 next.by_id checked in
+      let stepped : Now = step_now before.clocked.engine.core (unchecked before.clocked.now before.clocked.word of.job.id) in
+      let core : after.clocked.engine.core ≡ stepped = made.0 in
       let checks : checks_then after ≡ checks_left (jobs_then before.clocked.now stepped) = λ i. checks_left (jobs_then (now_is i) (core i)) in
       let Q : ℕ → Type 0 = λ n. n < checks_then before in
       let fewer : checks_then after < checks_then before = subst Q (sym checks) law in
@@ -325,4 +332,4 @@ started_left before after child is = is.left
 pub failed_left : (before mid after : Running) (child : Child) → HasNotStarted child before mid → after.left ≡ mid.left → after.left ≡ before.left
 failed_left before mid after child is same = same ∙ is.left
 
-pub ruleset starting = (start_room, start_apart, start_done, start_lost, start_memory, start_steady, start_failed, start_fails, started_nearer, failed_nearer, started_left, failed_left)
+pub ruleset starting = (start_room, start_apart, start_done, start_lost, start_memory, start_steady, start_failed, start_fails, started_nearer, failed_nearer, started_left, failed_left, started_placed, unstarted_placed)

@@ -1,5 +1,5 @@
 -- One start behind the other.
-use Rattle.std.proofs.Common.{◌≡◌, ◌<◌, ◌≤◌, Bool, true, Option, Some, None, refl, sym, ap, ◌∙◌, arith}
+use Rattle.std.proofs.Common.{◌≡◌, ◌<◌, ◌≤◌, Bool, true, Option, Some, None, refl, sym, ap, ◌∙◌, subst, arith}
 use Rattle.std.specs.Prelude.{option_map}
 use Rattle.f2b_world.specs.Told.{Standing}
 use Rattle.run_law.specs.Stages.{MoveFails, Moves}
@@ -17,11 +17,11 @@ use Rattle.turn_children.proofs.StartLemmas.{starts_at}
 pub starts_begin : (a : Standing) (kept : Running) → Moves KeepsRunning a a to_starts to_starts kept kept
 starts_begin a kept = moves_none KeepsRunning a to_starts kept
 
-pub next_is : (kept : Running) (o : Option Launch) (launch : Launch) → IsNextStart kept o → o ≡ Some launch → next_start kept ≡ Some (place_of launch)
-next_is kept o launch next is = sym next ∙ ap (λ (x : Option Launch). option_map place_of x) is
+pub next_is : (kept : Running) (o : Option Launch) (launch : Launch) → IsNextStart kept o → o ≡ Some launch → IsNextStart kept (Some launch)
+next_is kept o launch next is = subst (IsNextStart kept) is next
 
 pub next_none : (kept : Running) (o : Option Launch) → IsNextStart kept o → o ≡ None → next_start kept ≡ None
-next_none kept o next is = sym next ∙ ap (λ (x : Option Launch). option_map place_of x) is
+next_none kept o next is = sym next.next ∙ ap (λ (x : Option Launch). option_map place_of x) is
 
 module _ (a b : Standing) (before between : Running) (moves : Moves KeepsRunning a b to_starts to_starts before between) where
   pub starts_on : (c : Standing) (after : Running) → Moves KeepsRunning b c to_starts to_starts between after → Moves KeepsRunning a c to_starts to_starts before after

@@ -27,11 +27,11 @@ is_check Command = false
 
 -- how many checks are left before tries of jobs, once the bans that are due have ended
 abbrev pub checks_then : Running → ℕ
-checks_then kept = checks_left (jobs_then kept.clocked.now kept.clocked.core)
+checks_then kept = checks_left (jobs_then kept.clocked.now kept.clocked.engine.core)
 
 -- how many starts there may be without a check that cannot be started: each adds a child, or takes one of the tries that are left
 abbrev pub steps_left : Running → ℕ
-steps_left kept = (most_children - length kept.children.running) + tries_left (jobs_then kept.clocked.now kept.clocked.core)
+steps_left kept = (most_children - length kept.children.running) + tries_left (jobs_then kept.clocked.now kept.clocked.engine.core)
 
 -- A start brings the end nearer: one of a check that fails by the checks that are left, and any other by the starts that there may be.
 pub record ComesNearer (before after : Running) (lost : Bool) : Type 0 where

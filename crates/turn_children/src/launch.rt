@@ -63,7 +63,7 @@ fn launch_for(running: &Running<'_>, job: &Job) -> Result<Launch, NoMemory>
     if running.children.has_passed(job.id) {
         return command_launch(job, now);
     }
-    match check_launch(&running.clocked.core, job, now)? {
+    match check_launch(running.clocked.engine.core(), job, now)? {
         Some(launch) => Ok(launch),
         None => command_launch(job, now),
     }
@@ -74,11 +74,11 @@ fn launch_for(running: &Running<'_>, job: &Job) -> Result<Launch, NoMemory>
 pub(crate) fn next_launch(running: &Running<'_>) -> Result<Option<Launch>, NoMemory>
     ensures { IfOk result (IsNextStart running.now) }
 {
+    let core = running.clocked.engine.core();
     if running.children.count() >= MOST_CHILDREN {
         return Ok(None);
     }
     let jobs = running.children.jobs()?;
-    let core = &running.clocked.core;
     match core.lanes().next_due(running.clocked.now, jobs.as_slice()) {
         Some(job) => Ok(Some(launch_for(running, job)?)),
         None => Ok(None),

@@ -3,13 +3,13 @@ ghost use Rattle.std.specs.Prelude.{◌≡◌, ◌<◌, ◌+◌, ◌-◌, length
 ghost use Rattle.child_table.specs.Children.{most_children};
 ghost use Rattle.run_law.specs.Stages.{HasCause, IsSteady, Moves, MoveFails};
 ghost use Rattle.run_law.specs.Turn.{to_polls};
-ghost use Rattle.run_steps.specs.Keeping.{KeepsRunning};
+ghost use Rattle.run_steps.specs.Keeping.{IsPlacedIn, KeepsRunning};
 ghost use Rattle.turn_children.specs.Polling.{EndBrings, EndFails, IsGone, HasPassed, at_kill, outcome_of, place_behind};
 
 use crate::end::{has_succeeded, take_end};
 use child_table::Child;
 use f2b_base::{NoMemory, Outcome};
-use f2b_world::{Children, PollAnswer, World};
+use f2b_world::{Children, Disk, PollAnswer, World};
 use run_law::Status;
 use run_steps::Running;
 use std::alloc::Global;
@@ -59,7 +59,7 @@ fn gone_passed<'f>(running: Running<'f>, place: usize, job: u64) -> Result<Runni
 
 // The child at a place has ended.
 #[tactic(auto, using(crate::proofs::PollLemmas::child_ends, run_law::proofs::CauseLemmas::counting))]
-fn child_ended<'f, W: World>(
+fn child_ended<'f, W: World + Disk>(
     alloc: Global,
     world: &mut W,
     running: Running<'f>,
@@ -67,13 +67,15 @@ fn child_ended<'f, W: World>(
     child: Child,
     outcome: Outcome,
 ) -> Result<Running<'f>, Status>
-    requires { place < length running.children.running }
+    requires within { place < length running.children.running }
+    requires placed { IsPlacedIn (W.stands world.old).told running.clocked }
     ensures ok { IfOk result (EndBrings (W.stands world.old) (W.stands world.new) place child outcome running.entry) }
     ensures err { IfErr result (EndFails (W.stands world.old) (W.stands world.new) place child outcome running.entry) }
     ensures cause { IfErr result (HasCause (W.stands world.old) (W.stands world.new)) }
     ensures steady { IsSteady (W.stands world.old) (W.stands world.new) }
     ensures fewer { IfOk result (λ after. length after.children.running + 1 ≡ length running.entry.children.running) }
     ensures left { IfOk result (λ after. after.left ≡ running.entry.left) }
+    ensures placed { IfOk result (λ after. IsPlacedIn (W.stands world.new).told after.clocked) }
 {
     if has_succeeded(child.task, outcome) {
         let running = gone_passed(running, place, child.job)?;
@@ -85,8 +87,8 @@ fn child_ended<'f, W: World>(
 }
 
 // The child at a place is late, and is ended.
-#[tactic(auto, using(crate::proofs::PollLemmas::killing, run_law::proofs::CauseLemmas::counting))]
-fn kill<'f, W: World + Children>(
+#[tactic(auto, using(crate::proofs::PollLemmas::killing, run_law::proofs::CauseLemmas::counting, run_law::proofs::CauseLemmas::placing))]
+fn kill<'f, W: World + Disk + Children>(
     alloc: Global,
     world: &mut W,
     running: Running<'f>,
@@ -95,12 +97,14 @@ fn kill<'f, W: World + Children>(
 ) -> Result<Running<'f>, Status>
     requires within { place < length running.children.running }
     requires there { slice_get running.children.running place ≡ Some child }
+    requires placed { IsPlacedIn (W.stands world.old).told running.clocked }
     ensures ok { IfOk result (Moves KeepsRunning (W.stands world.old) (W.stands world.new) (at_kill place) (to_polls place) running.entry) }
     ensures err { IfErr result (MoveFails KeepsRunning (W.stands world.old) (W.stands world.new) (at_kill place) running.entry) }
     ensures cause { IfErr result (HasCause (W.stands world.old) (W.stands world.new)) }
     ensures steady { IsSteady (W.stands world.old) (W.stands world.new) }
     ensures fewer { IfOk result (λ after. length after.children.running + 1 ≡ length running.entry.children.running) }
     ensures left { IfOk result (λ after. after.left ≡ running.entry.left) }
+    ensures placed { IfOk result (λ after. IsPlacedIn (W.stands world.new).told after.clocked) }
 {
     world.child_kill(child.job);
     let running = child_ended(alloc, world, running, place, child, Outcome::TimedOut)?;
@@ -108,8 +112,8 @@ fn kill<'f, W: World + Children>(
 }
 
 /// Asks the child at a place whether it has ended, ends it where it is late, and gives the place to go on from.
-#[tactic(auto, using(crate::proofs::PollLemmas::polling, run_law::proofs::CauseLemmas::counting))]
-pub(crate) fn poll<'f, W: World + Children>(
+#[tactic(auto, using(crate::proofs::PollLemmas::polling, run_law::proofs::CauseLemmas::counting, run_law::proofs::CauseLemmas::placing))]
+pub(crate) fn poll<'f, W: World + Disk + Children>(
     alloc: Global,
     world: &mut W,
     running: Running<'f>,
@@ -117,12 +121,14 @@ pub(crate) fn poll<'f, W: World + Children>(
 ) -> Result<(Running<'f>, usize), Status>
     requires within { place < length running.children.running }
     requires few { place < most_children }
+    requires placed { IsPlacedIn (W.stands world.old).told running.clocked }
     ensures ok { IfOk result (λ r. Moves KeepsRunning (W.stands world.old) (W.stands world.new) (to_polls place) (to_polls r.1) running.entry r.0) }
     ensures err { IfErr result (MoveFails KeepsRunning (W.stands world.old) (W.stands world.new) (to_polls place) running.entry) }
     ensures cause { IfErr result (HasCause (W.stands world.old) (W.stands world.new)) }
     ensures steady { IsSteady (W.stands world.old) (W.stands world.new) }
     ensures fewer { IfOk result (λ r. length r.0.children.running - r.1 < length running.entry.children.running - place) }
     ensures left { IfOk result (λ r. r.0.left ≡ running.entry.left) }
+    ensures placed { IfOk result (λ r. IsPlacedIn (W.stands world.new).told r.0.clocked) }
 {
     let child = running.children.at(place);
     match outcome_of(world.child_poll(child.job)) {

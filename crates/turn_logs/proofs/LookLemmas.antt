@@ -22,7 +22,9 @@ use Rattle.run_law.specs.Stages.{Brings, BringFails, IsAt, IsSteady, MoveFails, 
 use Rattle.run_law.specs.Turn.{to_looks}
 use Rattle.run_law.specs.declared.status.Status.{Status}
 use Rattle.run_law.specs.declared.status.Status.TheVariants.{NoMemory}
-use Rattle.run_law.proofs.CauseLemmas.{steady_call, steady_refl}
+use Rattle.ban_journal.specs.Places.{IsPlaced}
+use Rattle.slot_writes.specs.declared.position.Position.{Position}
+use Rattle.run_law.proofs.CauseLemmas.{steady_call, steady_placed, steady_refl}
 use Rattle.run_law.proofs.EntryLemmas.{saying_looks}
 use Rattle.run_law.proofs.PointLemmas.{goes_refl, goes_trans, halts_after, halts_here, turn_goes}
 use Rattle.run_steps.specs.Keeping.{KeepsRunning, news_of}
@@ -90,7 +92,7 @@ module _ (a b : Standing) (i : ℕ) (before : Running) (lines : List (List ℕ))
 -- of a log that is not there nothing is said
 pub absent_brings : (a : Standing) (i : ℕ) (before : Running) → LookBrings a a i Absent before before
 absent_brings a i before = record {
-  runs = λ r s l l_is at keeps. record { to = looked Absent l i s r; server = s; goes = goes_refl a.told (looked Absent l i s r); at = record { point = refl; paid = at.paid }; keeps = keeps };
+  runs = λ r s l l_is at keeps. record { to = looked Absent l i s r; server = s; goes = goes_refl a.told (looked Absent l i s r); at = record { point = refl; still = record { written = at.still.written; paid = at.still.paid } }; keeps = keeps };
 }
 
 -- memory ran out behind the look
@@ -174,4 +176,8 @@ look_steady a b path head from max LookNoMemory asked =
     let P : Standing → Type 0 = λ x. IsSteady a x in
     subst P (sym asked) (steady_refl a)
 
-pub ruleset asking = (answer_at, look_moves, look_fails, look_steady)
+-- and the journal stands where it stood
+pub look_placed : (p : Position) (a b : Standing) (path : List ℕ) (head from max : ℕ) (answer : Look) → Asked a (look_event path head from max answer) b → IsPlaced p a.told → IsPlaced p b.told
+look_placed p a b path head from max answer asked is = steady_placed p a b (look_steady a b path head from max answer asked) is
+
+pub ruleset asking = (answer_at, look_moves, look_fails, look_steady, look_placed)

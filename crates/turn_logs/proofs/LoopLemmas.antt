@@ -48,12 +48,12 @@ pub ruleset looks = (looks_begin, looks_on, looks_fail, looks_end)
 
 -- ---- whether a stop was asked for
 
-logs_are : (kept : Running) (stopping : Bool) → stopping ≡ kept.clocked.core.lanes.stopping → (s : Server) → KeepsRunning s kept → to_logs s ≡ (if stopping then to_children s else to_looks 0 s)
+logs_are : (kept : Running) (stopping : Bool) → stopping ≡ kept.clocked.engine.core.lanes.stopping → (s : Server) → KeepsRunning s kept → to_logs s ≡ (if stopping then to_children s else to_looks 0 s)
 unfolding to_logs
 logs_are kept stopping is s keeps =
     ap (λ (b : Bool). if b then to_children s else to_looks 0 s) (sym (is ∙ ap (λ (n : Now). n.lanes.stopping) keeps.clocked.core))
 
-module _ (a : Standing) (kept : Running) (stopping : Bool) (stopping_is : stopping ≡ kept.clocked.core.lanes.stopping) where
+module _ (a : Standing) (kept : Running) (stopping : Bool) (stopping_is : stopping ≡ kept.clocked.engine.core.lanes.stopping) where
   -- then no log is looked at
   pub logs_none : stopping ≡ true → Moves KeepsRunning a a to_logs to_children kept kept
   logs_none is =

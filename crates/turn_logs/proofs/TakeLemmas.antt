@@ -3,8 +3,6 @@ use Rattle.std.proofs.Common.{◌≡◌, ℕ, Bool, true, false, List, [], ◌�
 use Rattle.f2b_base.specs.declared.input.What.{What}
 use Rattle.f2b_base.specs.declared.input.What.TheVariants.{Read}
 use Rattle.f2b_base.specs.declared.outside.FileLook.{FileLook}
-use Rattle.f2b_model.specs.Bounds.{IsBoundedWhat}
-use Rattle.f2b_model.specs.Sound.{IsFitWhat}
 use Rattle.f2b_world.specs.Told.{Standing}
 use Rattle.log_set.specs.Logs.{BelongsTo, IsLogRead, LiesAt, MovesAt, TakesAt, taken_of}
 use Rattle.log_set.specs.declared.taken.Taken.{Taken}
@@ -21,19 +19,6 @@ use Rattle.turn_logs.specs.Looking.{TakesLook, TellsRotated, TellsUnread}
 
 -- ---- the input of a look
 
-read_fits : (what : What) → IsLogRead what → IsFitWhat what × IsBoundedWhat what
-read_fits (Read jail path place found) is = (tt, tt)
-read_fits _ is = absurd is
-
--- it is fit, and within its bounds
-pub reads_fit : (what : Option What) → IfSome what IsLogRead → IfSome what IsFitWhat
-reads_fit None is = tt
-reads_fit (Some what) is = (read_fits what is).0
-
-pub reads_bounded : (what : Option What) → IfSome what IsLogRead → IfSome what IsBoundedWhat
-reads_bounded None is = tt
-reads_bounded (Some what) is = (read_fits what is).1
-
 read_leaves : (what : What) → IsLogRead what → LeavesJails what
 read_leaves (Read jail path place found) is s = read_jails jail path place found s
 read_leaves _ is s = absurd is
@@ -48,7 +33,7 @@ pub read_beside : (a b : Standing) (kept : Running) (after : Clocked) (pre post 
     → Brings KeepsRunning a b (news_of pre what post) kept (clocked_as kept after)
 read_beside a b kept after pre post what is brought = bring_beside kept after a b pre post what (reads_leave what is) brought
 
-pub ruleset bringing = (reads_fit, reads_bounded, read_beside, bring_fails_beside)
+pub ruleset bringing = (read_beside, bring_fails_beside)
 
 -- ---- a look that the set of the logs takes over
 
@@ -58,7 +43,7 @@ unfolding look_taken
 took_look before after i file t clocked children left moves takes = record {
   keeps = λ s l l_is keeps. record {
     clocked = (let P : Clocked → Type 0 = λ c. KeepsClocked (now_is i l file s) c in
-        subst P (sym clocked) (record { core = keeps.clocked.core; sound = keeps.clocked.sound; now = keeps.clocked.now; word = keeps.clocked.word }));
+        subst P (sym clocked) (record { core = keeps.clocked.core; sound = keeps.clocked.sound; journal = keeps.clocked.journal; now = keeps.clocked.now; word = keeps.clocked.word }));
     logs = moves (log_jails s) s.logs l keeps.logs l_is;
     children = children ∙ keeps.children;
     left = left ∙ keeps.left;

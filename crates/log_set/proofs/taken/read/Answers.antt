@@ -1,5 +1,7 @@
-use Rattle.std.proofs.Common.{◌≡◌, ◌∙◌, Some, get_or, ap, sym}
+use Rattle.std.proofs.Common.{◌≡◌, ◌∙◌, Option, Some, IfSome, get_or, ap, sym, subst}
 use Rattle.std.specs.Prelude.{find, option_map}
+use Rattle.f2b_base.specs.declared.jail.Place.{Place}
+use Rattle.f2b_model.specs.Storable.{IsStorablePlace}
 use Rattle.log_set.proofs.FirstLemmas.{found_at, none_found}
 use Rattle.log_set.specs.Logs.{read_of, read_to}
 use Rattle.log_set.specs.Searches.{failures_by, is_named}
@@ -19,3 +21,6 @@ returns-clause-read c =
     c.in_ok-what.ensures.read
     ∙ ap (λ place. read_to (failures_by search_there c.args.now) c.args.log.now.jail c.args.log.now.path c.args.looked.step place) (sym c.in-Some.is)
     ∙ ap (λ o. read_of (option_map (λ (j : JailSearch). failures_by j c.args.now) o) c.args.log.now.jail c.args.log.now.path c.args.looked) (sym found)
+
+pub returns-clause-storable : goal.returns-clause-storable
+returns-clause-storable c = λ placed. c.in_ok-what.ensures.storable (subst (λ (o : Option Place). IfSome o IsStorablePlace) c.in-Some.is placed)

@@ -1,5 +1,6 @@
 use Rattle.std.proofs.Common.{◌≡◌, Err, arith, rules}
 use Rattle.run_law.specs.declared.status.Status.TheVariants.{NoMemory}
+use Rattle.run_law.proofs.CauseLemmas.{steady_placed}
 use Rattle.run_start.proofs.PathLemmas.{walk_shorter}
 use Rattle.run_start.proofs.WalkLemmas.{listed_memory, slice_brought}
 use Rattle.run_start.proofs.naming.name_next.Goals as goal
@@ -37,3 +38,7 @@ returns-in_err-left-clause-err g c =
 pub returns-clause-shorter : goal.returns-clause-shorter
 returns-clause-shorter g c =
     walk_shorter _ c.first_of.result.1.now _ c.in_ok-left.left.now c.args.walk.left.now c.first_of.result.0.now c.in_ok-left.ensures.settled c.first_of.ensures
+
+pub returns-clause-placed : goal.returns-clause-placed
+returns-clause-placed g c =
+    steady_placed c.in_ok-clocked.clocked.engine.journal (g.W.Outside.stands c.bring.new.world) (g.W.Outside.stands c.list.new.world) c.list.ensures.steady c.in_ok-clocked.ensures.placed

@@ -6,7 +6,7 @@ use Rattle.run_law.specs.Patterns.{patterns_of}
 use Rattle.run_law.specs.Start.{to_makes}
 use Rattle.run_law.specs.declared.status.Status.TheVariants.{NoMemory}
 use Rattle.run_law.proofs.CauseLemmas.{steady_on}
-use Rattle.run_steps.proofs.StartLemmas.{start_fails_here, start_fails_on}
+use Rattle.run_steps.proofs.StartLemmas.{leaves_trans, start_fails_here, start_fails_on}
 use Rattle.run_steps.proofs.ToldLemmas.{map_take_more}
 use Rattle.run_trees.proofs.JailLemmas.{jails_left, next_built, next_caused, next_fails}
 use Rattle.run_trees.proofs.filters.build_filters.Goals as goal
@@ -63,5 +63,6 @@ loop-jail-preserved g c =
       value = cc (c.in_ok-push_filter.ensures, c.in_ok-filter.ensures.value, c.loop-jail.invariant.value, more);
       starts = next_built c.args.settings.now i c.jail-item.result less is a b d c.args.plan.now (to_makes c.args.settings.now (patterns_of c.args.settings.now.defs))
           c.loop-jail.invariant.starts c.in_ok-filter.ensures.ok;
+      still = leaves_trans a b d c.loop-jail.invariant.still c.in_ok-filter.ensures.still;
       steady = steady_on a b d c.loop-jail.invariant.steady c.build_filter.ensures.steady;
     }

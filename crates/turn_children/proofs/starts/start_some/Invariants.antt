@@ -1,7 +1,7 @@
 use Rattle.std.proofs.Common.{◌≡◌, ◌≤◌}
 use Rattle.run_law.specs.Stages.{IsSteady, Moves}
 use Rattle.run_law.specs.Turn.{to_starts}
-use Rattle.run_steps.specs.Keeping.{KeepsRunning}
+use Rattle.run_steps.specs.Keeping.{IsPlacedIn, KeepsRunning}
 use Rattle.turn_children.specs.Starting.{checks_then, steps_left}
 use Rattle.turn_children.proofs.starts.start_some.Given as goal
 
@@ -11,6 +11,7 @@ invariant-starts g l = record {
   steady : IsSteady (g.W.Outside.stands l.initial.world) (g.W.Outside.stands l.world);
   checks : checks_then l.running ≤ checks_then l.initial.running;
   left : l.running.left ≡ l.initial.running.left;
+  placed : IsPlacedIn (g.W.Outside.stands l.world).told l.running.clocked;
 }
 
 abbrev pub decreases-starts : goal.decreases-starts

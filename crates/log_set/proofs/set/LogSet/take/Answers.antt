@@ -44,5 +44,8 @@ returns-clause-moves c =
     (moved_at old new c.args.place c.args.look.now c.index_mut.result.now c.take.new.self (kept ∙ c.in_ok-read.ensures.same ∙ c.deref_mut.ensures.value) refl at
     c.in_ok-looked.ensures.jail c.in_ok-looked.ensures.path c.in_ok-looked.ensures.stands)
 
+pub returns-clause-storable : goal.returns-clause-storable
+returns-clause-storable c = c.in_ok-read.ensures.storable c.in_ok-looked.ensures.place
+
 pub returns-clause-input : goal.returns-clause-input
 returns-clause-input c = reads _ _ _ c.in_ok-looked.looked c.in_ok-read.read c.in_ok-read.ensures.read

@@ -1,0 +1,88 @@
+//! Inputs that an engine takes, and the engine that is loaded then.
+
+use crate::bytes::{BANS, OLD_VERSION, TICK};
+use crate::play::{as_shown, disk, view_of};
+use crate::steps::{Step, view_after};
+use std::alloc::Global;
+use std::process::Abort;
+use std::test::Fail;
+
+// Slot 0, the limit of a slot, and inputs.
+struct Row {
+    name: &'static str,
+    slot0: &'static [u8],
+    limit: u64,
+    steps: &'static [Step],
+}
+
+const ROWS: [Row; 5] = [
+    Row {
+        name: "the first inputs of all",
+        slot0: &[],
+        limit: 1000,
+        steps: &[Step::Tick(100), Step::Config(200, 300), Step::Tick(201)],
+    },
+    Row {
+        name: "each changes slots",
+        slot0: &[],
+        limit: 30,
+        steps: &[
+            Step::Tick(100),
+            Step::Tick(200),
+            Step::Tick(300),
+            Step::Tick(400),
+        ],
+    },
+    Row {
+        name: "the second of two changes slots",
+        slot0: &TICK,
+        limit: 31,
+        steps: &[
+            Step::Tick(110),
+            Step::Tick(120),
+            Step::Tick(125),
+            Step::Stop(126),
+        ],
+    },
+    Row {
+        name: "out of version 1",
+        slot0: &OLD_VERSION,
+        limit: 1000,
+        steps: &[Step::Tick(110), Step::Stop(120)],
+    },
+    Row {
+        name: "a ban ends, and is over",
+        slot0: &BANS,
+        limit: 200,
+        steps: &[Step::Tick(1099), Step::Tick(1100), Step::Stop(1101)],
+    },
+];
+
+fn is_kept(rt: &impl Abort, alloc: Global, row: &Row) -> Result<(), Fail> {
+    let mut world = disk(alloc, row.slot0, &[], &[])?;
+    let before = view_after(alloc, &mut world, row.limit, row.steps)?;
+    let again = view_of(alloc, &mut world, row.limit)?;
+    assert_eq!(rt; again, Ok(before), "{}", row.name);
+    Ok(())
+}
+
+fn are_kept(rt: &impl Abort, alloc: Global, rows: &[Row]) -> Result<(), Fail> {
+    for row in rows {
+        is_kept(rt, alloc, row)?;
+    }
+    Ok(())
+}
+
+#[test]
+fn an_engine_that_is_loaded_again_has_the_view_that_it_had(rt: HostRuntime) -> Result<(), Fail> {
+    are_kept(&rt, rt.alloc(), &ROWS)
+}
+
+#[test]
+fn a_ban_that_ended_behind_a_load_is_over(rt: HostRuntime) -> Result<(), Fail> {
+    let mut world = disk(rt.alloc(), &BANS, &[], &[])?;
+    let view = view_after(rt.alloc(), &mut world, 1000, &[Step::Tick(1100)])?;
+    let is = as_shown(&view);
+    assert_eq!(&rt; (is.at, is.failures, is.bans, is.past), (1100, 1, 0, 1));
+    Ok(())
+}

@@ -1,0 +1,6 @@
+use Rattle.run_law.proofs.CauseLemmas.{steady_placed}
+use Rattle.run_steps.proofs.taking.bring_input.Goals as goal
+
+pub returns-clause-placed : goal.returns-clause-placed
+returns-clause-placed g c =
+    steady_placed c.in_ok-clocked.clocked.engine.journal (g.W.Outside.stands c.step.new.world) (g.W.Outside.stands c.say_all.new.world) c.say_all.ensures.steady c.in_ok-clocked.ensures.placed
