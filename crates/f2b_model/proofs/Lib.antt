@@ -59,3 +59,4 @@ pub mod MatchLemmas
 pub mod Utf8Lemmas
 pub mod ShownTextLemmas
 mod LaneRows
+pub mod TakenLemmas

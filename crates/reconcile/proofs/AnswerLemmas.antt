@@ -28,7 +28,7 @@ use Rattle.reconcile.specs.Engines.{EngineNow, IsOnDisk, OpensThrough}
 use Rattle.reconcile.specs.Laws.{IsWithinBounds}
 use Rattle.reconcile.specs.Opens.{WhereTold, Opens, OpensEither}
 use Rattle.reconcile.proofs.EngineLemmas.{rest_opens, written_opens, written_on_disk}
-use Rattle.reconcile.proofs.TakenLemmas.{storable_taken}
+use Rattle.f2b_model.proofs.TakenLemmas.{storable_taken}
 
 -- ---- what came
 

@@ -1,4 +1,3 @@
-pub mod TakenLemmas
 pub mod ViewLemmas
 pub mod EngineLemmas
 pub mod AnswerLemmas

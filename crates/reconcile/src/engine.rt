@@ -1,5 +1,5 @@
 //! `Engine` and its calls.
-ghost use Rattle.std.specs.Prelude.{◌≡◌, IfOk};
+ghost use Rattle.std.specs.Prelude.{◌≡◌, ◌≤◌, IfOk};
 ghost use Rattle.ban_journal.specs.Places.{IsPlaced};
 ghost use Rattle.f2b_model.specs.Storable.{IsStorable, IsStorableInput};
 ghost use Rattle.f2b_model.specs.Views.{spread};
@@ -67,9 +67,10 @@ impl Engine {
         &self.core
     }
 
-    /// Forgets of at most so many addresses what no longer matters, as `Core::sweep` does. The state stays as it is.
+    /// Forgets of at most so many addresses what no longer matters, as `Core::sweep` does, and gives of how many. The state stays as it is.
     pub fn sweep(&mut self, most: u64) -> u64
-        ensures { self.new ≡ self.old }
+        ensures state { self.new ≡ self.old }
+        ensures most { result ≤ most }
     {
         self.core.sweep(most)
     }

@@ -13,7 +13,7 @@ use Rattle.f2b_world.specs.Told.{Standing}
 use Rattle.slot_writes.specs.Entries.{Entry, Written, Spent, entry_of}
 use Rattle.slot_writes.specs.Writes.{Write}
 use Rattle.slot_writes.specs.declared.position.Position.{Position}
-use Rattle.reconcile.proofs.TakenLemmas.{storable_taken}
+use Rattle.f2b_model.proofs.TakenLemmas.{storable_taken}
 use Rattle.run_law.specs.Said.{lines_of}
 use Rattle.run_law.specs.Server.{Server, behind_entry, entry_in, taken, told_lines}
 use Rattle.run_law.specs.Stages.{Brings, BringFails, HasCause, Says, SayFails}

@@ -229,7 +229,7 @@ fn check_failed(job: u32) -> What
 }
 
 /// What happened, and when.
-#[tactic(auto, using(crate::proofs::TakenLemmas::storable_taken))]
+#[tactic(auto, using(f2b_model::proofs::TakenLemmas::storable_taken))]
 fn input(secs: u32, what: What) -> Input
     requires { IsStorableWhat what }
     ensures taken { IsTakenInput result }

@@ -327,7 +327,7 @@ impl Source {
     }
 
     /// The next input for the core.
-    #[tactic(auto, using(crate::proofs::TakenLemmas::storable_taken))]
+    #[tactic(auto, using(f2b_model::proofs::TakenLemmas::storable_taken))]
     pub(crate) fn next_input(&mut self, core: &Core) -> Result<Input, NoMemory>
         ensures taken { IfOk result IsTakenInput }
         ensures storable { IfOk result IsStorableInput }

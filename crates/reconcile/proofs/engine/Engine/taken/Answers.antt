@@ -1,4 +1,4 @@
-use Rattle.reconcile.proofs.TakenLemmas.{storable_taken}
+use Rattle.f2b_model.proofs.TakenLemmas.{storable_taken}
 use Rattle.reconcile.proofs.engine.Engine.taken.Goals as goal
 
 pub take-requires : goal.take-requires
