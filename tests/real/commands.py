@@ -7,7 +7,7 @@ import signal
 import subprocess
 import time
 
-from room import Skipped, as_nobody, failures, same, wait_for, want, write
+from room import Skipped, failures, same, wait_for, want, write
 
 ADDRESS = "192.0.2.7"
 
@@ -323,7 +323,7 @@ def no_process_is_to_be_had(room):
     def limit():
         resource.setrlimit(resource.RLIMIT_NPROC, (0, 0))
 
-    with room.server(preexec_fn=limit, **as_nobody()) as server:
+    with room.server(preexec_fn=limit, **room.as_nobody()) as server:
         ban(room)
         server.wait_said("ERROR [web/note] ban failed: not started", 3)
         server.wait_said("ERROR [web/note] ban given up")

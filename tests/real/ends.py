@@ -106,12 +106,20 @@ def memory_runs_out(room):
 
 def a_signal_ends(room):
     """each signal that ends ends at once, with the lines so far whole; a pipe's does nothing"""
-    for number in [signal.SIGTERM, signal.SIGINT, signal.SIGHUP, signal.SIGQUIT, signal.SIGUSR1, signal.SIGALRM]:
-        with room.server() as server:
+    numbers = [signal.SIGTERM, signal.SIGINT, signal.SIGHUP, signal.SIGQUIT, signal.SIGUSR1, signal.SIGALRM]
+
+    def by_default():
+        # Whoever starts the checks may ignore some, as `nohup` does.
+        for number in numbers:
+            signal.signal(number, signal.SIG_DFL)
+
+    for number in numbers:
+        with room.server(preexec_fn=by_default) as server:
             server.signal(signal.SIGPIPE)
             server.turn()
-            write(room.log, failures("192.0.2.7"), "a")
-            server.wait_said("INFO [web] Found 192.0.2.7")
+            # Each has an address of its own: what one server counts the next one knows.
+            write(room.log, failures(f"192.0.2.{number}"), "a")
+            server.wait_said(f"INFO [web] Found 192.0.2.{number}")
             server.signal(number)
             server.wait_ended(-number)
             same(server.text()[-1:], "\n", "the last byte")
