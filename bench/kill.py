@@ -36,8 +36,14 @@ BANTIME = 3
 # How many failures are written in a second, to all logs together.
 RATE = 10
 
+# So many addresses may be banned and not yet lifted; more failures are written once there are fewer.
+MOST_OWED = 60
+
 # So long a slot may get: so short that slots are changed while servers are killed.
 LIMIT = 24_000
+
+# So many seconds at most a server is at work before it is killed.
+AT_WORK = 2
 
 # How long the last server may take to do all that is left.
 PATIENCE = 600
@@ -47,12 +53,24 @@ JAIL = """\
 enabled = true
 logpath = {place}/{number}.log
 ignoreself = false
-datepattern = Epoch
-failregex = ^ fail from <ADDR>$
+datepattern = {{NONE}}
+failregex = fail from <IP4>$
 findtime = 86400
 maxretry = 1
 bantime = {bantime}
 action = note
+"""
+
+# A jail whose failures ban nobody. They tell how far a server is.
+PROBE = """\
+[probe]
+enabled = true
+logpath = {place}/probe.log
+ignoreself = false
+datepattern = {{NONE}}
+failregex = fail from <IP4>$
+findtime = 2
+maxretry = 100000
 """
 
 # What each command does: it notes its beginning and its end with the number of its server, which ends its PATH, and that of its shell, and
@@ -68,6 +86,7 @@ def configure(place):
     os.makedirs(f"{place}/conf/action.d")
     with open(f"{place}/conf/jail.conf", "w") as file:
         file.writelines(JAIL.format(number=number, place=place, bantime=BANTIME) for number in range(JAILS))
+        file.write(PROBE.format(place=place))
     with open(f"{place}/conf/fail2ban.conf", "w") as file:
         file.write(f"[Definition]\nsocket = {place}/run/fail2ban.sock\ndbpurgeage = 5\n")
     with open(f"{place}/conf/action.d/note.conf", "w") as file:
@@ -106,6 +125,12 @@ def note_of(line):
     return Note(mark, int(server), int(pid), Command(kind, jail, "".join(ip), int(begin)))
 
 
+def fail(place, log, ip):
+    """Writes a failure to a log, in one call."""
+    with open(f"{place}/{log}.log", "ab", buffering=0) as file:
+        file.write(f"fail from {ip}\n".encode())
+
+
 class Load(threading.Thread):
     """Writes failures until it is stopped: new addresses, and now and then one that was banned just before."""
 
@@ -116,9 +141,13 @@ class Load(threading.Thread):
         # Of each jail, the addresses that were written, and when they were written first.
         self.written = [{} for _ in range(JAILS)]
         self.count = 0
+        # How much of the notes was read, and whose bans were lifted by them.
+        self.seen, self.lifted = 0, set()
 
     def run(self):
         while not self.stopped.wait(self.numbers.expovariate(RATE)):
+            if self.is_far_ahead():
+                continue
             number = self.numbers.randrange(JAILS)
             written = self.written[number]
             now = int(time.time())
@@ -128,11 +157,18 @@ class Load(threading.Thread):
             else:
                 self.count += 1
                 ip = f"10.{self.count >> 16}.{self.count >> 8 & 255}.{self.count & 255}"
-                if self.numbers.random() < 0.1:
-                    ip = f"2001:db8::{self.count:x}"
                 written[ip] = now
-            with open(f"{self.place}/{number}.log", "ab", buffering=0) as log:
-                log.write(f"{now} fail from {ip}\n".encode())
+            fail(self.place, number, ip)
+
+    def is_far_ahead(self):
+        """Whether so many commands are owed that they would fill the journal."""
+        path = f"{self.place}/done"
+        for line in lines_of(path, self.seen):
+            self.seen += len(line) + 1
+            note = note_of(line)
+            if note.mark == "end" and note.command.kind == "unban":
+                self.lifted.add(note.command.ip)
+        return self.count - len(self.lifted) >= MOST_OWED
 
 
 class Server:
@@ -180,7 +216,7 @@ class Probes:
         self.notes_from = size(f"{self.place}/done")
 
     def step(self, server):
-        if self.waiting and not server.has_said(f"INFO [jail0] Found {self.waiting[0]}"):
+        if self.waiting and not server.has_said(f"INFO [probe] Found {self.waiting[0]}"):
             return
         if self.waiting:
             self.settled.update(self.ended_before)
@@ -189,8 +225,7 @@ class Probes:
         ended = [note.command for note in notes if note.mark == "end" and note.server == server.number and has_gone(note.pid)]
         self.count += 1
         ip = probe_address(self.count)
-        with open(f"{self.place}/0.log", "ab", buffering=0) as log:
-            log.write(f"{int(time.time())} fail from {ip}\n".encode())
+        fail(self.place, "probe", ip)
         self.waiting = ip, ended
 
 
@@ -198,13 +233,21 @@ def run(program, place, kills, numbers):
     """Kills so many servers, and gives what they said, by their numbers, with which ones ended by themselves, and what was settled."""
     load, probes = Load(place, numbers), Probes(place)
     said, others, settled = [], [], []
-    to_ready = time_to_ready(program, place)
+    to_ready = 1
     load.start()
     for number in range(kills):
         probes.begin()
+        begin = time.monotonic()
         server = Server(program, place, number)
-        # Some are killed while they start, and all others within two seconds.
-        end = time.monotonic() + to_ready * numbers.random() + (numbers.random() * 2 if numbers.random() < 0.75 else 0)
+        if number > 0 and numbers.random() < 0.25:
+            # Some are killed while they start.
+            end = begin + to_ready * numbers.random()
+        else:
+            while not server.has_said("INFO Server ready") and server.process.poll() is None:
+                time.sleep(0.005)
+            to_ready = time.monotonic() - begin
+            # Where the machine is slow a server is longer at work.
+            end = time.monotonic() + max(AT_WORK, to_ready) * numbers.random()
         while time.monotonic() < end and server.process.poll() is None:
             probes.step(server)
             time.sleep(min(0.05, max(0, end - time.monotonic())))
@@ -219,20 +262,8 @@ def run(program, place, kills, numbers):
             print(f"{number + 1} kills ..", file=sys.stderr, flush=True)
     load.stopped.set()
     load.join()
-    said.append(finish(program, place, kills, others))
-    written = load.written
-    written[0] |= dict.fromkeys(map(probe_address, range(1, probes.count + 1)), 0)
-    return said, others, settled, written
-
-
-def time_to_ready(program, place):
-    """How long a start takes here, with no jail."""
-    os.makedirs(f"{place}/empty")
-    with open(f"{place}/empty/fail2ban.conf", "w") as file:
-        file.write(f"[Definition]\nsocket = {place}/empty-run/fail2ban.sock\n")
-    begin = time.monotonic()
-    subprocess.run([program, "--conf", f"{place}/empty", "--turns", "1"], stdout=subprocess.DEVNULL, check=True)
-    return time.monotonic() - begin
+    said.append(finish(program, place, kills, max(10, 5 * to_ready), others))
+    return said, others, settled, load.written
 
 
 def generation(slot):
@@ -243,14 +274,16 @@ def generation(slot):
         return int.from_bytes(file.read(9)[1:], "big")
 
 
-def finish(program, place, number, others):
-    """The last server goes on until no ban is left and nothing is done any more, and is ended."""
+def finish(program, place, number, quiet, others):
+    """The last server goes on until for so many seconds nothing was said or begun, and is ended."""
     server = Server(program, place, number)
-    end, quiet, last = time.monotonic() + PATIENCE, 0, None
-    while quiet < 40 and time.monotonic() < end:
-        time.sleep(0.25)
-        seen = len(lines_of(server.said_in)), len(lines_of(f"{place}/done"))
-        quiet, last = (quiet + 1 if seen == last else 0), seen
+    end = time.monotonic() + PATIENCE
+    last, since = None, time.monotonic()
+    while time.monotonic() < min(end, since + quiet):
+        time.sleep(0.1)
+        seen = size(server.said_in), size(f"{place}/done")
+        if seen != last or not server.has_said("INFO Server ready"):
+            last, since = seen, time.monotonic()
         if server.process.poll() is not None:
             others.append((number, server.process.returncode, lines_of(server.said_in)[-1:]))
             break
@@ -272,7 +305,7 @@ def lines_about(said):
     for lines in said:
         for second, text in lines:
             words = text.split(" ")
-            if len(words) == 4:
+            if len(words) == 4 and words[1] != "[probe]":
                 yield second, words[1][1:-1], words[2], words[3]
 
 

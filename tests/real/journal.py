@@ -333,6 +333,31 @@ def an_idle_start_writes_nothing(room):
     same([jail["maxretry"] for jail in held.inputs[-1][3][1]], [4, 100_000], "maxretry")
 
 
+def another_configuration_lets_in(room):
+    """where another configuration has an action no longer, or no jail at all, a start with it lets in whom it keeps out, and stops it"""
+    notes = {kind: f"echo {kind} <ip> >> {{done}}" for kind in ["start", "stop", "ban", "unban"]}
+    for has_jails in [True, False]:
+        act(room, bantime=600, **{f"action{kind}": text for kind, text in notes.items()})
+        with room.server() as server:
+            write(room.log, failures(*[ADDRESS] * 3), "a")
+            wait_done(room, ["start ", f"ban {ADDRESS}"])
+            wait_for(lambda: not children(server), "the end of all commands")
+            server.turn()
+            kill(server)
+        # Its commands are those that it had.
+        os.remove(room.path("conf/action.d/note.conf"))
+        room.configure(bantime=600)
+        if not has_jails:
+            os.remove(room.path("conf/jail.conf"))
+        with room.server() as server:
+            wait_done(room, ["start ", f"ban {ADDRESS}", f"unban {ADDRESS}", "stop "])
+            wait_for(lambda: not children(server), "the end of all commands")
+            same(server.said(), [READY], "said")
+        for name in ["done", "run/journal.0", "run/journal.1"]:
+            with contextlib.suppress(FileNotFoundError):
+                os.remove(room.path(name))
+
+
 def lines_come_behind_their_input(room):
     """before lines are said and a command is started the input is written, synced, closed, and synced again, and nothing else is between"""
     if not may_trace():
@@ -644,6 +669,7 @@ CHECKS = [
     tries_are_kept,
     logs_are_read_on,
     an_idle_start_writes_nothing,
+    another_configuration_lets_in,
     lines_come_behind_their_input,
     a_journal_of_random_bytes,
     a_journal_is_cut_or_turned,
