@@ -135,8 +135,11 @@ def shells():
     return time.monotonic() - begin
 
 
-def restarted(bench, server):
-    """How long a start takes until the server is ready, and how many commands it runs in the two seconds that follow."""
+def restarted(bench, server, other):
+    """How long a start takes until the server is ready, its memory, and how many commands it runs in the two seconds that follow.
+
+    `other` is an address that is not banned.
+    """
     begin = time.monotonic()
     process = bench.start(server, LANG="again")
     try:
@@ -144,8 +147,8 @@ def restarted(bench, server):
         peak = peak_memory(process)
         time.sleep(2)
         # Whoever is banned is not found any more.
-        bench.fail([0, BANS + 7])
-        bench.said(process, f"INFO [jail0] Found {address(BANS + 7)}")
+        bench.fail([0, other])
+        bench.said(process, f"INFO [jail0] Found {address(other)}")
         with open(f"{bench.place}/said") as said:
             found = said.read()
         if f"Found {address(0)}\n" in found or "Unban" in found:
@@ -153,7 +156,7 @@ def restarted(bench, server):
         again = f"{bench.place}/again"
         with open(again, "a+") as file:
             file.seek(0)
-            run = [line for line in file.read().split() if line != address(BANS + 7)]
+            run = [line for line in file.read().split() if line != address(other)]
         return took, peak, len(run)
     finally:
         process.kill()
@@ -172,15 +175,15 @@ def starts(server, folder):
         time.sleep(2)
         process.kill()
         process.wait()
-        yield "as they came", bench.slots(), *restarted(bench, server)
+        yield "as they came", bench.slots(), *restarted(bench, server, BANS)
         # A limit that leaves no room for one input more has the slots changed.
         process = bench.start(server, "--journal-limit", str(max(bench.slots()) + 40))
-        bench.fail([BANS + 8])
-        bench.said(process, f"NOTICE [jail0] Ban {address(BANS + 8)}")
+        bench.fail([BANS + 1])
+        bench.said(process, f"NOTICE [jail0] Ban {address(BANS + 1)}")
         time.sleep(2)
         process.kill()
         process.wait()
-        yield "as a state", bench.slots(), *restarted(bench, server)
+        yield "as a state", bench.slots(), *restarted(bench, server, BANS + 2)
 
 
 def delays(server, folder):

@@ -340,7 +340,7 @@ def another_configuration_lets_in(room):
         act(room, bantime=600, **{f"action{kind}": text for kind, text in notes.items()})
         with room.server() as server:
             write(room.log, failures(*[ADDRESS] * 3), "a")
-            wait_done(room, ["start ", f"ban {ADDRESS}"])
+            wait_done(room, ["start", f"ban {ADDRESS}"])
             wait_for(lambda: not children(server), "the end of all commands")
             server.turn()
             kill(server)
@@ -350,7 +350,7 @@ def another_configuration_lets_in(room):
         if not has_jails:
             os.remove(room.path("conf/jail.conf"))
         with room.server() as server:
-            wait_done(room, ["start ", f"ban {ADDRESS}", f"unban {ADDRESS}", "stop "])
+            wait_done(room, ["start", f"ban {ADDRESS}", f"unban {ADDRESS}", "stop"])
             wait_for(lambda: not children(server), "the end of all commands")
             same(server.said(), [READY], "said")
         for name in ["done", "run/journal.0", "run/journal.1"]:
