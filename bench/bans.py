@@ -13,7 +13,8 @@ import time
 
 from journal import appends_alone, peak_memory
 
-BANS = 10_000
+# As many as the environment says, to see the script at work.
+BANS = int(os.environ.get("BANS", 10_000))
 
 # So many single failures are timed.
 LINES = 50
@@ -153,11 +154,15 @@ def restarted(bench, server, other):
             found = said.read()
         if f"Found {address(0)}\n" in found or "Unban" in found:
             sys.exit(f"a ban is lost: {found[:500]}")
-        again = f"{bench.place}/again"
-        with open(again, "a+") as file:
-            file.seek(0)
-            run = [line for line in file.read().split() if line != address(other)]
-        return took, peak, len(run)
+        # Whoever is banned now has his command.
+        run = []
+        while address(other) not in run:
+            time.sleep(0.01)
+            if os.path.exists(f"{bench.place}/again"):
+                with open(f"{bench.place}/again") as file:
+                    run = file.read().split()
+        os.remove(f"{bench.place}/again")
+        return took, peak, len(run) - 1
     finally:
         process.kill()
         process.wait()

@@ -353,7 +353,7 @@ def another_configuration_lets_in(room):
             wait_done(room, ["start", f"ban {ADDRESS}", f"unban {ADDRESS}", "stop"])
             wait_for(lambda: not children(server), "the end of all commands")
             same(server.said(), [READY], "said")
-        for name in ["done", "run/journal.0", "run/journal.1"]:
+        for name in ["done", "web.log", "probe.log", "run/journal.0", "run/journal.1"]:
             with contextlib.suppress(FileNotFoundError):
                 os.remove(room.path(name))
 
