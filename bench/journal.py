@@ -20,8 +20,12 @@ import slots  # noqa: E402
 # So long a slot may get where nothing else is said.
 LIMIT = 67_108_864
 
-# How many logs are followed by one jail: each look at one of them that finds a failure is an input.
-FOLDERS, LOGS = 32, 64
+# How many logs are followed by one jail: each look at one of them that finds a failure is an input. FOLDERS=2, say, and LENGTH=1000000, to see the
+# script at work.
+FOLDERS, LOGS = int(os.environ.get("FOLDERS", 32)), 64
+
+# A turn of so many seconds is measured once.
+LONG = 5
 
 JAIL = """\
 [web]
@@ -139,10 +143,12 @@ def appends(server, folder):
                     left -= process.stdout.read(1 << 16).count(b"\n")
                     begin = begin or time.monotonic()
                 took = time.monotonic() - begin
-                # The first turn's lines come while logs are still written.
-                if turn > 0:
+                # The first turn's lines come while logs are still written: it counts where the disk is so slow that it is long.
+                if turn > 0 or took > LONG:
                     rates.append(FOLDERS * LOGS / took)
                     times.append((processor_time(process) - used - idle) / (FOLDERS * LOGS))
+                if took > LONG:
+                    break
             return max(rates), min(times) * 1e6
         finally:
             end(process)
@@ -203,8 +209,11 @@ def change(server, folder, bans, failures, length):
         now = int(time.time())
         found = [(0x0A000000 + number, now, "x" * length) for number in range(bans or failures)]
         piece = slots.read_input(now, 0, "web", bench.log, 64, b"x" * 64, found)
+        # A view takes more bytes than the inputs that it comes of: time passes until the slot is longer than its view will be.
+        passed = b"\x01" + slots.number(now) + b"\x00\x00"
+        data = begun + b"\x01" + piece + passed * (20 * (bans or failures) // len(passed) + 500)
         with open(bench.slot(0), "wb") as file:
-            file.write(begun + b"\x01" + piece + b"\x00")
+            file.write(data + b"\x00")
         took = []
         for words in [(), ("--journal-limit", str(os.path.getsize(bench.slot(0)) + 40))]:
             process, _took, _peak = bench.ready(server, *words)
