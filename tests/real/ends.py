@@ -66,20 +66,29 @@ def configuration_is_refused(room):
 
 
 def who_sits_at_a_terminal_is_helped(room):
-    """where standard error is a terminal, wrong words and a refused configuration have a sentence of help there, and elsewhere none"""
-    room.configure(bantime="soon")
-    for words, wanted in [
-        (["--turns"], "fail2ban-server --help lists the words\r\n"),
-        (["--conf", room.conf], "seconds, or terms as 1d 12h 30m"),
-    ]:
+    """where standard error is a terminal who can mend what ended the server has a sentence of help there, and elsewhere none"""
+
+    def helped(wanted, *words, status):
         controller, terminal = os.openpty()
         try:
-            subprocess.run([*room.starter, room.program, *words], stdout=subprocess.DEVNULL, stderr=terminal, timeout=PATIENCE)
+            ended = subprocess.run([*room.starter, room.program, *words], stdout=subprocess.DEVNULL, stderr=terminal, timeout=PATIENCE, check=False)
             os.close(terminal)
+            same(ended.returncode, status, f"status with {words}")
             same(os.read(controller, 4096).decode()[: len(wanted)], wanted, words)
         finally:
             os.close(controller)
         same(room.run(*words)[2], "", words)
+
+    helped("fail2ban-server --help lists the words\r\n", "--turns", status=2)
+    room.configure(bantime="soon")
+    helped("seconds, or terms as 1d 12h 30m", "--conf", room.conf, status=4)
+    room.configure()
+    helped("--journal-limit BYTES lets it get longer\r\n", "--conf", room.conf, "--journal-limit", "1", status=7)
+    write(room.path("run/journal.1"), b"\xff" * 17)
+    helped("to begin with nothing take journal.0 and journal.1 away", "--conf", room.conf, status=6)
+    os.remove(room.path("run/journal.1"))
+    with room.server():
+        helped("is another server running", "--conf", room.conf, status=5)
 
 
 def pattern_is_refused(room):
