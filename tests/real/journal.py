@@ -65,6 +65,13 @@ def place(room, first, second):
             write(path_of(room, number), data)
 
 
+def start_quickly(room):
+    """Gives the jails patterns that are built quickly, for checks that start many servers."""
+    with open(room.path("conf/jail.conf"), encoding="utf-8") as file:
+        text = file.read()
+    write(room.path("conf/jail.conf"), text.replace("= Epoch", "= {NONE}").replace("^ fail from <ADDR>$", "fail from <IP4>$"))
+
+
 def kill(server):
     """Ends a server as want of power would end its process."""
     server.process.kill()
@@ -74,6 +81,7 @@ def kill(server):
 def a_good_journal(room):
     """Slots that a server left that counted failures and banned; slot 0 counts, and has several inputs."""
     room.configure(bantime=6_000)
+    start_quickly(room)
     with room.server() as server:
         server.turn()
         ban(room)
@@ -378,6 +386,42 @@ def lines_come_behind_their_input(room):
     same(kinds, [*made, *append, "say", "start", *append, "start", *append], "calls")
 
 
+def a_stop_at_each_call(room):
+    """a server that is killed at any of its calls on the disk, or whose sync fails there, leaves all that it said, and at most one thing more"""
+    probe = ["strace", "-o", "/dev/null", "-e", "trace=write", "-e", "inject=write:error=EIO:when=1", "true"]
+    if not may_trace() or subprocess.run(probe, capture_output=True, check=False).returncode:
+        raise Skipped("strace is not there, or may not make calls fail")
+    # The slot that counts may not grow, and the other one is open: so the first input changes slots by all its calls, and two are appended.
+    first = slots.slot(slots.FIRST_VIEW, generation=5, version=1)
+    second = slots.slot(slots.FIRST_VIEW, b"\x64\x00\x00", generation=4)
+    write(room.log, failures(*[ADDRESS] * 3))
+    write(room.path("probe.log"), failures("192.0.2.8"))
+    start_quickly(room)
+    lines = [READY, *[found()] * 3, BAN, "INFO [probe] Found 192.0.2.8"]
+    # How many lines were told of so many inputs.
+    told = [0, 1, 5, 6]
+    words = room.words("--turns", "2")
+    for call, fault, times in [("fdatasync", "error=EIO", 9), ("write", "signal=KILL", 12)]:
+        for number in range(1, times + 1):
+            place(room, first, second)
+            how = ["strace", "-f", "-o", "/dev/null", "-e", f"trace={call}", "-e", f"inject={call}:{fault}:when={number}"]
+            ended = subprocess.run([*how, *words], stdin=subprocess.DEVNULL, stdout=subprocess.PIPE, check=False)
+            said = [line.split(" ", 1)[1] for line in ended.stdout.decode().splitlines()]
+            what = f"{fault} at {call} {number}"
+            if "EIO" in fault:
+                same((ended.returncode, said[-1:]), (5, DISK), what)
+                said.pop()
+            want(ended.returncode, f"{what}: no fault came")
+            same(said, lines[: len(said)], f"{what}: said")
+            held = slots.journal(*both(room))
+            # Version 1 has nothing of this run yet.
+            kept = len(held.inputs) if held.generation == 6 else 0
+            want(told[kept] == len(said) or kept > 0 and told[kept - 1] == len(said), f"{what}: {kept} inputs are kept, and said is {said}")
+            status, text, _errors = room.run("--conf", room.conf, "--turns", "2")
+            again = [line.split(" ", 1)[1] for line in text.splitlines()]
+            same((status, again), (0, [READY, *lines[max(1, told[kept]) :]]), f"{what}: the next server, over {kept} inputs")
+
+
 def may_trace():
     return shutil.which("strace") and not subprocess.run(["strace", "true"], stderr=subprocess.DEVNULL, check=False).returncode
 
@@ -671,6 +715,7 @@ CHECKS = [
     an_idle_start_writes_nothing,
     another_configuration_lets_in,
     lines_come_behind_their_input,
+    a_stop_at_each_call,
     a_journal_of_random_bytes,
     a_journal_is_cut_or_turned,
     two_slots_count,
