@@ -39,12 +39,21 @@ def output_becomes_full(room):
 
 
 def output_is_closed(room):
-    """where standard output is closed at the start the server ends with status 9, and writes into no file"""
+    """where standard output is closed at the start the server ends with status 9, and writes into no file, whatever else is closed"""
     write(room.log, failures("192.0.2.7"))
-    for words in [["--conf", room.conf], ["--version"]]:
-        status, _said, errors = room.run(*words, stdout=None, preexec_fn=lambda: os.close(1))
-        same((status, errors), (9, ""), f"{words}")
+    for closed in [(1,), (0, 1), (1, 2), (0, 1, 2)]:
+
+        def close():
+            for number in closed:
+                os.close(number)
+
+        for words in [["--conf", room.conf], ["--version"]]:
+            status, _said, errors = room.run(*words, stdin=None, stdout=None, preexec_fn=close)
+            same((status, errors), (9, ""), f"{words} without {closed}")
     same(os.path.getsize(room.log), len(failures("192.0.2.7")), "bytes of the log")
+    same(os.path.getsize(room.path("run/journal.lock")), 0, "bytes of the lock")
+    # What was not said is kept all the same, and the journal is one.
+    room.ends(0, ["INFO Server ready", "INFO [web] Found 192.0.2.7"], "--conf", room.conf, "--turns", "2")
 
 
 def reader_has_gone(room):
