@@ -17,6 +17,7 @@ import clock
 import commands
 import configuration
 import ends
+import journal
 import jumps
 import logs
 import output
@@ -33,6 +34,7 @@ CHECKS = [
     *logs.CHECKS,
     *output.CHECKS,
     *commands.CHECKS,
+    *journal.CHECKS,
     *jumps.CHECKS,
     *tester.CHECKS,
 ]
