@@ -1,0 +1,3 @@
+mod CourseLemmas
+mod JoinLemmas
+mod ChainLemmas
