@@ -194,10 +194,15 @@ begun_at slots secs = grown (grown (grown (record { first = slots; events = [] }
 first_obeys : Obeys (begin words (slots_of first)) first.before first.events
 unfolding settings_in own text_in files_of file_of meaning_of read_with all_read merged_in joined known_replaced items_of raw opened with_raw replaced referred percent_piece piece_at pieces_from time_word trimmed_start trimmed_end opened_by item_of content_form form_of is_utf8 chars encode_utf8 brings config_changes parse_slot input what defs_codec list_of view_codec start generation version eight number_digits digits
 first_obeys = (
-    record { holds = tt; allowed = refl; honest = tt; bounded = file_fits },
-    (record { holds = tt; allowed = refl; honest = tt; bounded = tt },
-    (record { holds = tt; allowed = tt; honest = tt; bounded = record { secs = omega arith; word = omega arith } },
-    write_along nine_calls (Sync 0 ∷ []) (run_at first 3) (begun_at no_slots 1000) refl storable)))
+  record { holds = tt; allowed = refl; honest = tt; bounded = file_fits },
+  (
+    record { holds = tt; allowed = refl; honest = tt; bounded = tt },
+    (
+      record { holds = tt; allowed = tt; honest = tt; bounded = record { secs = omega arith; word = omega arith } },
+      write_along nine_calls (Sync 0 ∷ []) (run_at first 3) (begun_at no_slots 1000) refl storable,
+    ),
+  ),
+)
 
 abbrev second : Session
 second = session (left 1) (started_at 2000)
@@ -205,9 +210,12 @@ second = session (left 1) (started_at 2000)
 second_obeys : Obeys (begin words (slots_of second)) second.before second.events
 unfolding settings_in own text_in files_of file_of meaning_of read_with all_read merged_in joined known_replaced items_of raw opened with_raw replaced referred percent_piece piece_at pieces_from time_word trimmed_start trimmed_end opened_by item_of content_form form_of is_utf8 chars encode_utf8 brings config_changes parse_slot opened_at inputs_at input what config_at defs_codec list_of list_at items_at each_at each_list_at view_codec jails_at start generation version eight fixed_at number_digits number_at digits_at digits
 second_obeys = (
-    record { holds = tt; allowed = refl; honest = tt; bounded = file_fits },
-    (record { holds = tt; allowed = refl; honest = tt; bounded = tt },
-    (record { holds = tt; allowed = tt; honest = tt; bounded = record { secs = omega arith; word = omega arith } }, tt)))
+  record { holds = tt; allowed = refl; honest = tt; bounded = file_fits },
+  (
+    record { holds = tt; allowed = refl; honest = tt; bounded = tt },
+    (record { holds = tt; allowed = tt; honest = tt; bounded = record { secs = omega arith; word = omega arith } }, tt),
+  ),
+)
 
 -- the slots
 
