@@ -1,0 +1,4 @@
+mod CourseLemmas
+mod JoinLemmas
+mod ChainLemmas
+mod Rows
