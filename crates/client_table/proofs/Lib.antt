@@ -1,0 +1,5 @@
+pub mod AskLemmas
+pub mod CallLemmas
+pub mod LifeLemmas
+pub mod PlaceLemmas
+pub mod RequestLemmas
