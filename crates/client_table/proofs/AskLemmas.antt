@@ -1,10 +1,12 @@
 -- What a client asks, and the answers to it.
-use Rattle.std.proofs.Common.{◌≡◌, ℕ, ◌≤◌, ◌==◌, Bool, true, false, List, [], ◌∷◌, length, refl, subst, if◌then◌else◌}
+use Rattle.std.proofs.Common.{◌≡◌, ℕ, ◌≤◌, ◌==◌, Bool, true, false, List, [], ◌∷◌, length, refl, sym, subst, if◌then◌else◌}
 use Rattle.client_frames.specs.Comes.{wanted, wanted_of}
 use Rattle.client_table.specs.Clients.{Asks, Client, AnswersRead, AnswersWrite, Nothing, Reads, Writes, asks}
 use Rattle.f2b_world.specs.Told.{IsReceived, IsTaken}
 use Rattle.f2b_world.specs.declared.answer.GateRead.{GateRead}
+use Rattle.f2b_world.specs.declared.answer.GateRead.TheVariants as read
 use Rattle.f2b_world.specs.declared.answer.GateWrite.{GateWrite}
+use Rattle.f2b_world.specs.declared.answer.GateWrite.TheVariants as write
 
 -- an answer to what was asked, as a caller has it
 pub read_answered : (asked : Asks) (most : ℕ) (answer : GateRead) → Reads most ≡ asked → IsReceived most answer → AnswersRead asked answer
@@ -17,12 +19,12 @@ write_answered asked bytes answer is fits = subst (λ (a : Asks). AnswersWrite a
 
 pub record IsRead (unwritten : List ℕ) (refused : Bool) : Type 0 where
   pub none : unwritten ≡ []
-  pub open : refused ≡ false
+  pub unrefused : refused ≡ false
 
 reads_when : (unwritten came : List ℕ) (refused : Bool) (answer : GateRead)
     → AnswersRead (if length unwritten == 0 then (if refused then Nothing else Reads (wanted_of came refused)) else Writes unwritten) answer → IsRead unwritten refused
 reads_when [] came true answer fits = absurd fits
-reads_when [] came false answer fits = record { none = refl; open = refl }
+reads_when [] came false answer fits = record { none = refl; unrefused = refl }
 reads_when (byte ∷ bytes) came refused answer fits = absurd fits
 
 pub is_read : (c : Client) (answer : GateRead) → AnswersRead (asks c) answer → IsRead c.unwritten c.hearing.refused
@@ -48,3 +50,15 @@ taken_when (byte ∷ bytes) came refused answer fits = fits
 -- an answer to a client that is written to is one to a write of all that is unwritten
 pub is_taken : (c : Client) (answer : GateWrite) → AnswersWrite (asks c) answer → IsTaken (length c.unwritten) answer
 is_taken c answer fits = taken_when c.unwritten c.hearing.came c.hearing.refused answer fits
+
+-- bytes that came are some, and no more than are wanted
+pub bytes_received : (c : Client) (answer : GateRead) (bytes piece : List ℕ) → AnswersRead (asks c) answer → answer ≡ read.Bytes bytes → piece ≡ bytes
+    → (1 ≤ length piece) × (length piece ≤ wanted c.hearing)
+bytes_received c answer bytes piece fits is same =
+    let received : IsReceived (wanted c.hearing) (read.Bytes bytes) = subst (λ (a : GateRead). IsReceived (wanted c.hearing) a) is (is_received c answer fits) in
+    subst (λ (some : List ℕ). (1 ≤ length some) × (length some ≤ wanted c.hearing)) (sym same) received
+
+-- bytes that were taken are no more than are unwritten
+pub count_taken : (c : Client) (answer : GateWrite) (count : ℕ) → AnswersWrite (asks c) answer → answer ≡ write.Took count → count ≤ length c.unwritten
+count_taken c answer count fits is =
+    let taken : IsTaken (length c.unwritten) (write.Took count) = subst (λ (a : GateWrite). IsTaken (length c.unwritten) a) is (is_taken c answer fits) in taken.1

@@ -1,5 +1,5 @@
 -- The life of a client, whatever the cuts.
-use Rattle.std.proofs.Common.{◌≡◌, ℕ, zero, suc, ◌+◌, ◌≤◌, Bool, true, false, List, [], ◌∷◌, ◌++◌, length, take, drop, Option, Some, None, refl, sym, ap, ap₂, ◌∙◌, subst, append_assoc, append-nil, arith, All}
+use Rattle.std.proofs.Common.{◌≡◌, ℕ, zero, suc, ◌+◌, ◌≤◌, Bool, true, false, List, [], ◌∷◌, ◌++◌, length, take, drop, Option, Some, None, refl, sym, ap, ap₂, ◌∙◌, subst, append_assoc, append-nil, arith, lit<, All}
 use Rattle.std.specs.List.{flat_map}
 use Rattle.std.proofs.lemmas.Grind.{flat_map-append}
 use Rattle.std.proofs.lemmas.List.{length-append, take-append-drop}
@@ -78,7 +78,7 @@ pub record Behind (front : List ℕ) (hearing : Hearing) : Type 0 where
   pub rest : IsRest hearing.refused front
 
 nothing_came : IsPart most_request []
-nothing_came = part_none most_request [] (said_none [] (let few : 0 + 1 ≤ 4 = omega arith in few))
+nothing_came = part_none most_request [] (said_none [] (lit< tt))
 
 abbrev Handed : List Call → Client → List ℕ → Type 0
 Handed calls c front = AreRequests (front ++ came_in calls) (requests_in calls c) (after_calls calls c).hearing.refused
@@ -96,11 +96,11 @@ more_handed : (h : Heard) (came bytes : List ℕ) (calls : List Call) (next : Cl
     → HandsOut calls next → AreAsked calls next
     → AreRequests (came ++ (bytes ++ came_in calls)) (requests_of h ++ requests_in calls next) (after_calls calls next).hearing.refused
 more_handed Part came bytes calls next is after hands asked =
-    let behind : Behind (came ++ bytes) next.hearing = subst (λ (h : Hearing). Behind (came ++ bytes) h) (sym after) (record { came = λ open. refl; rest = is }) in
+    let behind : Behind (came ++ bytes) next.hearing = subst (λ (h : Hearing). Behind (came ++ bytes) h) (sym after) (record { came = λ unrefused. refl; rest = is }) in
     subst (λ (t : List ℕ). AreRequests t (requests_in calls next) (after_calls calls next).hearing.refused) (append_assoc came bytes (came_in calls))
     (hands (came ++ bytes) behind asked)
 more_handed (Words words) came bytes calls next is after hands asked =
-    let behind : Behind [] next.hearing = subst (λ (h : Hearing). Behind [] h) (sym after) (record { came = λ open. refl; rest = nothing_came }) in
+    let behind : Behind [] next.hearing = subst (λ (h : Hearing). Behind [] h) (sym after) (record { came = λ unrefused. refl; rest = nothing_came }) in
     let others = hands [] behind asked in
     let sent : IsSent words = record { fit = is.fit; bounds = is.bounds } in
     record {
@@ -112,17 +112,17 @@ more_handed (Words words) came bytes calls next is after hands asked =
     }
 more_handed (TooLong n) came bytes calls next is after hands asked =
     let refused : IsRefused (came ++ bytes) = record { what = TooLong n; fault = tt; is = is } in
-    let behind : Behind (came ++ bytes) next.hearing = subst (λ (h : Hearing). Behind (came ++ bytes) h) (sym after) (record { came = λ open. absurd (let e : true ≡ false = open in cc); rest = refused }) in
+    let behind : Behind (came ++ bytes) next.hearing = subst (λ (h : Hearing). Behind (came ++ bytes) h) (sym after) (record { came = λ unrefused. absurd (let e : true ≡ false = unrefused in cc); rest = refused }) in
     subst (λ (t : List ℕ). AreRequests t (requests_in calls next) (after_calls calls next).hearing.refused) (append_assoc came bytes (came_in calls))
     (hands (came ++ bytes) behind asked)
 more_handed Empty came bytes calls next is after hands asked =
     let refused : IsRefused (came ++ bytes) = record { what = Empty; fault = tt; is = is } in
-    let behind : Behind (came ++ bytes) next.hearing = subst (λ (h : Hearing). Behind (came ++ bytes) h) (sym after) (record { came = λ open. absurd (let e : true ≡ false = open in cc); rest = refused }) in
+    let behind : Behind (came ++ bytes) next.hearing = subst (λ (h : Hearing). Behind (came ++ bytes) h) (sym after) (record { came = λ unrefused. absurd (let e : true ≡ false = unrefused in cc); rest = refused }) in
     subst (λ (t : List ℕ). AreRequests t (requests_in calls next) (after_calls calls next).hearing.refused) (append_assoc came bytes (came_in calls))
     (hands (came ++ bytes) behind asked)
 more_handed (BadWord at) came bytes calls next is after hands asked =
     let refused : IsRefused (came ++ bytes) = record { what = BadWord at; fault = tt; is = is } in
-    let behind : Behind (came ++ bytes) next.hearing = subst (λ (h : Hearing). Behind (came ++ bytes) h) (sym after) (record { came = λ open. absurd (let e : true ≡ false = open in cc); rest = refused }) in
+    let behind : Behind (came ++ bytes) next.hearing = subst (λ (h : Hearing). Behind (came ++ bytes) h) (sym after) (record { came = λ unrefused. absurd (let e : true ≡ false = unrefused in cc); rest = refused }) in
     subst (λ (t : List ℕ). AreRequests t (requests_in calls next) (after_calls calls next).hearing.refused) (append_assoc came bytes (came_in calls))
     (hands (came ++ bytes) behind asked)
 
@@ -132,10 +132,10 @@ handed_from (WasWritten now answer ∷ calls) c front behind asked =
     same_handed calls c (after_write now answer c) front (hearing_written now answer c) (handed_from calls (after_write now answer c)) asked.1 behind
 handed_from (WasRead now (read.Bytes bytes) replied ∷ calls) c front behind asked =
     let next : Client = after_call (WasRead now (read.Bytes bytes) replied) c in
-    let open : c.hearing.refused ≡ false = (is_read c (read.Bytes bytes) asked.0.0).open in
+    let unrefused : c.hearing.refused ≡ false = (is_read c (read.Bytes bytes) asked.0.0).unrefused in
     let h : Heard = heard (c.hearing.came ++ bytes) in
     let after : next.hearing ≡ hearing_after (c.hearing.came ++ bytes) h = hearing_replied replied (after_read now (read.Bytes bytes) c) in
-    subst (λ (t : List ℕ). AreRequests (t ++ (bytes ++ came_in calls)) (requests_of h ++ requests_in calls next) (after_calls calls next).hearing.refused) (behind.came open)
+    subst (λ (t : List ℕ). AreRequests (t ++ (bytes ++ came_in calls)) (requests_of h ++ requests_in calls next) (after_calls calls next).hearing.refused) (behind.came unrefused)
     (more_handed h c.hearing.came bytes calls next asked.0.1 after (handed_from calls next) asked.1)
 handed_from (WasRead now read.Quiet replied ∷ calls) c front behind asked =
     let next : Client = after_call (WasRead now read.Quiet replied) c in
@@ -173,11 +173,11 @@ count_heard (BadWord at) came (Some a) now answer fits = refl
 
 count_read : (now : ℕ) (answer : GateRead) (replied : Option Answer) (c : Client) → c.hearing.refused ≡ false → IsRepliedTo (heard_in answer c) replied
     → length (replies_by (WasRead now answer replied)) ≡ length (requests_of (heard_in answer c)) + count_of (after_read now answer c).hearing.refused
-count_read now (read.Bytes bytes) replied c open fits = count_heard (heard (c.hearing.came ++ bytes)) (c.hearing.came ++ bytes) replied now (read.Bytes bytes) fits
-count_read now read.Quiet replied c open fits = count_heard Part c.hearing.came replied now read.Quiet fits ∙ ap count_of (sym open)
-count_read now read.End replied c open fits = count_heard Part c.hearing.came replied now read.End fits ∙ ap count_of (sym open)
-count_read now read.Failed replied c open fits = count_heard Part c.hearing.came replied now read.Failed fits ∙ ap count_of (sym open)
-count_read now read.NoMemory replied c open fits = count_heard Part c.hearing.came replied now read.NoMemory fits ∙ ap count_of (sym open)
+count_read now (read.Bytes bytes) replied c unrefused fits = count_heard (heard (c.hearing.came ++ bytes)) (c.hearing.came ++ bytes) replied now (read.Bytes bytes) fits
+count_read now read.Quiet replied c unrefused fits = count_heard Part c.hearing.came replied now read.Quiet fits ∙ ap (λ (b : Bool). 0 + count_of b) (sym unrefused)
+count_read now read.End replied c unrefused fits = count_heard Part c.hearing.came replied now read.End fits ∙ ap (λ (b : Bool). 0 + count_of b) (sym unrefused)
+count_read now read.Failed replied c unrefused fits = count_heard Part c.hearing.came replied now read.Failed fits ∙ ap (λ (b : Bool). 0 + count_of b) (sym unrefused)
+count_read now read.NoMemory replied c unrefused fits = count_heard Part c.hearing.came replied now read.NoMemory fits ∙ ap (λ (b : Bool). 0 + count_of b) (sym unrefused)
 
 count_from : (calls : List Call) (c : Client) → AreAsked calls c
     → count_of c.hearing.refused + length (replies_in calls) ≡ length (requests_in calls c) + count_of (after_calls calls c).hearing.refused
@@ -188,9 +188,9 @@ count_from (WasWritten now answer ∷ calls) c asked =
     ap (λ (n : ℕ). n + length (replies_in calls)) (sym same) ∙ count_from calls next asked.1
 count_from (WasRead now answer replied ∷ calls) c asked =
     let next : Client = after_call (WasRead now answer replied) c in
-    let open : c.hearing.refused ≡ false = (is_read c answer asked.0.0).open in
-    let before : count_of c.hearing.refused ≡ 0 = ap count_of open in
-    let here = count_read now answer replied c open asked.0.2 in
+    let unrefused : c.hearing.refused ≡ false = (is_read c answer asked.0.0).unrefused in
+    let before : count_of c.hearing.refused ≡ 0 = ap count_of unrefused in
+    let here = count_read now answer replied c unrefused asked.0.2 in
     let same : count_of next.hearing.refused ≡ count_of (after_read now answer c).hearing.refused =
     ap (λ (h : Hearing). count_of h.refused) (hearing_replied replied (after_read now answer c)) in
     let rest = count_from calls next asked.1 in
@@ -207,21 +207,21 @@ asked_before (first ∷ calls) call c asked =
 turn_from : (calls : List Call) (at : ℕ) (answer : GateRead) (replied : Option Answer) (c : Client) → c.unwritten ≡ [] → c.hearing.refused ≡ false
     → AreAsked (calls ++ WasRead at answer replied ∷ []) c
     → (taken_in calls c ≡ flat_map reply (replies_in calls)) × (length (replies_in calls) ≡ length (requests_in calls c))
-turn_from calls at answer replied c none open asked =
+turn_from calls at answer replied c none unrefused asked =
     let before = asked_before calls (WasRead at answer replied) c asked in
     let last : Client = after_calls calls c in
     let reads = is_read last answer before.1.0 in
     let written = written_from calls c before.0 in
     let count = count_from calls c before.0 in
-    let first : count_of c.hearing.refused ≡ 0 = ap count_of open in
-    let end : count_of last.hearing.refused ≡ 0 = ap count_of reads.open in
+    let first : count_of c.hearing.refused ≡ 0 = ap count_of unrefused in
+    let end : count_of last.hearing.refused ≡ 0 = ap count_of reads.unrefused in
     (sym (append-nil (taken_in calls c)) ∙ ap (λ (t : List ℕ). taken_in calls c ++ t) (sym reads.none) ∙ sym written ∙ ap (λ (t : List ℕ). t ++ flat_map reply (replies_in calls)) none,
     omega (arith, count, first, end))
 
 pub life_law : LifeLaw
 life_law = record {
   written = λ conn now calls asked. written_from calls (accepted conn now) asked;
-  handed = λ conn now calls asked. handed_from calls (accepted conn now) [] (record { came = λ open. refl; rest = nothing_came }) asked;
+  handed = λ conn now calls asked. handed_from calls (accepted conn now) [] (record { came = λ unrefused. refl; rest = nothing_came }) asked;
   one = one_list;
   in_turn = λ conn now calls at answer replied asked. turn_from calls at answer replied (accepted conn now) refl refl asked;
 }
