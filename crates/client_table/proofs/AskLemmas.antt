@@ -1,5 +1,6 @@
 -- What a client asks, and the answers to it.
-use Rattle.std.proofs.Common.{◌≡◌, ℕ, ◌≤◌, ◌==◌, Bool, true, false, List, [], ◌∷◌, length, refl, sym, subst, if◌then◌else◌}
+use Rattle.std.proofs.Common.{◌≡◌, ℕ, ◌≤◌, ◌==◌, Bool, true, false, List, [], ◌∷◌, length, refl, sym, subst, arith, if◌then◌else◌}
+use Rattle.std.proofs.lemmas.Bool.{ne_eqb}
 use Rattle.client_frames.specs.Comes.{wanted, wanted_of}
 use Rattle.client_table.specs.Clients.{Asks, Client, AnswersRead, AnswersWrite, Nothing, Reads, Writes, asks}
 use Rattle.f2b_world.specs.Told.{IsReceived, IsTaken}
@@ -15,6 +16,10 @@ read_answered asked most answer is fits = subst (λ (a : Asks). AnswersRead a an
 pub write_answered : (asked : Asks) (bytes : List ℕ) (answer : GateWrite) → Writes bytes ≡ asked → IsTaken (length bytes) answer → AnswersWrite asked answer
 write_answered asked bytes answer is fits = subst (λ (a : Asks). AnswersWrite a answer) is fits
 
+-- bytes of which there is one are not none
+pub not_none : (byte : ℕ) (bytes : List ℕ) → (length (byte ∷ bytes) == 0) ≡ false
+not_none byte bytes = ne_eqb (length (byte ∷ bytes)) 0 (λ e. omega arith)
+
 -- ---- what a client that is read is like
 
 pub record IsRead (unwritten : List ℕ) (refused : Bool) : Type 0 where
@@ -25,7 +30,7 @@ reads_when : (unwritten came : List ℕ) (refused : Bool) (answer : GateRead)
     → AnswersRead (if length unwritten == 0 then (if refused then Nothing else Reads (wanted_of came refused)) else Writes unwritten) answer → IsRead unwritten refused
 reads_when [] came true answer fits = absurd fits
 reads_when [] came false answer fits = record { none = refl; unrefused = refl }
-reads_when (byte ∷ bytes) came refused answer fits = absurd fits
+reads_when (byte ∷ bytes) came refused answer fits = absurd (rw (not_none byte bytes) at fits)
 
 pub is_read : (c : Client) (answer : GateRead) → AnswersRead (asks c) answer → IsRead c.unwritten c.hearing.refused
 is_read c answer fits = reads_when c.unwritten c.hearing.came c.hearing.refused answer fits
@@ -35,7 +40,7 @@ received_when : (unwritten came : List ℕ) (refused : Bool) (answer : GateRead)
     → IsReceived (wanted_of came refused) answer
 received_when [] came true answer fits = absurd fits
 received_when [] came false answer fits = fits
-received_when (byte ∷ bytes) came refused answer fits = absurd fits
+received_when (byte ∷ bytes) came refused answer fits = absurd (rw (not_none byte bytes) at fits)
 
 -- an answer to a client that is read is one to a read of what it wants
 pub is_received : (c : Client) (answer : GateRead) → AnswersRead (asks c) answer → IsReceived (wanted c.hearing) answer
@@ -45,7 +50,7 @@ taken_when : (unwritten came : List ℕ) (refused : Bool) (answer : GateWrite)
     → AnswersWrite (if length unwritten == 0 then (if refused then Nothing else Reads (wanted_of came refused)) else Writes unwritten) answer → IsTaken (length unwritten) answer
 taken_when [] came true answer fits = absurd fits
 taken_when [] came false answer fits = absurd fits
-taken_when (byte ∷ bytes) came refused answer fits = fits
+taken_when (byte ∷ bytes) came refused answer fits = rw (not_none byte bytes) at fits
 
 -- an answer to a client that is written to is one to a write of all that is unwritten
 pub is_taken : (c : Client) (answer : GateWrite) → AnswersWrite (asks c) answer → IsTaken (length c.unwritten) answer

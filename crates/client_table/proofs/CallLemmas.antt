@@ -2,7 +2,7 @@
 use Rattle.std.proofs.Common.{◌≡◌, ℕ, suc, zero, ◌==◌, Bool, true, false, List, [], ◌∷◌, length, refl, ◌∙◌, if◌then◌else◌}
 use Rattle.client_frames.specs.Comes.{wanted_of}
 use Rattle.client_table.specs.Clients.{Asks, Client, AnswersRead, Nothing, Reads, Writes, after_read, asks, asks_at, changed_at, unwritten_at}
-use Rattle.client_table.proofs.AskLemmas.{is_read, read_answered}
+use Rattle.client_table.proofs.AskLemmas.{is_read, not_none, read_answered}
 use Rattle.f2b_world.specs.declared.answer.GateRead.{GateRead}
 use Rattle.f2b_world.specs.declared.answer.GateRead.TheVariants as read
 
@@ -33,7 +33,7 @@ reads_unwritten most place cs is = unread read.Quiet place cs (read_answered (as
 none_when : (unwritten came : List ℕ) (refused : Bool)
     → Nothing ≡ (if length unwritten == 0 then (if refused then Nothing else Reads (wanted_of came refused)) else Writes unwritten) → unwritten ≡ []
 none_when [] came refused is = refl
-none_when (byte ∷ bytes) came refused is = absurd (let e : Nothing ≡ Writes (byte ∷ bytes) = is in cc)
+none_when (byte ∷ bytes) came refused is = absurd (let e : Nothing ≡ Writes (byte ∷ bytes) = rw (not_none byte bytes) at is in cc)
 
 pub nothing_unwritten : (place : ℕ) (cs : List Client) → Nothing ≡ asks_at place cs → unwritten_at place cs ≡ []
 nothing_unwritten place [] is = refl

@@ -2,4 +2,5 @@ pub mod AskLemmas
 pub mod CallLemmas
 pub mod LifeLemmas
 pub mod PlaceLemmas
+pub mod ReplyLemmas
 pub mod RequestLemmas

@@ -194,8 +194,15 @@ count_from (WasRead now answer replied ∷ calls) c asked =
     let same : count_of next.hearing.refused ≡ count_of (after_read now answer c).hearing.refused =
     ap (λ (h : Hearing). count_of h.refused) (hearing_replied replied (after_read now answer c)) in
     let rest = count_from calls next asked.1 in
-    omega (arith, before, here, same, rest, length-append (replies_by (WasRead now answer replied)) (replies_in calls),
-    length-append (requests_of (heard_in answer c)) (requests_in calls next))
+    omega (
+      arith,
+      before,
+      here,
+      same,
+      rest,
+      length-append (replies_by (WasRead now answer replied)) (replies_in calls),
+      length-append (requests_of (heard_in answer c)) (requests_in calls next),
+    )
 
 -- ---- what holds where it is read
 
@@ -214,9 +221,10 @@ turn_from calls at answer replied c none unrefused asked =
     let written = written_from calls c before.0 in
     let count = count_from calls c before.0 in
     let first : count_of c.hearing.refused ≡ 0 = ap count_of unrefused in
-    let end : count_of last.hearing.refused ≡ 0 = ap count_of reads.unrefused in
-    (sym (append-nil (taken_in calls c)) ∙ ap (λ (t : List ℕ). taken_in calls c ++ t) (sym reads.none) ∙ sym written ∙ ap (λ (t : List ℕ). t ++ flat_map reply (replies_in calls)) none,
-    omega (arith, count, first, end))
+    let end : count_of last.hearing.refused ≡ 0 = ap count_of reads.unrefused in (
+      sym (append-nil (taken_in calls c)) ∙ ap (λ (t : List ℕ). taken_in calls c ++ t) (sym reads.none) ∙ sym written ∙ ap (λ (t : List ℕ). t ++ flat_map reply (replies_in calls)) none,
+      omega (arith, count, first, end),
+    )
 
 pub life_law : LifeLaw
 life_law = record {

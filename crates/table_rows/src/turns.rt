@@ -51,16 +51,37 @@ fn no_read_before_the_reply_is_written(rt: HostRuntime) -> Result<(), Fail> {
     let mut clients = ClientTable::new(rt.alloc());
     clients.accept(7, 100)?;
     let pong = answer_of(rt.alloc(), true, "pong")?;
-    assert_eq!(rt; come(rt.alloc(), &mut clients, 0, PING, 100)?, (Came::Nothing, 4));
-    assert_eq!(rt; come(rt.alloc(), &mut clients, 0, &PING[4..], 100)?, (Came::Words(1), 6));
+    assert_eq!(rt;
+        come(rt.alloc(), &mut clients, 0, PING, 100)?,
+        (Came::Nothing, 4)
+    );
+    assert_eq!(rt;
+        come(rt.alloc(), &mut clients, 0, &PING[4..], 100)?,
+        (Came::Words(1), 6)
+    );
     assert!(rt; reply(&mut clients, 0, &pong)?);
     assert!(rt; clients.has_unwritten());
-    assert_eq!(rt; come(rt.alloc(), &mut clients, 0, PING, 100)?, (Came::NotAsked, 0));
-    assert_eq!(rt; take(rt.alloc(), &mut clients, 0, 4, 100)?.as_slice(), &PONG[..4]);
-    assert_eq!(rt; come(rt.alloc(), &mut clients, 0, PING, 100)?, (Came::NotAsked, 0));
-    assert_eq!(rt; take(rt.alloc(), &mut clients, 0, 40, 100)?.as_slice(), &PONG[4..]);
+    assert_eq!(rt;
+        come(rt.alloc(), &mut clients, 0, PING, 100)?,
+        (Came::NotAsked, 0)
+    );
+    assert_eq!(rt;
+        take(rt.alloc(), &mut clients, 0, 4, 100)?.as_slice(),
+        &PONG[..4]
+    );
+    assert_eq!(rt;
+        come(rt.alloc(), &mut clients, 0, PING, 100)?,
+        (Came::NotAsked, 0)
+    );
+    assert_eq!(rt;
+        take(rt.alloc(), &mut clients, 0, 40, 100)?.as_slice(),
+        &PONG[4..]
+    );
     assert!(rt; !clients.has_unwritten());
-    assert_eq!(rt; come(rt.alloc(), &mut clients, 0, PING, 100)?, (Came::Nothing, 4));
+    assert_eq!(rt;
+        come(rt.alloc(), &mut clients, 0, PING, 100)?,
+        (Came::Nothing, 4)
+    );
     Ok(())
 }
 
@@ -73,7 +94,10 @@ fn each_its_own_reply(rt: HostRuntime) -> Result<(), Fail> {
     }
     let no = answer_of(rt.alloc(), false, "no")?;
     let _ = come(rt.alloc(), &mut clients, 1, PING, 100)?;
-    assert_eq!(rt; come(rt.alloc(), &mut clients, 1, &PING[4..], 100)?, (Came::Words(1), 6));
+    assert_eq!(rt;
+        come(rt.alloc(), &mut clients, 1, &PING[4..], 100)?,
+        (Came::Words(1), 6)
+    );
     assert!(rt; reply(&mut clients, 1, &no)?);
     assert_eq!(rt; take(rt.alloc(), &mut clients, 0, 40, 100)?.len(), 0);
     assert_eq!(rt; take(rt.alloc(), &mut clients, 2, 40, 100)?.len(), 0);
@@ -94,7 +118,10 @@ fn a_refused_frame(rt: HostRuntime) -> Result<(), Fail> {
     assert!(rt; clients.len() == 1 && !clients.is_over(0, 100));
     assert_eq!(rt; take(rt.alloc(), &mut clients, 0, 18, 100)?.len(), 18);
     assert!(rt; clients.len() == 1 && !clients.is_over(0, 100));
-    assert_eq!(rt; take(rt.alloc(), &mut clients, 0, 18, 100)?.as_slice(), b"g".as_slice());
+    assert_eq!(rt;
+        take(rt.alloc(), &mut clients, 0, 18, 100)?.as_slice(),
+        b"g".as_slice()
+    );
     assert!(rt; clients.len() == 1 && clients.is_over(0, 100));
     assert!(rt; clients.len() == 1 && matches!(clients.next(0), Next::Nothing));
     Ok(())
