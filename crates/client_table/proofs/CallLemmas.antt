@@ -1,7 +1,7 @@
 -- What a caller knows of the client at a place around a call on it.
-use Rattle.std.proofs.Common.{◌≡◌, ℕ, suc, zero, ◌==◌, Bool, true, false, List, [], ◌∷◌, length, refl, ◌∙◌, if◌then◌else◌}
+use Rattle.std.proofs.Common.{◌≡◌, ℕ, suc, zero, ◌==◌, Bool, List, [], ◌∷◌, length, refl, ◌∙◌, if◌then◌else◌}
 use Rattle.client_frames.specs.Comes.{wanted_of}
-use Rattle.client_table.specs.Clients.{Asks, Client, AnswersRead, Nothing, Reads, Writes, after_read, asks, asks_at, changed_at, unwritten_at}
+use Rattle.client_table.specs.Clients.{Client, AnswersRead, Nothing, Reads, Writes, after_read, asks_at, changed_at, unwritten_at}
 use Rattle.client_table.proofs.AskLemmas.{is_read, not_none, read_answered}
 use Rattle.f2b_world.specs.declared.answer.GateRead.{GateRead}
 use Rattle.f2b_world.specs.declared.answer.GateRead.TheVariants as read

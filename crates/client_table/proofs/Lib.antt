@@ -4,3 +4,4 @@ pub mod LifeLemmas
 pub mod PlaceLemmas
 pub mod ReplyLemmas
 pub mod RequestLemmas
+mod Rows

@@ -1,16 +1,16 @@
 -- The life of a client, whatever the cuts.
-use Rattle.std.proofs.Common.{◌≡◌, ℕ, zero, suc, ◌+◌, ◌≤◌, Bool, true, false, List, [], ◌∷◌, ◌++◌, length, take, drop, Option, Some, None, refl, sym, ap, ap₂, ◌∙◌, subst, append_assoc, append-nil, arith, lit<, All}
+use Rattle.std.proofs.Common.{◌≡◌, ℕ, ◌+◌, Bool, true, false, List, [], ◌∷◌, ◌++◌, length, Option, Some, None, refl, sym, ap, ap₂, ◌∙◌, subst, append_assoc, append-nil, arith, lit<}
 use Rattle.std.specs.List.{flat_map}
 use Rattle.std.proofs.lemmas.Grind.{flat_map-append}
 use Rattle.std.proofs.lemmas.List.{length-append, take-append-drop}
 use Rattle.std.proofs.lemmas.List.Elements.{All-cons, All-nil}
-use Rattle.client_frames.specs.Comes.{Hearing, Heard, Part, Words, TooLong, Empty, BadWord, Is, IsPart, heard, hearing_after, said_length}
+use Rattle.client_frames.specs.Comes.{Hearing, Heard, Part, Words, TooLong, Empty, BadWord, Is, IsPart, heard, hearing_after}
 use Rattle.client_frames.specs.Frames.{most_request, reply, request}
 use Rattle.client_frames.specs.Laws.{IsSent, requests_of}
 use Rattle.client_frames.specs.declared.answer.Answer.{Answer}
 use Rattle.client_frames.proofs.FrameLemmas.{part_none, said_none}
-use Rattle.client_table.specs.Clients.{Client, accepted, after_read, after_write, answered, heard_in}
-use Rattle.client_table.specs.Lives.{AreAsked, AreRequests, Call, IsAsked, IsFault, IsRefused, IsRepliedTo, IsRest, LifeLaw, WasRead, WasWritten, after_call, after_calls, came_by, came_in, replied_to, replies_by, replies_in, requests_by, requests_in, taken_by, taken_in}
+use Rattle.client_table.specs.Clients.{Client, accepted, after_read, after_write, heard_in}
+use Rattle.client_table.specs.Lives.{AreAsked, AreRequests, Call, IsAsked, IsRefused, IsRepliedTo, IsRest, LifeLaw, WasRead, WasWritten, after_call, after_calls, came_in, replied_to, replies_by, replies_in, requests_in, taken_by, taken_in}
 use Rattle.client_table.proofs.AskLemmas.{is_read}
 use Rattle.client_table.proofs.RequestLemmas.{one_list}
 use Rattle.f2b_world.specs.declared.answer.GateRead.{GateRead}

@@ -1,5 +1,5 @@
 -- The client at a place among the others.
-use Rattle.std.proofs.Common.{◌≡◌, ℕ, suc, zero, ◌<◌, List, [], ◌∷◌, length, get_or, Option, Some, None, refl, sym, ap, ap₂, ◌∙◌, subst, IfSome}
+use Rattle.std.proofs.Common.{◌≡◌, ℕ, suc, zero, ◌<◌, List, [], ◌∷◌, length, get_or, Option, Some, None, refl, sym, ap, ◌∙◌, subst, IfSome}
 use Rattle.std.specs.Prelude.{slice_get, slice_set}
 use Rattle.std.specs.Option.{option_map_or}
 use Rattle.std.proofs.lemmas.Option.{slice_get_read}
@@ -35,3 +35,19 @@ set_same (x ∷ cs) zero c next at is =
     let first : x ≡ c = cc in
     ap (λ (y : Client). y ∷ cs) (is ∙ sym first)
 set_same (x ∷ cs) (suc place) c next at is = ap (λ (ys : List Client). x ∷ ys) (set_same cs place c next at is)
+
+-- one that is changed leaves as many
+pub length-changed_at : (place : ℕ) (change : Client → Client) (cs : List Client) → length (changed_at place change cs) ≡ length cs
+length-changed_at place change [] = refl
+length-changed_at zero change (c ∷ cs) = refl
+length-changed_at (suc place) change (c ∷ cs) = ap suc (length-changed_at place change cs)
+
+-- the client at that place is then the changed one
+pub get-changed_at : (place : ℕ) (change : Client → Client) (cs : List Client) (c : Client) → slice_get cs place ≡ Some c
+    → slice_get (changed_at place change cs) place ≡ Some (change c)
+get-changed_at place change [] c at = absurd (let none : None ≡ Some c = at in cc)
+get-changed_at zero change (x ∷ cs) c at =
+    let same : Some x ≡ Some c = at in
+    let first : x ≡ c = cc in
+    ap (λ (y : Client). Some (change y)) first
+get-changed_at (suc place) change (x ∷ cs) c at = get-changed_at place change cs c at

@@ -1,5 +1,5 @@
 -- How long the frame of a reply is.
-use Rattle.std.proofs.Common.{◌≡◌, ℕ, ◌+◌, ◌≤◌, List, length, ap, ◌∙◌, arith}
+use Rattle.std.proofs.Common.{◌≡◌, ℕ, ◌+◌, ◌≤◌, List, length, ap, arith}
 use Rattle.client_frames.specs.Frames.{most_text, reply, reply_body}
 use Rattle.client_frames.specs.declared.answer.Answer.{Answer}
 use Rattle.client_frames.proofs.FrameLemmas.{length-framed}

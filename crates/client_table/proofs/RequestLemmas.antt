@@ -1,15 +1,15 @@
 -- Bytes come to one list of requests alone.
-use Rattle.std.proofs.Common.{◌≡◌, ◌≢◌, ℕ, ◌+◌, ◌<◌, ◌≤◌, Bool, true, false, List, [], ◌∷◌, ◌++◌, length, take, drop, Option, Some, None, refl, sym, ap, ap₂, ◌∙◌, subst, append_assoc, append-nil, arith, All, IfSome}
+use Rattle.std.proofs.Common.{◌≡◌, ◌≢◌, ℕ, ◌+◌, ◌<◌, ◌≤◌, Bool, true, false, List, [], ◌∷◌, ◌++◌, length, take, drop, Option, Some, refl, sym, ap, ap₂, ◌∙◌, subst, append_assoc, append-nil, arith, All, IfSome}
 use Rattle.std.specs.List.{flat_map}
 use Rattle.std.proofs.lemmas.List.{length-append, take_at, drop_at}
 use Rattle.std.proofs.lemmas.List.Elements.{All-head, All-tail}
-use Rattle.client_frames.specs.Comes.{BeginsWithWord, Heard, Part, Words, TooLong, Empty, BadWord, Is, IsBad, IsBadAt, IsPart, IsRequest, heard, said_length}
+use Rattle.client_frames.specs.Comes.{BeginsWithWord, Heard, Part, Words, TooLong, Empty, BadWord, Is, IsPart, heard, said_length}
 use Rattle.client_frames.specs.Frames.{IsWord, framed, most_request, request, spelling, word_spelling}
 use Rattle.client_frames.specs.Laws.{IsSent}
-use Rattle.client_frames.proofs.FrameLemmas.{by_length, drop_framed, length-framed, said_framed, said_front}
+use Rattle.client_frames.proofs.FrameLemmas.{drop_framed, length-framed, said_framed, said_front}
 use Rattle.client_frames.proofs.HeardLemmas.{heard_request, length-spelling}
-use Rattle.client_frames.proofs.WordLemmas.{length-word_spelling, says_word, spelling-none}
-use Rattle.client_table.specs.Lives.{AreRequests, IsFault, IsRefused, IsRest}
+use Rattle.client_frames.proofs.WordLemmas.{says_word, spelling-none}
+use Rattle.client_table.specs.Lives.{AreRequests, IsFault, IsRest}
 
 -- ---- words that stand behind one another
 

@@ -1,7 +1,7 @@
 -- The life of a client, call by call, and what its bytes come to in all.
-use Rattle.std.specs.Prelude.{◌≡◌, ℕ, ◌≤◌, Bool, true, false, List, [], ◌∷◌, ◌++◌, length, take, All, Option, Some, None}
+use Rattle.std.specs.Prelude.{◌≡◌, ℕ, Bool, true, false, List, [], ◌∷◌, ◌++◌, length, take, All, Option, Some, None}
 use Rattle.std.specs.List.{flat_map}
-use Rattle.client_frames.specs.Comes.{Hearing, Heard, Part, Words, TooLong, Empty, BadWord, Is, IsPart}
+use Rattle.client_frames.specs.Comes.{Heard, Part, Words, Is, IsPart}
 use Rattle.client_frames.specs.Frames.{most_request, reply, request}
 use Rattle.client_frames.specs.Laws.{IsSent, requests_of}
 use Rattle.client_frames.specs.declared.answer.Answer.{Answer}
