@@ -6,7 +6,8 @@ use Rattle.client_table.proofs.AskLemmas.{is_read, not_none, read_answered}
 use Rattle.f2b_world.specs.declared.answer.GateRead.{GateRead}
 use Rattle.f2b_world.specs.declared.answer.GateRead.TheVariants as read
 
-unwritten_read : (now : ℕ) (answer : GateRead) (c : Client) → (after_read now answer c).unwritten ≡ c.unwritten
+-- a read leaves what is unwritten as it is
+pub unwritten_read : (now : ℕ) (answer : GateRead) (c : Client) → (after_read now answer c).unwritten ≡ c.unwritten
 unwritten_read now (read.Bytes bytes) c = refl
 unwritten_read now read.Quiet c = refl
 unwritten_read now read.End c = refl

@@ -10,8 +10,9 @@ use Rattle.client_frames.specs.Laws.{IsSent, requests_of}
 use Rattle.client_frames.specs.declared.answer.Answer.{Answer}
 use Rattle.client_frames.proofs.FrameLemmas.{part_none, said_none}
 use Rattle.client_table.specs.Clients.{Client, accepted, after_read, after_write, heard_in}
-use Rattle.client_table.specs.Lives.{AreAsked, AreRequests, Call, IsAsked, IsRefused, IsRepliedTo, IsRest, LifeLaw, WasRead, WasWritten, after_call, after_calls, came_in, replied_to, replies_by, replies_in, requests_in, taken_by, taken_in}
+use Rattle.client_table.specs.Lives.{AreAsked, AreRequests, Call, IsAsked, IsRefused, IsRepliedTo, IsRest, LifeLaw, WasRead, WasWritten, after_call, after_calls, came_in, refusals, replied_to, replies_by, replies_in, requests_in, taken_by, taken_in}
 use Rattle.client_table.proofs.AskLemmas.{is_read}
+use Rattle.client_table.proofs.CallLemmas.{unwritten_read}
 use Rattle.client_table.proofs.RequestLemmas.{one_list}
 use Rattle.f2b_world.specs.declared.answer.GateRead.{GateRead}
 use Rattle.f2b_world.specs.declared.answer.GateRead.TheVariants as read
@@ -19,13 +20,6 @@ use Rattle.f2b_world.specs.declared.answer.GateWrite.{GateWrite}
 use Rattle.f2b_world.specs.declared.answer.GateWrite.TheVariants as write
 
 -- ---- what a call leaves alone
-
-unwritten_read : (now : ℕ) (answer : GateRead) (c : Client) → (after_read now answer c).unwritten ≡ c.unwritten
-unwritten_read now (read.Bytes bytes) c = refl
-unwritten_read now read.Quiet c = refl
-unwritten_read now read.End c = refl
-unwritten_read now read.Failed c = refl
-unwritten_read now read.NoMemory c = refl
 
 hearing_written : (now : ℕ) (answer : GateWrite) (c : Client) → (after_write now answer c).hearing ≡ c.hearing
 hearing_written now (write.Took count) c = refl
@@ -152,14 +146,9 @@ handed_from (WasRead now read.NoMemory replied ∷ calls) c front behind asked =
 
 -- ---- one reply to each
 
--- a frame that was refused is replied to as well
-abbrev count_of : Bool → ℕ
-count_of false = 0
-count_of true = 1
-
 -- what is heard, and the reply to it
 count_heard : (h : Heard) (came : List ℕ) (replied : Option Answer) (now : ℕ) (answer : GateRead) → IsRepliedTo h replied
-    → length (replies_by (WasRead now answer replied)) ≡ length (requests_of h) + count_of (hearing_after came h).refused
+    → length (replies_by (WasRead now answer replied)) ≡ length (requests_of h) + refusals (hearing_after came h).refused
 count_heard Part came None now answer fits = refl
 count_heard Part came (Some a) now answer fits = absurd fits
 count_heard (Words words) came None now answer fits = absurd fits
@@ -172,27 +161,27 @@ count_heard (BadWord at) came None now answer fits = absurd fits
 count_heard (BadWord at) came (Some a) now answer fits = refl
 
 count_read : (now : ℕ) (answer : GateRead) (replied : Option Answer) (c : Client) → c.hearing.refused ≡ false → IsRepliedTo (heard_in answer c) replied
-    → length (replies_by (WasRead now answer replied)) ≡ length (requests_of (heard_in answer c)) + count_of (after_read now answer c).hearing.refused
+    → length (replies_by (WasRead now answer replied)) ≡ length (requests_of (heard_in answer c)) + refusals (after_read now answer c).hearing.refused
 count_read now (read.Bytes bytes) replied c unrefused fits = count_heard (heard (c.hearing.came ++ bytes)) (c.hearing.came ++ bytes) replied now (read.Bytes bytes) fits
-count_read now read.Quiet replied c unrefused fits = count_heard Part c.hearing.came replied now read.Quiet fits ∙ ap (λ (b : Bool). 0 + count_of b) (sym unrefused)
-count_read now read.End replied c unrefused fits = count_heard Part c.hearing.came replied now read.End fits ∙ ap (λ (b : Bool). 0 + count_of b) (sym unrefused)
-count_read now read.Failed replied c unrefused fits = count_heard Part c.hearing.came replied now read.Failed fits ∙ ap (λ (b : Bool). 0 + count_of b) (sym unrefused)
-count_read now read.NoMemory replied c unrefused fits = count_heard Part c.hearing.came replied now read.NoMemory fits ∙ ap (λ (b : Bool). 0 + count_of b) (sym unrefused)
+count_read now read.Quiet replied c unrefused fits = count_heard Part c.hearing.came replied now read.Quiet fits ∙ ap (λ (b : Bool). 0 + refusals b) (sym unrefused)
+count_read now read.End replied c unrefused fits = count_heard Part c.hearing.came replied now read.End fits ∙ ap (λ (b : Bool). 0 + refusals b) (sym unrefused)
+count_read now read.Failed replied c unrefused fits = count_heard Part c.hearing.came replied now read.Failed fits ∙ ap (λ (b : Bool). 0 + refusals b) (sym unrefused)
+count_read now read.NoMemory replied c unrefused fits = count_heard Part c.hearing.came replied now read.NoMemory fits ∙ ap (λ (b : Bool). 0 + refusals b) (sym unrefused)
 
 count_from : (calls : List Call) (c : Client) → AreAsked calls c
-    → count_of c.hearing.refused + length (replies_in calls) ≡ length (requests_in calls c) + count_of (after_calls calls c).hearing.refused
+    → refusals c.hearing.refused + length (replies_in calls) ≡ length (requests_in calls c) + refusals (after_calls calls c).hearing.refused
 count_from [] c asked = omega arith
 count_from (WasWritten now answer ∷ calls) c asked =
     let next : Client = after_write now answer c in
-    let same : count_of next.hearing.refused ≡ count_of c.hearing.refused = ap (λ (h : Hearing). count_of h.refused) (hearing_written now answer c) in
+    let same : refusals next.hearing.refused ≡ refusals c.hearing.refused = ap (λ (h : Hearing). refusals h.refused) (hearing_written now answer c) in
     ap (λ (n : ℕ). n + length (replies_in calls)) (sym same) ∙ count_from calls next asked.1
 count_from (WasRead now answer replied ∷ calls) c asked =
     let next : Client = after_call (WasRead now answer replied) c in
     let unrefused : c.hearing.refused ≡ false = (is_read c answer asked.0.0).unrefused in
-    let before : count_of c.hearing.refused ≡ 0 = ap count_of unrefused in
+    let before : refusals c.hearing.refused ≡ 0 = ap refusals unrefused in
     let here = count_read now answer replied c unrefused asked.0.2 in
-    let same : count_of next.hearing.refused ≡ count_of (after_read now answer c).hearing.refused =
-    ap (λ (h : Hearing). count_of h.refused) (hearing_replied replied (after_read now answer c)) in
+    let same : refusals next.hearing.refused ≡ refusals (after_read now answer c).hearing.refused =
+    ap (λ (h : Hearing). refusals h.refused) (hearing_replied replied (after_read now answer c)) in
     let rest = count_from calls next asked.1 in
     omega (
       arith,
@@ -220,8 +209,8 @@ turn_from calls at answer replied c none unrefused asked =
     let reads = is_read last answer before.1.0 in
     let written = written_from calls c before.0 in
     let count = count_from calls c before.0 in
-    let first : count_of c.hearing.refused ≡ 0 = ap count_of unrefused in
-    let end : count_of last.hearing.refused ≡ 0 = ap count_of reads.unrefused in (
+    let first : refusals c.hearing.refused ≡ 0 = ap refusals unrefused in
+    let end : refusals last.hearing.refused ≡ 0 = ap refusals reads.unrefused in (
       sym (append-nil (taken_in calls c)) ∙ ap (λ (t : List ℕ). taken_in calls c ++ t) (sym reads.none) ∙ sym written ∙ ap (λ (t : List ℕ). t ++ flat_map reply (replies_in calls)) none,
       omega (arith, count, first, end),
     )
@@ -230,6 +219,7 @@ pub life_law : LifeLaw
 life_law = record {
   written = λ conn now calls asked. written_from calls (accepted conn now) asked;
   handed = λ conn now calls asked. handed_from calls (accepted conn now) [] (record { came = λ unrefused. refl; rest = nothing_came }) asked;
+  counted = λ conn now calls asked. omega (arith, count_from calls (accepted conn now) asked);
   one = one_list;
   in_turn = λ conn now calls at answer replied asked. turn_from calls at answer replied (accepted conn now) refl refl asked;
 }

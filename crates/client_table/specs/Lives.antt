@@ -1,5 +1,5 @@
 -- The life of a client, call by call, and what its bytes come to in all.
-use Rattle.std.specs.Prelude.{◌≡◌, ℕ, Bool, true, false, List, [], ◌∷◌, ◌++◌, length, take, All, Option, Some, None}
+use Rattle.std.specs.Prelude.{◌≡◌, ℕ, ◌+◌, Bool, true, false, List, [], ◌∷◌, ◌++◌, length, take, All, Option, Some, None}
 use Rattle.std.specs.List.{flat_map}
 use Rattle.client_frames.specs.Comes.{Heard, Part, Words, Is, IsPart}
 use Rattle.client_frames.specs.Frames.{most_request, reply, request}
@@ -111,6 +111,11 @@ pub record AreRequests (bytes : List ℕ) (requests : List (List (List ℕ))) (r
   pub sent : All IsSent requests
   pub behind : IsRest refused rest
 
+-- how many refusals there were
+abbrev pub refusals : Bool → ℕ
+refusals false = 0
+refusals true = 1
+
 -- ---- the law
 
 pub record LifeLaw : Type 0 where
@@ -120,6 +125,9 @@ pub record LifeLaw : Type 0 where
   -- The requests that were handed out are those of all bytes that came.
   pub handed : (conn now : ℕ) (calls : List Call) → AreAsked calls (accepted conn now)
       → AreRequests (came_in calls) (requests_in calls (accepted conn now)) (after_calls calls (accepted conn now)).hearing.refused
+  -- There was one reply to each of them, in order, and one more where a frame was refused, behind which nothing came.
+  pub counted : (conn now : ℕ) (calls : List Call) → AreAsked calls (accepted conn now)
+      → length (replies_in calls) ≡ length (requests_in calls (accepted conn now)) + refusals (after_calls calls (accepted conn now)).hearing.refused
   -- Bytes come to one list of requests alone.
   pub one : (bytes : List ℕ) (a b : List (List (List ℕ))) (r s : Bool) → AreRequests bytes a r → AreRequests bytes b s → a ≡ b
   -- Where a client is read, the replies to all requests before are written whole, and there was one to each.
