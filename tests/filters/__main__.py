@@ -7,6 +7,7 @@ A log has above each line what the filter has to make of it, and why:
 
     # 192.0.2.7 2024-03-01T10:00:00Z 1: a failure of that address at that time, by the filter's first pattern
     # 192.0.2.7 03-01T10:00:00Z 1: the same in a log without years: the latest year in which that is not more than a day ahead
+    # 192.0.2.7 now 1: the same of a line that is dated as it comes
     # ignored 2: the second pattern of ignored lines matches
     # missed: nothing is found
 
@@ -32,7 +33,7 @@ CONF = os.path.join(HERE, "../../conf")
 LINES, FOUND, LEFT, HOSTILE = 15, 10, 5, 2
 
 FILTER = re.compile(r"# filter: (\S+)$")
-WANTED = re.compile(r"# (hostile )?(?:(?P<left>missed|ignored \d+)|(?P<found>\S+ (?:\d{4}-)?\d\d-\d\dT\d\d:\d\d:\d\dZ \d+))(?:: .*)?$")
+WANTED = re.compile(r"# (hostile )?(?:(?P<left>missed|ignored \d+)|(?P<found>\S+ (?:now|(?:\d{4}-)?\d\d-\d\dT\d\d:\d\d:\d\dZ) \d+))(?:: .*)?$")
 SHOWN_FOUND = re.compile(r" {3}(\d+)\) (\S+) (\S+) (.*)$")
 HEADINGS = {"Matched lines:": "found", "Ignored lines:": "ignored", "Missed lines:": "missed"}
 
@@ -117,7 +118,17 @@ def same_line(line, lists):
 def wanted_in_seconds(line):
     """What is wanted of a line, in the tester's words."""
     words = line.wanted.split(" ")
-    return f"{words[0]} {second(words[1])} {words[2]}" if len(words) == 3 else words[0]
+    if len(words) < 3:
+        return words[0]
+    return f"{words[0]} {words[1] if words[1] == 'now' else second(words[1])} {words[2]}"
+
+
+def is_same(saw, wanted, began):
+    """Whether the tester said what is wanted; now is a second since it began."""
+    if " now " not in wanted:
+        return saw == wanted
+    words = saw.split(" ")
+    return len(words) == 3 and began <= int(words[1]) <= time.time() and saw == wanted.replace("now", words[1])
 
 
 def ignored_counts(report):
@@ -134,6 +145,7 @@ def log_is_read_so(tester, path):
     with tempfile.NamedTemporaryFile("w") as log:
         log.write("".join(line.text + "\n" for line in lines))
         log.flush()
+        began = int(time.time())
         options = ["-v", "--print-all-ignored", "--print-all-missed", "-c", CONF]
         status, report, errors = run(tester, *options, log.name, name)
     if (status, errors) != (0, ""):
@@ -142,14 +154,14 @@ def log_is_read_so(tester, path):
     wrong = []
     for line in lines:
         saw, wanted = same_line(line, lists), wanted_in_seconds(line)
-        if saw != wanted:
+        if not is_same(saw, wanted, began):
             wrong.append(f"\n  {line.text}\n    came to   {saw}\n    and not   {wanted}")
     numbers = [int(line.wanted.split(" ")[1]) for line in lines if line.wanted.startswith("ignored ")]
     if ignored_counts(report) != {number: numbers.count(number) for number in set(numbers)}:
         wrong.append(f"\n  lines are ignored by other patterns: {ignored_counts(report)}")
     if wrong:
         raise Failed("".join(wrong))
-    found = sum(wanted_in_seconds(line).count(" ") for line in lines) // 2
+    found = sum(line.wanted.count(" ") == 2 for line in lines)
     return f"{len(lines)} lines, {found} found, {sum(line.is_hostile for line in lines)} hostile"
 
 
