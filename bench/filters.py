@@ -24,7 +24,7 @@ def log_and_filter(path):
     """The lines of a log without what stands above each, and the filter that it names, or that its own name is."""
     with open(path) as file:
         text = file.read()
-    named = re.match(r"# filter: (\S+)\n", text)
+    named = re.match(r"# filter: (.+)\n", text)
     name = named[1] if named else os.path.basename(path).removesuffix(".log")
     return [line + "\n" for line in text.splitlines() if not line.startswith("# ")], name
 

@@ -32,7 +32,7 @@ CONF = os.path.join(HERE, "../../conf")
 # What each filter's own log has at least.
 LINES, FOUND, LEFT, HOSTILE = 15, 10, 5, 2
 
-FILTER = re.compile(r"# filter: (\S+)$")
+FILTER = re.compile(r"# filter: (.+)$")
 WANTED = re.compile(r"# (hostile )?(?:(?P<left>missed|ignored \d+)|(?P<found>\S+ (?:now|(?:\d{4}-)?\d\d-\d\dT\d\d:\d\d:\d\dZ) \d+))(?:: .*)?$")
 SHOWN_FOUND = re.compile(r" {3}(\d+)\) (\S+) (\S+) (.*)$")
 HEADINGS = {"Matched lines:": "found", "Ignored lines:": "ignored", "Missed lines:": "missed"}
