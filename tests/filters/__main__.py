@@ -11,20 +11,26 @@ A log has above each line what the filter has to make of it, and why:
     # ignored 2: the second pattern of ignored lines matches
     # missed: nothing is found
 
-`hostile` in front of it marks a line in which a client wrote a date, an address or a tag. The log NAME.log is that of the filter NAME, or says
-at its top which other one it is of: `# filter: NAME[mode=aggressive]`.
+`hostile` in front of it marks a line in which a client wrote a date, an address or a tag. At the top of a log stand
+
+    # filter: NAME[mode=aggressive]    which filter it is of, where its name is another one
+    # words: user (\\S+) from           where a client's words stand in a line, by the group of a pattern
+    # written: " as \\x22               how the service writes a character of these words
+
+Pieces of other failures, with the address of a stranger, are put in the place of these words: nobody but the client may be found then.
 """
 
 import calendar
 import glob
 import os
+import random
 import re
 import shutil
 import subprocess
 import sys
 import tempfile
 import time
-from dataclasses import dataclass
+from dataclasses import dataclass, field
 
 HERE = os.path.dirname(os.path.abspath(__file__))
 CONF = os.path.join(HERE, "../../conf")
@@ -32,10 +38,16 @@ CONF = os.path.join(HERE, "../../conf")
 # What each filter's own log has at least.
 LINES, FOUND, LEFT, HOSTILE = 15, 10, 5, 2
 
-FILTER = re.compile(r"# filter: (.+)$")
+HEAD = re.compile(r"# (filter|words|written): (.+)$")
 WANTED = re.compile(r"# (hostile )?(?:(?P<left>missed|ignored \d+)|(?P<found>\S+ (?:now|(?:\d{4}-)?\d\d-\d\dT\d\d:\d\d:\d\dZ) \d+))(?:: .*)?$")
 SHOWN_FOUND = re.compile(r" {3}(\d+)\) (\S+) (\S+) (.*)$")
 HEADINGS = {"Matched lines:": "found", "Ignored lines:": "ignored", "Missed lines:": "missed"}
+
+# Whom no line may find by a client's words, and how many lines with such words are made of a log.
+STRANGER, ATTACKS = "192.0.2.99", 150
+
+# Where a piece of a line may begin or end.
+EDGES = re.compile(r"(?<=[ <>\"'\[\](),:=])|(?=[ <>\"'\[\](),:=])|^|$")
 
 # How many seconds a program may take, on a machine that is busy with other work.
 PATIENCE = 600
@@ -50,6 +62,27 @@ class Line:
     text: str
     wanted: str
     is_hostile: bool
+
+    def address(self):
+        """Whose failure the line is, or nothing."""
+        words = self.wanted.split(" ")
+        return words[0] if len(words) == 3 else ""
+
+
+@dataclass
+class Log:
+    filter: str
+    words: list = field(default_factory=list)
+    written: dict = field(default_factory=dict)
+    lines: list = field(default_factory=list)
+
+    def say(self, what, value):
+        if what == "filter":
+            self.filter = value
+        elif what == "words":
+            self.words.append(re.compile(value))
+        else:
+            self.written.update([value.split(" as ")])
 
 
 def second(date):
@@ -68,24 +101,22 @@ def second(date):
 
 
 def read(path):
-    """The filter of a log, and its lines with what is wanted of each."""
-    name = os.path.basename(path).removesuffix(".log")
-    lines, above = [], None
+    log, above = Log(os.path.basename(path).removesuffix(".log")), None
     with open(path) as file:
         for number, text in enumerate(file.read().splitlines(), 1):
-            said = FILTER.match(text)
-            if said:
-                name = said[1]
+            head = HEAD.match(text)
+            if head:
+                log.say(*head.groups())
             elif text.startswith("# "):
                 above = WANTED.match(text)
                 if not above:
                     raise Failed(f"line {number} says nothing that can be wanted: {text}")
             elif above:
-                lines.append(Line(text, above["found"] or above["left"], bool(above[1])))
+                log.lines.append(Line(text, above["found"] or above["left"], bool(above[1])))
                 above = None
             else:
                 raise Failed(f"line {number} does not have above it what is wanted of it: {text}")
-    return name, lines
+    return log
 
 
 def run(*words):
@@ -137,32 +168,73 @@ def ignored_counts(report):
     return {int(number): int(count) for number, count in re.findall(r"^ +(\d+)\) \[(\d+)\]", behind, re.MULTILINE)}
 
 
-def log_is_read_so(tester, path):
-    """Each line of the log comes to what stands above it."""
-    name, lines = read(path)
-    if len({line.text for line in lines}) < len(lines):
-        raise Failed("a line stands there twice")
+def tested(tester, filter_name, lines, *options):
+    """What the tester says of the lines."""
     with tempfile.NamedTemporaryFile("w") as log:
-        log.write("".join(line.text + "\n" for line in lines))
+        log.write("".join(line + "\n" for line in lines))
         log.flush()
-        began = int(time.time())
-        options = ["-v", "--print-all-ignored", "--print-all-missed", "-c", CONF]
-        status, report, errors = run(tester, *options, log.name, name)
+        status, report, errors = run(tester, *options, "-c", CONF, log.name, filter_name)
     if (status, errors) != (0, ""):
         raise Failed(f"the tester ended with {status}: {report}{errors}")
+    return report
+
+
+def log_is_read_so(tester, path):
+    """Each line of the log comes to what stands above it."""
+    log = read(path)
+    if len({line.text for line in log.lines}) < len(log.lines):
+        raise Failed("a line stands there twice")
+    began = int(time.time())
+    report = tested(tester, log.filter, [line.text for line in log.lines], "-v", "--print-all-ignored", "--print-all-missed")
     lists = shown(report)
     wrong = []
-    for line in lines:
+    for line in log.lines:
         saw, wanted = same_line(line, lists), wanted_in_seconds(line)
         if not is_same(saw, wanted, began):
             wrong.append(f"\n  {line.text}\n    came to   {saw}\n    and not   {wanted}")
-    numbers = [int(line.wanted.split(" ")[1]) for line in lines if line.wanted.startswith("ignored ")]
+    numbers = [int(line.wanted.split(" ")[1]) for line in log.lines if line.wanted.startswith("ignored ")]
     if ignored_counts(report) != {number: numbers.count(number) for number in set(numbers)}:
         wrong.append(f"\n  lines are ignored by other patterns: {ignored_counts(report)}")
     if wrong:
         raise Failed("".join(wrong))
-    found = sum(line.wanted.count(" ") == 2 for line in lines)
-    return f"{len(lines)} lines, {found} found, {sum(line.is_hostile for line in lines)} hostile"
+    found = sum(bool(line.address()) for line in log.lines)
+    return f"{len(log.lines)} lines, {found} found, {sum(line.is_hostile for line in log.lines)} hostile"
+
+
+def pieces(line):
+    """All pieces of a failure that hold its address, which is a stranger's then."""
+    text = re.sub("(::ffff:)?" + re.escape(line.address()), STRANGER, line.text)
+    begin = text.find(STRANGER)
+    edges = sorted({match.start() for match in EDGES.finditer(text)})
+    fronts, ends = [edge for edge in edges if edge <= begin], [edge for edge in edges if edge >= begin + len(STRANGER)]
+    return [text[front:end] for front in fronts for end in ends] if begin >= 0 else []
+
+
+def attacks(log, chance):
+    """Failures of the log with such pieces in the place of a client's words."""
+    failures = [line for line in log.lines if line.address()]
+    of_others = [piece for line in failures for piece in pieces(line)]
+    places = [(line.text, match.span(1)) for line in failures for words in log.words for match in [words.search(line.text)] if match]
+    made = set()
+    for _ in range(ATTACKS if places else 0):
+        text, (front, end) = chance.choice(places)
+        piece = chance.choice(["", "x", "x "]) + chance.choice(of_others) + chance.choice(["", "x", " x"])
+        for character, instead in log.written.items():
+            piece = piece.replace(character, instead)
+        made.add(text[:front] + piece + text[end:])
+    return sorted(made)
+
+
+def words_find_nobody_else(tester, path):
+    """Whatever stands in the place of a client's words, nobody is found but who is found in the log."""
+    log = read(path)
+    known = {line.address() for line in log.lines}
+    lines = attacks(log, random.Random(1))
+    rows = tested(tester, log.filter, lines, "-o", "row").splitlines()
+    strangers = [row for row in rows if row.split("\t")[0] not in known]
+    if strangers:
+        raise Failed("".join("\n  " + row for row in strangers[:5]))
+    return f"{len(lines)} lines, {len(rows)} found"
 
 
 def has_lines_enough(name):
@@ -170,8 +242,8 @@ def has_lines_enough(name):
     path = os.path.join(HERE, name + ".log")
     if not os.path.isfile(path):
         raise Failed("there is no such log")
-    _name, lines = read(path)
-    found = [line for line in lines if line.wanted.count(" ") == 2]
+    lines = read(path).lines
+    found = [line for line in lines if line.address()]
     hostile = [line for line in lines if line.is_hostile]
     saw = (len(lines), len(found), len(lines) - len(found), len(hostile))
     if any(has < needs for has, needs in zip(saw, (LINES, FOUND, LEFT, HOSTILE))):
@@ -226,6 +298,8 @@ def each_filter_has_its_jail():
 def checks(tester, server):
     for path in sorted(glob.glob(os.path.join(HERE, "*.log"))):
         yield os.path.basename(path), lambda path=path: log_is_read_so(tester, path)
+        if read(path).words:
+            yield f"other words in {os.path.basename(path)}", lambda path=path: words_find_nobody_else(tester, path)
     for name in filters():
         yield f"{name}.log has lines enough", lambda name=name: has_lines_enough(name)
     yield "each filter has its jail", each_filter_has_its_jail
