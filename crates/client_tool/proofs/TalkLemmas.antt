@@ -129,12 +129,12 @@ exchanges_by path bytes P a b c asks gains = record {
 
 pub exchanged : (path bytes : List ℕ) (P : List ℕ → Bool → Type 0) (first next : Linked) (a b c d : Standing) → first ≡ Connected → next ≡ Connected
     → Spoken a (link_fault first) (Connects path first) b → Spoken b (link_fault next) (Sends bytes next) c → Received c d P → Talks a d (Exchanges path bytes P)
-exchanged path bytes P LinkFailed next a b c d is as connected sent received = absurd (cc)
-exchanged path bytes P Connected LinkFailed a b c d is as connected sent received = absurd (cc)
-exchanged path bytes P Connected Connected a b c d is as connected sent received =
+exchanged path bytes P LinkFailed next a b c d is both connected sent received = absurd (cc)
+exchanged path bytes P Connected LinkFailed a b c d is both connected sent received = absurd (cc)
+exchanged path bytes P Connected Connected a b c d is both connected sent received =
     talks_then (Asks path bytes) (Gains P) (Exchanges path bytes P) (exchanges_by path bytes P) a c d
     (talks_then (Connects path Connected) (Sends bytes Connected) (Asks path bytes) (asks_by path bytes) a b c
-     (talks_call (Connects path Connected) Connected a b connected) (talks_call (Sends bytes Connected) Connected b c sent))
+    (talks_call (Connects path Connected) Connected a b connected) (talks_call (Sends bytes Connected) Connected b c sent))
     (talks_received P c d received)
 
 exchange_at_most : (path bytes : List ℕ) (P : List ℕ → Bool → Type 0) (a b : Talk) → Exchanges path bytes P a b → SendsAtMost bytes a b

@@ -12,11 +12,11 @@
 
 mod ask;
 mod asked;
-mod client;
+mod call;
 mod line;
 mod say;
 mod status;
 
 pub use asked::USUAL_SOCKET;
-pub use client::client;
+pub use call::client;
 pub use status::ClientStatus;

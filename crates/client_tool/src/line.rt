@@ -17,11 +17,7 @@ fn is_ping(words: &Seq<Text>) -> bool
 }
 
 /// What is said of the reply to these words.
-pub(crate) fn reply_line(
-    alloc: Global,
-    words: &Seq<Text>,
-    answer: Answer,
-) -> Result<Text, NoMemory>
+pub(crate) fn reply_line(alloc: Global, words: &Seq<Text>, answer: Answer) -> Result<Text, NoMemory>
     ensures { IfOk result (λ line. line ≡ reply_line words.now answer) }
 {
     let mut line = if answer.accepted && is_ping(words) {
