@@ -9,9 +9,13 @@ abbrev pub is_ping : List (List ℕ) → Bool
 is_ping (word ∷ []) = bytes_eq word (codes "ping")
 is_ping _ = false
 
--- what is said of the reply to these words: its text, but for a ping that was accepted
+-- what is told of the reply to these words: its text, but for a ping that was accepted
+abbrev pub reply_text : List (List ℕ) → Answer → List ℕ
+reply_text words answer = if answer.accepted && is_ping words then codes "Server replied: pong" else answer.text
+
+-- what is said of the reply to these words
 unfoldable pub reply_line : List (List ℕ) → Answer → List ℕ
-reply_line words answer = (if answer.accepted && is_ping words then codes "Server replied: pong" else answer.text) ++ codes "\n"
+reply_line words answer = reply_text words answer ++ codes "\n"
 
 -- what is said of a time word
 unfoldable pub seconds_line : ℤ → List ℕ

@@ -43,11 +43,7 @@ fn tell<K: Sink>(alloc: Global, words: &Seq<Text>, answer: Answer, sink: &mut K)
     ensures closes { MayClose (reply_line words.now answer) (status_of answer.accepted) (K.stands sink.old) (K.stands sink.new) result }
     ensures quiet { is_said result ≡ false → sink.new ≡ sink.old }
 {
-    let status = if answer.accepted {
-        ClientStatus::Done
-    } else {
-        ClientStatus::Refused
-    };
+    let status = ClientStatus::of_verdict(answer.accepted);
     match reply_line(alloc, words, answer) {
         Ok(line) => say(sink, line.as_str(), status),
         Err(NoMemory) => ClientStatus::NoMemory,

@@ -1,6 +1,6 @@
 //! The words that the client is called with.
-ghost use Rattle.std.specs.Prelude.{◌≡◌, map, option_map, string_bytes, IfOk};
-ghost use Rattle.client_tool.specs.Asks.{IsBounded, asks_of, behind_socket, behind_str2sec, request_at, shown};
+ghost use Rattle.std.specs.Prelude.{◌≡◌, ◌∷◌, map, option_map, string_bytes, IfOk};
+ghost use Rattle.client_tool.specs.Asks.{asks_by, asks_of, behind_socket, behind_str2sec, request_at, shown};
 
 use client_frames::are_request;
 use f2b_base::{NoMemory, Seq, Text};
@@ -59,23 +59,39 @@ fn behind_str2sec<'w>(words: &[String]) -> Option<Asked<'w>>
     ensures { option_map shown result ≡ behind_str2sec (map string_bytes words.now) }
 {
     match words {
-        [word] => str2sec(word.as_str()).map(Asked::Seconds),
+        [word] => {
+            let seconds = str2sec(word.as_str())?;
+            Some(Asked::Seconds(seconds))
+        }
         _ => None,
     }
 }
 
-/// What the words ask for, where they ask for something.
-pub(crate) fn read_words(alloc: Global, words: &[String]) -> Result<Option<Asked<'_>>, NoMemory>
-    ensures asks { IfOk result (λ asked. option_map shown asked ≡ asks_of (map string_bytes words.entry.now)) }
-    ensures bounds { IfOk result (λ asked. IsBounded (option_map shown asked)) }
+/// What the words ask for that begin with this one.
+fn asked_by<'w>(
+    alloc: Global,
+    first: &str,
+    rest: &'w [String],
+    words: &'w [String],
+) -> Result<Option<Asked<'w>>, NoMemory>
+    requires { map string_bytes words.now ≡ first.now ∷ map string_bytes rest.now }
+    ensures { IfOk result (λ asked. option_map shown asked ≡ asks_by first.now (map string_bytes rest.entry.now)) }
 {
-    let [first, rest @ ..] = words else {
-        return Ok(None);
-    };
-    match first.as_str() {
+    match first {
         "-s" => behind_socket(alloc, rest),
         "--str2sec" => Ok(behind_str2sec(rest)),
         "-d" | "-t" => Ok(None),
         _ => request_at(alloc, USUAL_SOCKET, words),
     }
+}
+
+/// What the words ask for, where they ask for something.
+#[tactic(auto, unfolding(crate::specs::Asks::asks_of))]
+pub(crate) fn read_words(alloc: Global, words: &[String]) -> Result<Option<Asked<'_>>, NoMemory>
+    ensures { IfOk result (λ asked. option_map shown asked ≡ asks_of (map string_bytes words.entry.now)) }
+{
+    let [first, rest @ ..] = words else {
+        return Ok(None);
+    };
+    asked_by(alloc, first.as_str(), rest, words)
 }

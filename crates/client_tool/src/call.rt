@@ -36,9 +36,9 @@ fn carry_out<L: Link, K: Sink>(
     sink: &mut K,
 ) -> ClientStatus
     requires { IsBounded (option_map shown asked) }
-    ensures ends { Ends (option_map shown asked) (L.stands link.old) (L.stands link.new) (K.stands sink.old) (K.stands sink.new) result }
+    ensures ends { Ends (option_map shown asked.entry) (L.stands link.old) (L.stands link.new) (K.stands sink.old) (K.stands sink.new) result }
     ensures quiet { is_said result ≡ false → sink.new ≡ sink.old }
-    ensures unlinked { asks_server (option_map shown asked) ≡ false → link.new ≡ link.old }
+    ensures unlinked { asks_server (option_map shown asked.entry) ≡ false → link.new ≡ link.old }
 {
     match asked {
         Some(Asked::Request { socket, words }) => ask(alloc, socket, &words, link, sink),

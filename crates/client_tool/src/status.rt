@@ -1,6 +1,6 @@
 //! How a call of the client ends.
 ghost use Rattle.std.specs.Prelude.{◌≡◌};
-ghost use Rattle.client_tool.specs.Ends.{as_status, status_number};
+ghost use Rattle.client_tool.specs.Ends.{as_status, status_number, status_of};
 
 use client_frames::ReceiveError;
 use f2b_base::NoMemory;
@@ -46,6 +46,16 @@ impl ClientStatus {
             ReceiveError::BadReply => ClientStatus::BadReply,
             ReceiveError::NoMemory => ClientStatus::NoMemory,
         }
+    }
+
+    /// How a call ends whose reply was said.
+    pub(crate) fn of_verdict(accepted: bool) -> ClientStatus
+        ensures { result ≡ status_of accepted }
+    {
+        if accepted {
+            return ClientStatus::Done;
+        }
+        ClientStatus::Refused
     }
 
     /// The exit status of the program.
