@@ -1,3 +1,1 @@
 pub mod AskLemmas
-pub mod TalkLemmas
-pub mod EndLemmas
