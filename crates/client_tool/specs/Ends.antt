@@ -1,5 +1,5 @@
 -- How a call of the client ends: why, and what was said.
-use Rattle.std.specs.Prelude.{◌≡◌, ◌⊎◌, ℕ, ℤ, Bool, true, false, List, [], ◌++◌, Option, Some, None, Ok, Err}
+use Rattle.std.specs.Prelude.{◌≡◌, ◌⊎◌, ℕ, Bool, true, false, List, Option, Some, None, Ok, Err}
 use Rattle.client_frames.specs.declared.answer.Answer.{Answer}
 use Rattle.client_frames.specs.declared.error.ReceiveError.{ReceiveError}
 use Rattle.client_frames.specs.declared.error.ReceiveError.TheVariants as error

@@ -1,10 +1,10 @@
 -- What a client says to a server, and what it hears.
-use Rattle.std.specs.Prelude.{◌≡◌, ◌≢◌, ◌≤◌, ℕ, Bool, true, false, List, ◌++◌, take, Option, Some, None, Result, Ok, Err}
+use Rattle.std.specs.Prelude.{◌≡◌, ◌≢◌, ◌≤◌, ℕ, Bool, List, ◌++◌, take, Some, Result, Err}
 use Rattle.client_frames.specs.Frames.{request}
 use Rattle.client_frames.specs.Replies.{IsTrueOf}
 use Rattle.client_frames.specs.declared.answer.Answer.{Answer}
 use Rattle.client_frames.specs.declared.error.ReceiveError.{ReceiveError}
-use Rattle.client_frames.specs.declared.error.ReceiveError.TheVariants.{LinkFault, LinkEnded, BadReply, NoMemory}
+use Rattle.client_frames.specs.declared.error.ReceiveError.TheVariants.{LinkFault, NoMemory}
 use Rattle.f2b_world.specs.Faults.{Fault, OfLink}
 use Rattle.f2b_world.specs.Links.{Talk, Goes}
 use Rattle.f2b_world.specs.Told.{Standing}
