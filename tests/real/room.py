@@ -101,8 +101,9 @@ def as_nobody():
 class Room:
     """A folder with a configuration and a log, both readable by all, and the programs to be run over them."""
 
-    def __init__(self, program, tester, place):
+    def __init__(self, program, client, tester, place):
         self.program = program
+        self.client = client
         self.tester = tester
         self.place = place
         self.conf = os.path.join(place, "conf")
