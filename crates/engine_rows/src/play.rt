@@ -6,6 +6,7 @@ use f2b_mem::{Image, MemWorld, Script};
 use f2b_world::Disk;
 use reconcile::{Engine, LoadError};
 use std::alloc::Global;
+use std::process::Abort;
 use std::test::Fail;
 
 // Of the slots of this image, where the calls at these places fail.
@@ -59,6 +60,35 @@ pub fn view_of<D: Disk>(
         Ok(engine) => Ok(Ok(engine.core().view()?)),
         Err(error) => Ok(Err(error)),
     }
+}
+
+/// How many of the unsynced bytes a stop keeps, and what the others are.
+const TEARS: [(u32, u8); 6] = [
+    (0, 0),
+    (0, 255),
+    (1, 0),
+    (1, 255),
+    (u32::MAX, 0),
+    (u32::MAX, 255),
+];
+
+/// A stop once so many calls were made: the engine that is loaded then has the one view or the other.
+pub fn is_either(
+    rt: &impl Abort,
+    alloc: Global,
+    world: &MemWorld,
+    at: u64,
+    limit: u64,
+    views: (&View, &View),
+) -> Result<(), Fail> {
+    for &(keep, fill) in &TEARS {
+        let mut torn = after_stop(alloc, world, at, keep, fill)?;
+        let Ok(is) = view_of(alloc, &mut torn, limit)? else {
+            return Err("not loaded".into());
+        };
+        assert!(rt; is == *views.0 || is == *views.1, "{at}, {keep}, {fill}");
+    }
+    Ok(())
 }
 
 /// What a view shows, in numbers, of all jails together.

@@ -20,6 +20,11 @@ pub const LAST: [u8; 26] = [
     1, 0x40, 0, 0, 0, 0, 0, 0, 0, 2, 0, 0x80, 0xa3, 5, 0, 0, 0, 0, 0, 0, 0, 1, 100, 0, 0, 0,
 ];
 
+/// The first in a generation that there is not.
+pub const PAST_LAST: [u8; 26] = [
+    1, 0x40, 0, 0, 0, 0, 0, 0, 1, 2, 0, 0x80, 0xa3, 5, 0, 0, 0, 0, 0, 0, 0, 1, 100, 0, 0, 0,
+];
+
 /// The first with its own gate closed.
 pub const SHUT: [u8; 26] = [
     0, 0, 0, 0, 0, 0, 0, 0, 1, 2, 0, 0x80, 0xa3, 5, 0, 0, 0, 0, 0, 0, 0, 1, 100, 0, 0, 0,

@@ -1,6 +1,6 @@
 //! What two slots mean.
 
-use crate::bytes::{BAD, BANS, LAST, NEWER, OLD_VERSION, SHUT, TICK};
+use crate::bytes::{BAD, BANS, LAST, NEWER, OLD_VERSION, PAST_LAST, SHUT, TICK};
 use crate::play::{NOTHING, Stored, stored_in};
 use ban_journal::LoadError;
 use f2b_base::Bytes;
@@ -16,7 +16,7 @@ struct Row {
     want: Result<Stored, LoadError>,
 }
 
-const ROWS: [Row; 14] = [
+const ROWS: [Row; 15] = [
     Row {
         name: "nothing is there",
         slot0: &[],
@@ -94,6 +94,12 @@ const ROWS: [Row; 14] = [
             inputs: 1,
             secs: 100,
         }),
+    },
+    Row {
+        name: "a generation past the last",
+        slot0: &NEWER,
+        slot1: &PAST_LAST,
+        want: Err(LoadError::NotAJournal { slot: 1, at: 1 }),
     },
     Row {
         name: "two slots of one generation",

@@ -93,20 +93,37 @@ pub fn stored_in(
     Ok(all_stored(alloc, &mut world))
 }
 
-/// What was stored once so many calls were made on a disk and a stop came, where of each slot's unsynced bytes so many were kept and
-/// the others are this.
-pub fn stored_after_stop(
-    alloc: Global,
-    world: &MemWorld,
-    at: u64,
-    keep: u32,
-    fill: u8,
-) -> Result<Result<Stored, LoadError>, Fail> {
+/// How a stop tears what was not synced: how many of its bytes were kept, what the others are, and whether the file is as long as it
+/// was before the last write.
+#[derive(Clone, Copy, Debug)]
+pub struct Tear {
+    pub keep: u32,
+    pub fill: u8,
+    pub short: bool,
+}
+
+// What a stop leaves once so many calls were made.
+fn torn(world: &MemWorld, at: u64, keep: u32, fill: u8) -> Result<Image, Fail> {
     if !world.is_told() || at > world.events().len() as u64 {
         return Err("not told".into());
     }
-    let image = world.torn(at, keep, fill)?;
+    Ok(world.torn(at, keep, fill)?)
+}
+
+// Slots that are cut to the lengths that they had.
+fn cut(image: Image, was: &Image) -> Image {
+    let mut image = image;
+    image.slot0.truncate(was.slot0.len());
+    image.slot1.truncate(was.slot1.len());
+    image
+}
+
+/// The disk as a stop leaves it that comes once so many calls were made.
+pub fn after_stop(alloc: Global, world: &MemWorld, at: u64, tear: Tear) -> Result<MemWorld, Fail> {
+    let mut image = torn(world, at, tear.keep, tear.fill)?;
+    if tear.short {
+        image = cut(image, &torn(world, at.saturating_sub(1), 0, 0)?);
+    }
     let script = script(alloc, image, &[])?;
-    let mut world = MemWorld::new(alloc, script)?;
-    Ok(all_stored(alloc, &mut world))
+    Ok(MemWorld::new(alloc, script)?)
 }

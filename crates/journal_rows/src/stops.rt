@@ -1,13 +1,22 @@
 //! An input that is written, and a stop or a fault of the disk at each call.
 
 use crate::bytes::{NEWER, OLD_VERSION, SHUT, TICK};
-use crate::play::{NOTHING, Stored, disk, stored_after_stop};
+use crate::play::{NOTHING, Stored, Tear, after_stop, all_stored, disk};
 use crate::writes::write;
 use ban_journal::AppendError;
 use f2b_mem::MemWorld;
 use std::alloc::Global;
 use std::process::Abort;
 use std::test::Fail;
+
+// What is stored, with the input behind it.
+fn appended(stored: Stored) -> Stored {
+    Stored {
+        inputs: stored.inputs.saturating_add(1),
+        secs: stored.secs.saturating_add(200),
+        ..stored
+    }
+}
 
 /// What was stored from so many calls on.
 #[derive(Clone, Copy)]
@@ -196,19 +205,47 @@ const SCENES: [Scene; 6] = [
     },
 ];
 
-/// How many of the unsynced bytes a stop keeps, and what the others are.
-const TEARS: [(u32, u8); 6] = [
-    (0, 0),
-    (0, 255),
-    (1, 0),
-    (1, 255),
-    (u32::MAX, 0),
-    (u32::MAX, 255),
+const TEARS: [Tear; 7] = [
+    Tear {
+        keep: 0,
+        fill: 0,
+        short: false,
+    },
+    Tear {
+        keep: 0,
+        fill: 255,
+        short: false,
+    },
+    Tear {
+        keep: 1,
+        fill: 0,
+        short: false,
+    },
+    Tear {
+        keep: 1,
+        fill: 255,
+        short: false,
+    },
+    Tear {
+        keep: u32::MAX,
+        fill: 0,
+        short: false,
+    },
+    Tear {
+        keep: 0,
+        fill: 255,
+        short: true,
+    },
+    Tear {
+        keep: u32::MAX,
+        fill: 0,
+        short: true,
+    },
 ];
 
 // What is stored once so many of the calls were done. An open gate that is not synced is lost where nothing is kept and all is 0.
-fn wanted(scene: &Scene, calls: u64, keep: u32, fill: u8) -> Stored {
-    let done = calls.saturating_sub(u64::from(keep == 0 && fill == 0));
+fn wanted(scene: &Scene, calls: u64, tear: Tear) -> Stored {
+    let done = calls.saturating_sub(u64::from(tear.keep == 0 && tear.fill == 0));
     if done >= scene.after.calls {
         return scene.after.stored;
     }
@@ -216,6 +253,29 @@ fn wanted(scene: &Scene, calls: u64, keep: u32, fill: u8) -> Stored {
         Some(view) if done >= view.calls => view.stored,
         _ => scene.before,
     }
+}
+
+// The input is written to what a stop left, behind what is stored there or behind the new view.
+fn goes_on(
+    rt: &impl Abort,
+    alloc: Global,
+    scene: &Scene,
+    world: &mut MemWorld,
+    stored: Stored,
+) -> Result<(), Fail> {
+    let (_begin, written) = write(alloc, world, scene.limit)?;
+    assert_eq!(rt; written, Ok(()), "{}, {stored:?}", scene.name);
+    let is = all_stored(alloc, world);
+    let turned = Stored {
+        generation: stored.generation.saturating_add(1),
+        ..FIRST_INPUT
+    };
+    assert!(rt;
+        is == Ok(appended(stored)) || is == Ok(turned),
+        "{}, {stored:?}",
+        scene.name
+    );
+    Ok(())
 }
 
 // A stop behind the call at that place is opened again, where so many of the calls count as done.
@@ -227,10 +287,12 @@ fn is_stopped(
     at: u64,
     calls: u64,
 ) -> Result<(), Fail> {
-    for &(keep, fill) in &TEARS {
-        let is = stored_after_stop(alloc, world, at, keep, fill)?;
-        let want = wanted(scene, calls, keep, fill);
-        assert_eq!(rt; is, Ok(want), "{}, {calls}, {keep}, {fill}", scene.name);
+    for &tear in &TEARS {
+        let mut torn = after_stop(alloc, world, at, tear)?;
+        let is = all_stored(alloc, &mut torn);
+        let want = wanted(scene, calls, tear);
+        assert_eq!(rt; is, Ok(want), "{}, {calls}, {tear:?}", scene.name);
+        goes_on(rt, alloc, scene, &mut torn, want)?;
     }
     Ok(())
 }
