@@ -131,19 +131,47 @@ fn goes_on(alloc: Global, first: &[Event], image: Image) -> Result<bool, Fail> {
     )
 }
 
-// A stop once so many calls were made.
-fn each_tear(rt: &impl Abort, alloc: Global, world: &MemWorld, at: usize) -> Result<(), Fail> {
-    let first = world.events().get(..at).ok_or("past the end")?;
-    for &(keep, fill) in &TEARS {
-        let image = torn(world, at as u64, keep, fill)?;
-        assert!(rt; goes_on(alloc, first, image)?, "{at}, {keep}, {fill}");
+// Whether a stop behind a call leaves or has said anything else than one before it.
+fn is_new(event: &Event) -> bool {
+    matches!(
+        event,
+        Event::Say { .. }
+            | Event::ChildStart { .. }
+            | Event::DiskWrite { .. }
+            | Event::DiskSync { .. }
+    )
+}
+
+// How a stop behind a call tears the slots: in one way where all is synced.
+fn tears(last: &Event) -> &'static [(u32, u8)] {
+    if matches!(last, Event::DiskWrite { .. }) {
+        return &TEARS;
+    }
+    &TEARS[..1]
+}
+
+// A stop behind the call at that place.
+fn each_tear(
+    rt: &impl Abort,
+    alloc: Global,
+    world: &MemWorld,
+    at: usize,
+    last: &Event,
+) -> Result<(), Fail> {
+    let calls = at.saturating_add(1);
+    let first = world.events().get(..calls).ok_or("past the end")?;
+    for &(keep, fill) in tears(last) {
+        let image = torn(world, calls as u64, keep, fill)?;
+        assert!(rt; goes_on(alloc, first, image)?, "{calls}, {keep}, {fill}");
     }
     Ok(())
 }
 
 fn each_stop(rt: &impl Abort, alloc: Global, world: &MemWorld) -> Result<(), Fail> {
-    for at in 0..=world.events().len() {
-        each_tear(rt, alloc, world, at)?;
+    for (at, last) in world.events().iter().enumerate() {
+        if is_new(last) {
+            each_tear(rt, alloc, world, at, last)?;
+        }
     }
     Ok(())
 }
