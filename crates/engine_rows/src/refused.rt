@@ -1,8 +1,8 @@
 //! Inputs that an engine does not take.
 
 use crate::bytes::{BANS, LAST, NO_IDS, TICK};
-use crate::play::{disk, is_either, view_of};
-use crate::steps::{Step, take};
+use crate::play::{calls, disk, is_either, loaded_view};
+use crate::steps::{Step, take, view_after};
 use f2b_base::View;
 use reconcile::EngineError;
 use std::alloc::Global;
@@ -47,15 +47,6 @@ const ROWS: [Row; 4] = [
     },
 ];
 
-// How many calls load the engine of a slot.
-fn calls(alloc: Global, slot0: &[u8], limit: u64) -> Result<u64, Fail> {
-    let mut world = disk(alloc, slot0, &[], &[])?;
-    let Ok(_view) = view_of(alloc, &mut world, limit)? else {
-        return Err("not loaded".into());
-    };
-    Ok(world.events().len() as u64)
-}
-
 fn is_refused(rt: &impl Abort, alloc: Global, row: &Row) -> Result<(), Fail> {
     let mut world = disk(alloc, row.slot0, &[], &[])?;
     let is = take(alloc, &mut world, row.limit, Step::Tick(200))?;
@@ -96,7 +87,19 @@ fn fails_at(
     assert_eq!(rt; is, Err(EngineError::DiskFault), "{call}");
     let at = call.saturating_add(1);
     assert_eq!(rt; world.events().len() as u64, at, "{call}");
-    is_either(rt, alloc, &world, at, limit, views)
+    is_either(rt, alloc, "a fault", &world, at, limit, views)
+}
+
+// The view of an engine that is loaded.
+fn view_before(alloc: Global, slot0: &[u8], limit: u64) -> Result<View, Fail> {
+    let mut world = disk(alloc, slot0, &[], &[])?;
+    loaded_view(alloc, &mut world, limit)
+}
+
+// The same once it took the input.
+fn view_with(alloc: Global, slot0: &[u8], limit: u64) -> Result<View, Fail> {
+    let mut world = disk(alloc, slot0, &[], &[])?;
+    view_after(alloc, &mut world, limit, &[Step::Tick(1100)])
 }
 
 fn each_fault(
@@ -106,15 +109,9 @@ fn each_fault(
     limit: u64,
     writes: u64,
 ) -> Result<(), Fail> {
-    let mut world = disk(alloc, slot0, &[], &[])?;
-    let Ok(before) = view_of(alloc, &mut world, limit)? else {
-        return Err("not loaded".into());
-    };
-    let begin = world.events().len() as u64;
-    assert_eq!(rt; take(alloc, &mut world, limit, Step::Tick(1100))?, Ok(()));
-    let Ok(after) = view_of(alloc, &mut world, limit)? else {
-        return Err("not loaded".into());
-    };
+    let before = view_before(alloc, slot0, limit)?;
+    let after = view_with(alloc, slot0, limit)?;
+    let begin = calls(alloc, slot0, limit)?;
     for call in begin..begin.saturating_add(writes) {
         fails_at(rt, alloc, slot0, limit, call, (&before, &after))?;
     }

@@ -1,7 +1,7 @@
 //! Inputs that an engine takes, and a stop at each call.
 
 use crate::bytes::{BANS, TICK};
-use crate::play::{disk, is_either, view_of};
+use crate::play::{disk, is_either, loaded_view};
 use crate::steps::{Step, view_after};
 use f2b_base::View;
 use f2b_mem::MemWorld;
@@ -67,15 +67,13 @@ fn each_stop(
     world: &mut MemWorld,
     step: Step,
 ) -> Result<(), Fail> {
-    let Ok(before) = view_of(alloc, world, row.limit)? else {
-        return Err(row.name.into());
-    };
+    let before = loaded_view(alloc, world, row.limit)?;
     let begin = world.events().len() as u64;
     let after = view_after(alloc, world, row.limit, &[step])?;
     let end = world.events().len() as u64;
     for at in begin..=end {
         let views = expected((begin, at, end), &before, &after);
-        is_either(rt, alloc, world, at, row.limit, views)?;
+        is_either(rt, alloc, row.name, world, at, row.limit, views)?;
     }
     Ok(())
 }

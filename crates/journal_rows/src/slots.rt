@@ -1,10 +1,12 @@
 //! Slots that are read from their front.
+ghost use Rattle.slot_reader.specs.Windows.{Shows};
 
 use crate::bytes::{BAD, BANS, OLD_VERSION, SHUT, TICK};
 use crate::play::disk;
-use f2b_base::{Bytes, What};
+use f2b_base::{Bytes, Input, What};
+use f2b_world::Disk;
 use journal_slots::Head;
-use slot_reader::{Checked, Fault, Next, OpenSlot, Opening, Version, check, open};
+use slot_reader::{Checked, Fault, Next, OpenSlot, Opening, SlotReader, Version, check, open};
 use std::alloc::Global;
 use std::process::Abort;
 use std::test::Fail;
@@ -65,20 +67,60 @@ fn a_slot_is_empty_or_open_up_to_its_closed_gate_or_bad(rt: HostRuntime) -> Resu
     are_checked(&rt, rt.alloc(), &SLOTS)
 }
 
+/// What came of a slot behind its view.
+#[derive(Clone, Copy, Debug, PartialEq, Eq)]
+enum Came {
+    /// That time passed, at this moment.
+    Tick(u64),
+    Another,
+    Closed,
+    Bad(u64),
+}
+
+fn came_of(input: &Input) -> Came {
+    match input.what {
+        What::Tick => Came::Tick(input.secs),
+        _ => Came::Another,
+    }
+}
+
+fn next_came<D: Disk>(alloc: Global, disk: &mut D, reader: &mut SlotReader) -> Result<Came, Fault>
+    requires { Shows reader.old.shown (D.stands disk.old).told }
+    ensures { Shows reader.new.shown (D.stands disk.new).told }
+{
+    match reader.next(alloc, disk)? {
+        Next::Input(input) => Ok(came_of(&input)),
+        Next::Closed => Ok(Came::Closed),
+        Next::Bad(at) => Ok(Came::Bad(at)),
+    }
+}
+
+fn two_came<D: Disk>(alloc: Global, disk: &mut D, reader: SlotReader) -> Result<(Came, Came), Fault>
+    requires { Shows reader.shown (D.stands disk.old).told }
+{
+    let mut reader = reader;
+    let first = next_came(alloc, disk, &mut reader)?;
+    let second = next_came(alloc, disk, &mut reader)?;
+    Ok((first, second))
+}
+
+// Of slot 0: for how long a ban that is over counts, by its view, and what comes behind that.
+fn all_came<D: Disk>(alloc: Global, disk: &mut D) -> Result<Option<(u64, (Came, Came))>, Fault> {
+    match open(alloc, disk, 0)? {
+        Opening::Open(reader, view) => {
+            let came = two_came(alloc, disk, reader)?;
+            Ok(Some((view.defs.purge, came)))
+        }
+        _ => Ok(None),
+    }
+}
+
 #[test]
 fn a_view_and_its_inputs_come_one_by_one(rt: HostRuntime) -> Result<(), Fail> {
-    let alloc = rt.alloc();
-    let mut world = disk(alloc, &TICK, &[], &[])?;
-    let Ok(Opening::Open(mut reader, view)) = open(alloc, &mut world, 0) else {
-        return Err("not open".into());
-    };
-    assert_eq!(rt; view.defs.purge, 86_400);
-    let Ok(Next::Input(input)) = reader.next(alloc, &mut world) else {
-        return Err("no input".into());
-    };
-    assert_eq!(rt; input.secs, 100);
-    assert_eq!(rt; input.what, What::Tick);
-    assert!(rt; matches!(reader.next(alloc, &mut world), Ok(Next::Closed)));
+    let mut world = disk(rt.alloc(), &TICK, &[], &[])?;
+    let is = all_came(rt.alloc(), &mut world);
+    let want = (86_400, (Came::Tick(100), Came::Closed));
+    assert_eq!(&rt; is, Ok(Some(want)));
     Ok(())
 }
 
