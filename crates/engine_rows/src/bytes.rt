@@ -15,6 +15,17 @@ pub const OLD_VERSION: [u8; 26] = [
     1, 0, 0, 0, 0, 0, 0, 0, 1, 1, 0, 0x80, 0xa3, 5, 0, 0, 0, 0, 0, 0, 0, 1, 100, 0, 0, 0,
 ];
 
+/// The first in the last generation.
+pub const LAST: [u8; 26] = [
+    1, 0x40, 0, 0, 0, 0, 0, 0, 0, 2, 0, 0x80, 0xa3, 5, 0, 0, 0, 0, 0, 0, 0, 1, 100, 0, 0, 0,
+];
+
+/// A view whose next id is past 2^62, and a closed gate.
+pub const NO_IDS: [u8; 30] = [
+    1, 0, 0, 0, 0, 0, 0, 0, 1, 2, 0, 0x80, 0xa3, 5, 0, 0, 0, 0, 0, // the view up to its next id
+    0x81, 0x80, 0x80, 0x80, 0x80, 0x80, 0x80, 0x80, 0x40, 0, 0,
+];
+
 /// The first with its own gate closed.
 pub const SHUT: [u8; 26] = [
     0, 0, 0, 0, 0, 0, 0, 0, 1, 2, 0, 0x80, 0xa3, 5, 0, 0, 0, 0, 0, 0, 0, 1, 100, 0, 0, 0,

@@ -15,6 +15,8 @@ mod loads;
 #[cfg(test)]
 mod play;
 #[cfg(test)]
+mod refused;
+#[cfg(test)]
 mod steps;
 #[cfg(test)]
 mod stops;

@@ -1,7 +1,7 @@
 //! What both slots come to.
 
 use crate::bytes::{BANS, NEWER, NO_INPUT, NO_VERSION, OLD_VERSION, SHUT, TICK};
-use crate::play::{NOTHING, Shown, as_shown, disk, view_of};
+use crate::play::{NOTHING, Shown, calls, disk, shown_of};
 use reconcile::LoadError;
 use std::alloc::Global;
 use std::process::Abort;
@@ -86,10 +86,7 @@ const ROWS: [Row; 10] = [
 
 fn is_loaded(rt: &impl Abort, alloc: Global, row: &Row) -> Result<(), Fail> {
     let mut world = disk(alloc, row.slot0, row.slot1, &[])?;
-    let is = match view_of(alloc, &mut world, 1000)? {
-        Ok(view) => Ok(as_shown(&view)),
-        Err(error) => Err(error),
-    };
+    let is = shown_of(alloc, &mut world, 1000);
     assert_eq!(rt; is, row.want, "{}", row.name);
     Ok(())
 }
@@ -109,23 +106,16 @@ fn an_engine_is_what_both_slots_come_to(rt: HostRuntime) -> Result<(), Fail> {
 // A load whose call at that place fails.
 fn fails_at(rt: &impl Abort, alloc: Global, slot: &[u8], call: u64) -> Result<(), Fail> {
     let mut world = disk(alloc, slot, &[], &[call])?;
-    let is = view_of(alloc, &mut world, 1000)?;
-    assert_eq!(rt; is.err(), Some(LoadError::DiskFault), "call {call}");
-    assert_eq!(rt;
-        world.events().len() as u64,
-        call.saturating_add(1),
-        "call {call}"
-    );
+    let is = shown_of(alloc, &mut world, 1000);
+    assert_eq!(rt; is, Err(LoadError::DiskFault), "call {call}");
+    let made = world.events().len() as u64;
+    assert_eq!(rt; made, call.saturating_add(1), "call {call}");
     Ok(())
 }
 
 // Each call that loads an engine may fail.
 fn each_fails(rt: &impl Abort, alloc: Global, slot: &[u8]) -> Result<(), Fail> {
-    let mut world = disk(alloc, slot, &[], &[])?;
-    let is = view_of(alloc, &mut world, 1000)?;
-    assert!(rt; is.is_ok());
-    let calls = world.events().len() as u64;
-    for call in 0..calls {
+    for call in 0..calls(alloc, slot, 1000)? {
         fails_at(rt, alloc, slot, call)?;
     }
     Ok(())

@@ -6,6 +6,7 @@ use f2b_mem::{Image, MemWorld, Script};
 use f2b_world::Disk;
 use reconcile::{Engine, LoadError};
 use std::alloc::Global;
+use std::process::Abort;
 use std::test::Fail;
 
 // Of the slots of this image, where the calls at these places fail.
@@ -50,15 +51,72 @@ pub fn after_stop(
 }
 
 /// The view of the engine that a disk gives.
-pub fn view_of<D: Disk>(
+pub fn view_of<D: Disk>(alloc: Global, disk: &mut D, limit: u64) -> Result<View, LoadError> {
+    let engine = Engine::load(alloc, disk, limit)?;
+    let view = engine.core().view()?;
+    Ok(view)
+}
+
+/// The same where it is loaded.
+pub fn loaded_view(alloc: Global, world: &mut MemWorld, limit: u64) -> Result<View, Fail> {
+    match view_of(alloc, world, limit) {
+        Ok(view) => Ok(view),
+        Err(_) => Err("not loaded".into()),
+    }
+}
+
+/// What the view shows of the engine that a disk gives.
+pub fn shown_of<D: Disk>(alloc: Global, disk: &mut D, limit: u64) -> Result<Shown, LoadError> {
+    let view = view_of(alloc, disk, limit)?;
+    Ok(as_shown(&view))
+}
+
+/// How many calls load the engine of a slot 0.
+pub fn calls(alloc: Global, slot0: &[u8], limit: u64) -> Result<u64, Fail> {
+    let mut world = disk(alloc, slot0, &[], &[])?;
+    let Ok(_) = shown_of(alloc, &mut world, limit) else {
+        return Err("not loaded".into());
+    };
+    Ok(world.events().len() as u64)
+}
+
+/// Whether the engine that a disk gives has one of two views.
+pub fn has_either<D: Disk>(
     alloc: Global,
     disk: &mut D,
     limit: u64,
-) -> Result<Result<View, LoadError>, Fail> {
-    match Engine::load(alloc, disk, limit) {
-        Ok(engine) => Ok(Ok(engine.core().view()?)),
-        Err(error) => Ok(Err(error)),
+    views: (&View, &View),
+) -> Result<bool, LoadError> {
+    let view = view_of(alloc, disk, limit)?;
+    Ok(view == *views.0 || view == *views.1)
+}
+
+/// How many of the unsynced bytes a stop keeps, and what the others are.
+const TEARS: [(u32, u8); 6] = [
+    (0, 0),
+    (0, 255),
+    (1, 0),
+    (1, 255),
+    (u32::MAX, 0),
+    (u32::MAX, 255),
+];
+
+/// A stop once so many calls were made: the engine that is loaded then has the one view or the other.
+pub fn is_either(
+    rt: &impl Abort,
+    alloc: Global,
+    name: &str,
+    world: &MemWorld,
+    at: u64,
+    limit: u64,
+    views: (&View, &View),
+) -> Result<(), Fail> {
+    for &(keep, fill) in &TEARS {
+        let mut torn = after_stop(alloc, world, at, keep, fill)?;
+        let is = has_either(alloc, &mut torn, limit, views);
+        assert_eq!(rt; is, Ok(true), "{name}, {at}, {keep}, {fill}");
     }
+    Ok(())
 }
 
 /// What a view shows, in numbers, of all jails together.

@@ -72,6 +72,22 @@ fn all_taken<D: Disk>(
     Ok(engine)
 }
 
+/// What comes of an input that an engine takes once it is loaded.
+pub fn take(
+    alloc: Global,
+    world: &mut MemWorld,
+    limit: u64,
+    step: Step,
+) -> Result<Result<(), EngineError>, Fail> {
+    let Ok(engine) = Engine::load(alloc, world, limit) else {
+        return Err("not loaded".into());
+    };
+    match taken(alloc, world, engine, step) {
+        Ok(_) => Ok(Ok(())),
+        Err(error) => Ok(Err(error)),
+    }
+}
+
 /// The view of an engine that is loaded and takes inputs.
 pub fn view_after(
     alloc: Global,

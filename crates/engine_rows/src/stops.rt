@@ -1,7 +1,7 @@
-//! An input that an engine takes, and a stop at each call.
+//! Inputs that an engine takes, and a stop at each call.
 
 use crate::bytes::{BANS, TICK};
-use crate::play::{after_stop, disk, view_of};
+use crate::play::{disk, is_either, loaded_view};
 use crate::steps::{Step, view_after};
 use f2b_base::View;
 use f2b_mem::MemWorld;
@@ -9,90 +9,86 @@ use std::alloc::Global;
 use std::process::Abort;
 use std::test::Fail;
 
-// Slot 0, the limit of a slot, and the input.
+// Slot 0, the limit of a slot, and inputs.
 struct Row {
     name: &'static str,
     slot0: &'static [u8],
     limit: u64,
-    step: Step,
+    steps: &'static [Step],
 }
 
 const ROWS: [Row; 4] = [
     Row {
-        name: "the first input of all",
+        name: "the first inputs of all",
         slot0: &[],
-        limit: 30,
-        step: Step::Tick(200),
+        limit: 1000,
+        steps: &[Step::Tick(200), Step::Config(300, 400), Step::Tick(500)],
     },
     Row {
-        name: "an append",
+        name: "the second of each two changes slots",
         slot0: &TICK,
         limit: 31,
-        step: Step::Tick(200),
+        steps: &[Step::Tick(110), Step::Tick(120), Step::Tick(125)],
     },
     Row {
-        name: "a change of slots",
+        name: "each changes slots",
         slot0: &TICK,
         limit: 30,
-        step: Step::Stop(200),
+        steps: &[Step::Tick(200), Step::Tick(300), Step::Stop(400)],
     },
     Row {
-        name: "an append, where a ban ends",
+        name: "a ban ends, and is over",
         slot0: &BANS,
         limit: 200,
-        step: Step::Tick(1100),
+        steps: &[Step::Tick(1100), Step::Stop(1101)],
     },
 ];
 
-// How many of the unsynced bytes a stop keeps, and what the others are.
-const TEARS: [(u32, u8); 6] = [
-    (0, 0),
-    (0, 255),
-    (1, 0),
-    (1, 255),
-    (u32::MAX, 0),
-    (u32::MAX, 255),
-];
+// The views that a stop may leave at a call of an input: before the first call that before it, behind the last one that with it.
+fn expected<'v>(
+    (begin, at, end): (u64, u64, u64),
+    before: &'v View,
+    after: &'v View,
+) -> (&'v View, &'v View) {
+    if at == begin {
+        return (before, before);
+    }
+    if at == end {
+        return (after, after);
+    }
+    (before, after)
+}
 
-// A stop once so many calls were made: the engine that is loaded then has the one view or the other.
-fn is_either(
+// An input is taken, and each call of it may be the last.
+fn each_stop(
     rt: &impl Abort,
     alloc: Global,
     row: &Row,
-    world: &MemWorld,
-    at: u64,
-    views: (&View, &View),
+    world: &mut MemWorld,
+    step: Step,
 ) -> Result<(), Fail> {
-    for &(keep, fill) in &TEARS {
-        let mut torn = after_stop(alloc, world, at, keep, fill)?;
-        let Ok(is) = view_of(alloc, &mut torn, row.limit)? else {
-            return Err("not loaded".into());
-        };
-        assert!(rt;
-            is == *views.0 || is == *views.1,
-            "{}, {at}, {keep}, {fill}",
-            row.name
-        );
+    let before = loaded_view(alloc, world, row.limit)?;
+    let begin = world.events().len() as u64;
+    let after = view_after(alloc, world, row.limit, &[step])?;
+    let end = world.events().len() as u64;
+    for at in begin..=end {
+        let views = expected((begin, at, end), &before, &after);
+        is_either(rt, alloc, row.name, world, at, row.limit, views)?;
     }
     Ok(())
 }
 
-fn each_stop(rt: &impl Abort, alloc: Global, row: &Row) -> Result<(), Fail> {
+fn each_step(rt: &impl Abort, alloc: Global, row: &Row) -> Result<(), Fail> {
     let mut world = disk(alloc, row.slot0, &[], &[])?;
-    let Ok(before) = view_of(alloc, &mut world, row.limit)? else {
-        return Err("not loaded".into());
-    };
-    let after = view_after(alloc, &mut world, row.limit, &[row.step])?;
-    let calls = world.events().len() as u64;
-    for at in 0..=calls {
-        is_either(rt, alloc, row, &world, at, (&before, &after))?;
+    for &step in row.steps {
+        each_stop(rt, alloc, row, &mut world, step)?;
     }
     Ok(())
 }
 
 fn each_row(rt: &impl Abort, alloc: Global, rows: &[Row]) -> Result<(), Fail> {
     for row in rows {
-        each_stop(rt, alloc, row)?;
+        each_step(rt, alloc, row)?;
     }
     Ok(())
 }

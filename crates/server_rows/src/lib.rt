@@ -23,6 +23,8 @@ mod limits;
 #[cfg(test)]
 mod play;
 #[cfg(test)]
+mod stops;
+#[cfg(test)]
 mod tests;
 #[cfg(test)]
 mod trees;

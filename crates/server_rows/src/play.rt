@@ -24,15 +24,6 @@ pub struct Given<'a> {
     pub fails: &'a [u64],
 }
 
-/// How a run ended, and what it said.
-#[derive(Drop)]
-struct Played {
-    status: u8,
-    said: Bytes,
-    /// Whether its world is still told.
-    told: bool,
-}
-
 /// The configuration of these files, which stand in byte order of their paths.
 pub fn tree(alloc: Global, conf: &[File<'_>]) -> Result<TreeAnswer, Fail> {
     let mut files = Seq::new(alloc);
@@ -74,33 +65,39 @@ fn readings(alloc: Global, secs: &[u64]) -> Result<Seq<Reading>, Fail> {
     Ok(readings)
 }
 
-fn world(
-    alloc: Global,
-    tree: TreeAnswer,
-    secs: &[u64],
-    changes: Seq<FileChange>,
-    children: Seq<ChildPlan>,
-    fails: &[u64],
-) -> Result<MemWorld, Fail> {
+/// Slots in which nothing is stored.
+pub fn nothing(alloc: Global) -> Image {
+    Image {
+        slot0: Bytes::new(alloc),
+        slot1: Bytes::new(alloc),
+    }
+}
+
+fn words(alloc: Global, text: &str) -> Result<Vec<String>, Fail> {
+    let mut words = Vec::new(alloc);
+    for word in text.split_whitespace() {
+        words.push(String::from_str(alloc, word)?)?;
+    }
+    Ok(words)
+}
+
+fn world(alloc: Global, given: Given<'_>, image: Image) -> Result<MemWorld, Fail> {
     let mut trees = Seq::new(alloc);
-    trees.push(tree)?;
+    trees.push(given.tree)?;
     let script = Script {
-        readings: readings(alloc, secs)?,
+        readings: readings(alloc, given.readings)?,
         trees,
-        changes,
-        children,
+        changes: given.changes,
+        children: given.children,
         clients: Seq::new(alloc),
-        fails: Seq::from(fails.to_vec(alloc)?),
-        image: Image {
-            slot0: Bytes::new(alloc),
-            slot1: Bytes::new(alloc),
-        },
+        fails: Seq::from(given.fails.to_vec(alloc)?),
+        image,
     };
     Ok(MemWorld::new(alloc, script)?)
 }
 
 /// What was said without a fault.
-fn said(alloc: Global, events: &[Event]) -> Result<Bytes, Fail> {
+pub fn said(alloc: Global, events: &[Event]) -> Result<Bytes, Fail> {
     let mut said = Bytes::new(alloc);
     for event in events {
         if let Event::Say {
@@ -114,30 +111,28 @@ fn said(alloc: Global, events: &[Event]) -> Result<Bytes, Fail> {
     Ok(said)
 }
 
-fn play(alloc: Global, given: Given<'_>) -> Result<Played, Fail> {
-    let Given {
-        words: text,
-        tree,
-        readings,
-        changes,
-        children,
-        fails,
-    } = given;
-    let mut words = Vec::new(alloc);
-    for word in text.split_whitespace() {
-        words.push(String::from_str(alloc, word)?)?;
-    }
-    let mut world = world(alloc, tree, readings, changes, children, fails)?;
+/// A run over slots that hold this, and its world behind it.
+pub fn play_over(alloc: Global, given: Given<'_>, image: Image) -> Result<(u8, MemWorld), Fail> {
+    let words = words(alloc, given.words)?;
+    let mut world = world(alloc, given, image)?;
     let status = server(alloc, words.as_slice(), &mut world);
-    Ok(Played {
-        status: status.number(),
-        said: said(alloc, world.events())?,
-        told: world.is_told(),
-    })
+    Ok((status.number(), world))
+}
+
+/// Whether a run over these slots ends with this status and says this.
+pub fn is_said_over(
+    alloc: Global,
+    given: Given<'_>,
+    image: Image,
+    status: u8,
+    want: &str,
+) -> Result<bool, Fail> {
+    let (ended, world) = play_over(alloc, given, image)?;
+    let said = said(alloc, world.events())?;
+    Ok(world.is_told() && ended == status && said.as_slice() == want.as_bytes())
 }
 
 /// Whether a run ends with this status and says this.
 pub fn is_as_wanted(alloc: Global, given: Given<'_>, status: u8, said: &str) -> Result<bool, Fail> {
-    let played = play(alloc, given)?;
-    Ok(played.told && played.status == status && played.said.as_slice() == said.as_bytes())
+    is_said_over(alloc, given, nothing(alloc), status, said)
 }

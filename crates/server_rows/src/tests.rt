@@ -130,7 +130,7 @@ const STARTS: [Row; 11] = [
         readings: &[1000],
         fails: &[],
         status: 7,
-        said: "1000 ERROR journal full: 84 of 50\n",
+        said: "1000 ERROR journal full: 83 of 50\n",
     },
     // Each option stands there once.
     Row {
