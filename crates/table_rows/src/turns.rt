@@ -90,6 +90,7 @@ fn no_read_before_the_reply_is_written(rt: HostRuntime) -> Result<(), Fail> {
 fn each_its_own_reply(rt: HostRuntime) -> Result<(), Fail> {
     let mut clients = ClientTable::new(rt.alloc());
     for conn in [7, 3, 9] {
+        assert!(rt; !clients.is_full(), "at {conn}");
         clients.accept(conn, 100)?;
     }
     let no = answer_of(rt.alloc(), false, "no")?;
