@@ -1,6 +1,8 @@
-"""Has the server ban many addresses by a command that does nothing, and prints what that took.
+"""Has the server ban many addresses by a command that does nothing, and starts it over what it keeps of them, and prints what that took.
 
-    bans.py SERVER
+    bans.py SERVER [FOLDER]
+
+Configurations, logs and the journal lie in folders that are made in FOLDER, and are removed. Each end of a command costs two syncs of their disk.
 """
 
 import os
@@ -9,7 +11,10 @@ import sys
 import tempfile
 import time
 
-BANS = 10_000
+from journal import appends_alone, peak_memory
+
+# As many as the environment says, to see the script at work.
+BANS = int(os.environ.get("BANS", 10_000))
 
 # So many single failures are timed.
 LINES = 50
@@ -30,11 +35,15 @@ failregex = ^ fail from <IP4>$
 
 JAIL = f"{WATCHED}{SECONDS}maxretry = 1\nbantime = 60000\naction = {{actions}}\n"
 
-# The last ban of a jail shows that all before it are made. No command starts a second process.
+# The last ban of a jail shows that all before it are made. No command starts a second process. Where a server is told so by its LANG each
+# command is noted.
 ACTION = """\
 [Definition]
-actionban = case <ip> in {last}) echo >> {place}/<name>-<actname>;; esac
+actionban = case "$LANG"<ip> in again*) echo <ip> >> {place}/again;; *) case <ip> in {last}) echo >> {place}/<name>-<actname>;; esac;; esac
 """
+
+# What is wanted of an idle disk and idle processors: one lane beside as many shells, four lanes side by side, a start, and the way of a line.
+ONE_LANE, FOUR_LANES, START, WAY = 1.4, 0.7, 0.3, 0.045
 
 
 def address(number):
@@ -71,9 +80,26 @@ class Bench:
             with open(f"{self.place}/{jail}.log", "a") as file:
                 file.write(failures(numbers))
 
-    def start(self, server):
+    def start(self, server, *words, **environment):
+        words = [server, "--conf", f"{self.place}/conf", *words]
         with open(f"{self.place}/said", "wb") as said:
-            return subprocess.Popen([server, "--conf", f"{self.place}/conf"], stdin=subprocess.DEVNULL, stdout=said)
+            return subprocess.Popen(words, stdin=subprocess.DEVNULL, stdout=said, env={**os.environ, "LANG": "C", **environment})
+
+    def said(self, process, line, times=1):
+        """Waits until a line that ends so was said so many times, and gives the moment."""
+        while True:
+            with open(f"{self.place}/said") as said:
+                text = said.read()
+            if text.count(f"{line}\n") >= times:
+                return time.monotonic()
+            if process.poll() is not None:
+                sys.exit(f"the server ended with {process.returncode}: {text[-500:]}")
+            time.sleep(0.001)
+
+    def slots(self):
+        """How long both slots of the journal are."""
+        paths = [f"{self.place}/run/journal.{number}" for number in range(2)]
+        return [os.path.getsize(path) if os.path.exists(path) else 0 for path in paths]
 
     def wait(self, process, times=1):
         """Waits until the last ban of each jail was noted so many times, and gives the moment."""
@@ -86,14 +112,9 @@ class Bench:
         return time.monotonic()
 
 
-def peak_memory(process):
-    with open(f"/proc/{process.pid}/status") as status:
-        return next(int(line.split()[1]) for line in status if line.startswith("VmHWM:")) / 1024
-
-
-def bans(server, jails, actions):
+def bans(server, folder, jails, actions):
     """How long it takes until all are banned, whose failures are there before the start, and the most memory that the server has had."""
-    with tempfile.TemporaryDirectory() as place:
+    with tempfile.TemporaryDirectory(dir=folder) as place:
         bench = Bench(place, jails, actions)
         bench.ends_at(BANS // jails - 1)
         bench.fail(range(BANS // jails))
@@ -115,9 +136,64 @@ def shells():
     return time.monotonic() - begin
 
 
-def delays(server):
+def restarted(bench, server, other):
+    """How long a start takes until the server is ready, its memory, and how many commands it runs in the two seconds that follow.
+
+    `other` is an address that is not banned.
+    """
+    begin = time.monotonic()
+    process = bench.start(server, LANG="again")
+    try:
+        took = bench.said(process, "INFO Server ready") - begin
+        peak = peak_memory(process)
+        time.sleep(2)
+        # Whoever is banned is not found any more.
+        bench.fail([0, other])
+        bench.said(process, f"INFO [jail0] Found {address(other)}")
+        with open(f"{bench.place}/said") as said:
+            found = said.read()
+        if f"Found {address(0)}\n" in found or "Unban" in found:
+            sys.exit(f"a ban is lost: {found[:500]}")
+        # Whoever is banned now has his command.
+        run = []
+        while address(other) not in run:
+            time.sleep(0.01)
+            if os.path.exists(f"{bench.place}/again"):
+                with open(f"{bench.place}/again") as file:
+                    run = file.read().split()
+        os.remove(f"{bench.place}/again")
+        return took, peak, len(run) - 1
+    finally:
+        process.kill()
+        process.wait()
+
+
+def starts(server, folder):
+    """Starts over the journal of a server that was killed with its bans active: over one that has them as they came, and over one that has their state."""
+    with tempfile.TemporaryDirectory(dir=folder) as place:
+        bench = Bench(place, 1, 1)
+        bench.ends_at(BANS - 1)
+        bench.fail(range(BANS))
+        process = bench.start(server)
+        bench.wait(process)
+        # The end of the last command is kept within a turn.
+        time.sleep(2)
+        process.kill()
+        process.wait()
+        yield "as they came", bench.slots(), *restarted(bench, server, BANS)
+        # A limit that leaves no room for one input more has the slots changed.
+        process = bench.start(server, "--journal-limit", str(max(bench.slots()) + 40))
+        bench.fail([BANS + 1])
+        bench.said(process, f"NOTICE [jail0] Ban {address(BANS + 1)}")
+        time.sleep(2)
+        process.kill()
+        process.wait()
+        yield "as a state", bench.slots(), *restarted(bench, server, BANS + 2)
+
+
+def delays(server, folder):
     """How long it takes from the last byte of a line to the end of its command, where each line bans one address in a jail of its own."""
-    with tempfile.TemporaryDirectory() as place:
+    with tempfile.TemporaryDirectory(dir=folder) as place:
         bench = Bench(place, 1, 1)
         with open(f"{place}/conf/action.d/note.conf", "w") as file:
             file.write(f"[Definition]\nactionban = echo >> {place}/<name>-<actname>\n")
@@ -137,19 +213,25 @@ def delays(server):
             process.wait()
 
 
-def main(server):
+def main(server, folder):
     took = shells()
-    print(f"{BANS:,} times sh -c true: {took:.2f} s; {os.cpu_count()} cores")
-    print(f"{'':28} {'s':>7} {'times sh':>9} {'peak MiB':>9}")
-    for jails, actions in [(1, 1), (4, 1), (1, 2), (1, 4)]:
-        wall, peak = bans(server, jails, actions)
+    print(f"{BANS:,} times sh -c true: {took:.2f} s; {os.cpu_count()} cores, load {os.getloadavg()[0]:.1f}")
+    rate = appends_alone(folder, 20)
+    print(f"the disk by itself takes {rate:.0f} ends of commands a second, with two syncs each: {BANS / rate:.2f} s for {BANS:,}")
+    print(f"{'':28} {'s':>7} {'times sh':>9} {'goal':>5} {'peak MiB':>9}")
+    for jails, actions, goal in [(1, 1, ONE_LANE), (4, 1, FOUR_LANES), (1, 2, None), (1, 4, None)]:
+        wall, peak = bans(server, folder, jails, actions)
         what = f"{jails} jail{'s' * (jails > 1)}, {actions} action{'s' * (actions > 1)}"
-        print(f"{what:28} {wall:7.2f} {wall / took:9.2f} {peak:9.1f}")
-    took = delays(server)
-    print(f"from a line to the end of its command: {took[LINES // 2] * 1000:.0f} ms at the median, {took[-1] * 1000:.0f} ms at most, of {LINES}")
+        print(f"{what:28} {wall:7.2f} {wall / took:9.2f} {goal or '':>5} {peak:9.1f}", flush=True)
+    print(f"{'start with ' + format(BANS, ',') + ' bans':28} {'s':>7} {'goal':>15} {'peak MiB':>9} {'commands run':>13}  bytes of the slots")
+    for what, lengths, wall, peak, run in starts(server, folder):
+        print(f"{what:28} {wall:7.2f} {START:15} {peak:9.1f} {run:13}  {lengths}", flush=True)
+    took = delays(server, folder)
+    middle, most = (took[at] * 1000 for at in (LINES // 2, -1))
+    print(f"from a line to the end of its command: {middle:.0f} ms at the median (goal {WAY * 1000:.0f}), {most:.0f} ms at most, of {LINES}")
 
 
 if __name__ == "__main__":
-    if len(sys.argv) != 2:
+    if len(sys.argv) not in (2, 3):
         sys.exit(__doc__)
-    main(os.path.abspath(sys.argv[1]))
+    main(os.path.abspath(sys.argv[1]), os.path.abspath(sys.argv[2]) if len(sys.argv) == 3 else tempfile.gettempdir())

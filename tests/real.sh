@@ -1,15 +1,17 @@
 #!/bin/bash
 # What no clause can say of the real outside: the programs over real files, pipes, clocks and signals, in folders of its own.
-# tests/real.sh makes all checks, tests/real.sh WORD those whose sentence has the word. It takes the proved server where that stands, and
-# else builds the same sources with checks and without proofs. The pattern tester is tried where it stands. Nothing is proved here.
+# tests/real.sh makes all checks, tests/real.sh WORD those whose sentence has the word. It takes the proved server and client where they
+# stand, and else builds the same sources with checks and without proofs; SERVER=PATH names another server. The pattern tester is tried where
+# it stands. Nothing is proved here.
 set -eu
 cd "$(dirname "$0")/.."
-server=$(tests/program.sh fail2ban_server)
+server=${SERVER:-$(tests/program.sh fail2ban_server)}
+client=$(tests/program.sh fail2ban_client)
 tester=
 for path in crates/fail2ban_regex/out/fail2ban_regex out/checked/fail2ban_regex; do
     if [ -x "$path" ] && [ -z "$tester" ]; then
         tester=$path
     fi
 done
-echo "real: the server is ${server#"$PWD/"}, and the tester is ${tester:-not there}"
-exec python3 -B tests/real "$server" "$tester" "$@"
+echo "real: the server is ${server#"$PWD/"}, the client is ${client#"$PWD/"}, and the tester is ${tester:-not there}"
+exec python3 -B tests/real "$server" "$client" "$tester" "$@"

@@ -1,7 +1,7 @@
 """What no clause can say of the real outside: the programs over real files, pipes, clocks and signals.
 
-    python3 tests/real SERVER TESTER         makes all checks; TESTER may be empty
-    python3 tests/real SERVER TESTER WORD    makes those whose sentence has the word
+    python3 tests/real SERVER CLIENT TESTER         makes all checks; TESTER may be empty
+    python3 tests/real SERVER CLIENT TESTER WORD    makes those whose sentence has the word
 
 A line for each check, and a last one with how many passed and failed. Each check has a folder of its own, and waits for what has to come
 and not for seconds, so a busy machine makes it slow and not wrong.
@@ -13,10 +13,12 @@ import tempfile
 import traceback
 from concurrent.futures import ThreadPoolExecutor
 
+import client
 import clock
 import commands
 import configuration
 import ends
+import journal
 import jumps
 import logs
 import output
@@ -33,7 +35,9 @@ CHECKS = [
     *logs.CHECKS,
     *output.CHECKS,
     *commands.CHECKS,
+    *journal.CHECKS,
     *jumps.CHECKS,
+    *client.CHECKS,
     *tester.CHECKS,
 ]
 
@@ -69,6 +73,6 @@ def main(programs, word):
 
 
 if __name__ == "__main__":
-    if len(sys.argv) not in (3, 4):
+    if len(sys.argv) not in (4, 5):
         sys.exit(__doc__)
-    sys.exit(main([os.path.abspath(path) if path else "" for path in sys.argv[1:3]], "".join(sys.argv[3:])))
+    sys.exit(main([os.path.abspath(path) if path else "" for path in sys.argv[1:4]], "".join(sys.argv[4:])))

@@ -7,7 +7,7 @@ import signal
 import subprocess
 import time
 
-from room import Skipped, as_nobody, failures, same, wait_for, want, write
+from room import Skipped, failures, same, wait_for, want, write
 
 ADDRESS = "192.0.2.7"
 
@@ -323,7 +323,7 @@ def no_process_is_to_be_had(room):
     def limit():
         resource.setrlimit(resource.RLIMIT_NPROC, (0, 0))
 
-    with room.server(preexec_fn=limit, **as_nobody()) as server:
+    with room.server(preexec_fn=limit, **room.as_nobody()) as server:
         ban(room)
         server.wait_said("ERROR [web/note] ban failed: not started", 3)
         server.wait_said("ERROR [web/note] ban given up")
@@ -420,7 +420,7 @@ def pauses_are_made_behind_commands(room):
 
 def a_log_is_watched(room):
     """a failure that is written while the server pauses is found before the pause is over"""
-    took = []
+    took, own = [], []
     with room.server() as server:
         server.turn()
         for number in range(20):
@@ -431,7 +431,19 @@ def a_log_is_watched(room):
                 want(time.monotonic() < begin + 60, "not found")
                 time.sleep(0.001)
             took.append(time.monotonic() - begin)
-    want(sorted(took)[10] < 0.1, f"took {sorted(took)}")
+            own.append(step_and_append(room))
+    want(sorted(took)[10] < 0.075 + sorted(own)[10], f"took {sorted(took)}, and a step and an append by themselves {sorted(own)}")
+
+
+def step_and_append(room):
+    """How many seconds it takes here now to wait for 25 milliseconds, and to write twice to a file and sync it."""
+    begin = time.monotonic()
+    time.sleep(0.025)
+    with open(room.path("synced"), "ab", buffering=0) as file:
+        for _ in range(2):
+            file.write(b"x" * 100)
+            os.fdatasync(file.fileno())
+    return time.monotonic() - begin
 
 
 CHECKS = [

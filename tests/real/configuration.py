@@ -2,7 +2,7 @@
 
 import os
 
-from room import JAIL, as_nobody, failures, same, write
+from room import JAIL, failures, same, write
 
 READY = ["INFO Server ready"]
 TOO_LARGE = ["ERROR Configuration too large"]
@@ -87,11 +87,12 @@ def wildcard_takes_64(room):
 def wildcard_has_no_directory(room):
     """of a wildcard's directory that is not there nothing is said, and of one that may not be read one line"""
     room.configure(log=room.path("logs/*.log"))
-    room.ends(0, READY, "--conf", room.conf, "--turns", "2")
+    how = room.as_nobody()
+    room.ends(0, READY, "--conf", room.conf, "--turns", "2", **how)
     os.mkdir(room.path("logs"))
     os.chmod(room.path("logs"), 0)
     path = room.path("logs/*.log")
-    status, said, _errors = room.run("--conf", room.conf, "--turns", "2", **as_nobody())
+    status, said, _errors = room.run("--conf", room.conf, "--turns", "2", **how)
     said = [line.split(" ", 1)[1] for line in said.splitlines()]
     same((status, said), (0, [f"WARNING [web] cannot read {path}", *READY]), "said")
 

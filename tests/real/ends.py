@@ -66,20 +66,29 @@ def configuration_is_refused(room):
 
 
 def who_sits_at_a_terminal_is_helped(room):
-    """where standard error is a terminal, wrong words and a refused configuration have a sentence of help there, and elsewhere none"""
-    room.configure(bantime="soon")
-    for words, wanted in [
-        (["--turns"], "fail2ban-server --help lists the words\r\n"),
-        (["--conf", room.conf], "seconds, or terms as 1d 12h 30m"),
-    ]:
+    """where standard error is a terminal who can mend what ended the server has a sentence of help there, and elsewhere none"""
+
+    def helped(wanted, *words, status):
         controller, terminal = os.openpty()
         try:
-            subprocess.run([*room.starter, room.program, *words], stdout=subprocess.DEVNULL, stderr=terminal, timeout=PATIENCE)
+            ended = subprocess.run([*room.starter, room.program, *words], stdout=subprocess.DEVNULL, stderr=terminal, timeout=PATIENCE, check=False)
             os.close(terminal)
+            same(ended.returncode, status, f"status with {words}")
             same(os.read(controller, 4096).decode()[: len(wanted)], wanted, words)
         finally:
             os.close(controller)
         same(room.run(*words)[2], "", words)
+
+    helped("fail2ban-server --help lists the words\r\n", "--turns", status=2)
+    room.configure(bantime="soon")
+    helped("seconds, or terms as 1d 12h 30m", "--conf", room.conf, status=4)
+    room.configure()
+    helped("--journal-limit BYTES lets it get longer\r\n", "--conf", room.conf, "--journal-limit", "1", status=7)
+    write(room.path("run/journal.1"), b"\xff" * 17)
+    helped("to begin with nothing take journal.0 and journal.1 away", "--conf", room.conf, status=6)
+    os.remove(room.path("run/journal.1"))
+    with room.server():
+        helped("is another server running", "--conf", room.conf, status=5)
 
 
 def pattern_is_refused(room):
@@ -106,12 +115,20 @@ def memory_runs_out(room):
 
 def a_signal_ends(room):
     """each signal that ends ends at once, with the lines so far whole; a pipe's does nothing"""
-    for number in [signal.SIGTERM, signal.SIGINT, signal.SIGHUP, signal.SIGQUIT, signal.SIGUSR1, signal.SIGALRM]:
-        with room.server() as server:
+    numbers = [signal.SIGTERM, signal.SIGINT, signal.SIGHUP, signal.SIGQUIT, signal.SIGUSR1, signal.SIGALRM]
+
+    def by_default():
+        # Whoever starts the checks may ignore some, as `nohup` does.
+        for number in numbers:
+            signal.signal(number, signal.SIG_DFL)
+
+    for number in numbers:
+        with room.server(preexec_fn=by_default) as server:
             server.signal(signal.SIGPIPE)
             server.turn()
-            write(room.log, failures("192.0.2.7"), "a")
-            server.wait_said("INFO [web] Found 192.0.2.7")
+            # Each has an address of its own: what one server counts the next one knows.
+            write(room.log, failures(f"192.0.2.{number}"), "a")
+            server.wait_said(f"INFO [web] Found 192.0.2.{number}")
             server.signal(number)
             server.wait_ended(-number)
             same(server.text()[-1:], "\n", "the last byte")

@@ -1,5 +1,6 @@
 """A clock that jumps while the server runs: the program's own clock, by a library that is loaded before the C library."""
 
+import contextlib
 import os
 import shutil
 import subprocess
@@ -94,8 +95,32 @@ def a_clock_is_not_set_yet(room):
         want(server.moment(UNBAN) >= time.time() - 60, "the moment is not that of the machine's clock")
 
 
+def a_start_goes_on_at_the_latest_moment(room):
+    """a start with a clock that was set back goes on at the latest moment that was kept, and one with both files away at the clock's"""
+    jumps = Jumps(room, DAY)
+    with room.server(**jumps.how) as server:
+        write(room.log, failures(ADDRESS, ADDRESS, ADDRESS, ahead=DAY), "a")
+        server.wait_said(BAN)
+        banned = server.moment(BAN)
+    jumps.set(0)
+    with room.server(**jumps.how) as server:
+        write(room.log, failures("192.0.2.8") + failures("192.0.2.9", ahead=DAY), "a")
+        server.wait_said("INFO [web] Found 192.0.2.9")
+        same(server.said(), [READY, "INFO [web] Found 192.0.2.9"], "said behind the kept moment")
+        want(server.moment(READY) >= banned, f"ready at {server.moment(READY)}, behind a ban at {banned}")
+    for number in range(2):
+        with contextlib.suppress(FileNotFoundError):
+            os.remove(room.path(f"run/journal.{number}"))
+    os.remove(room.log)
+    with room.server(**jumps.how) as server:
+        want(abs(server.moment(READY) - time.time()) < DAY / 2, f"ready at {server.moment(READY)}")
+        ban(room)
+        server.wait_said(BAN)
+
+
 CHECKS = [
     a_clock_jumps_ahead,
     a_clock_jumps_back,
     a_clock_is_not_set_yet,
+    a_start_goes_on_at_the_latest_moment,
 ]

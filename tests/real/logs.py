@@ -2,7 +2,7 @@
 
 import os
 
-from room import as_nobody, failures, same, want, write
+from room import failures, same, want, write
 
 READY = "INFO Server ready"
 
@@ -123,7 +123,7 @@ def log_may_not_be_read(room):
     """a log that may not be read is said, and goes on when it may, with what was written meanwhile"""
     write(room.log, failures("192.0.2.1"))
     write(room.path("probe.log"), "")
-    with room.server(**as_nobody()) as server:
+    with room.server(**room.as_nobody()) as server:
         server.wait_said(found("192.0.2.1"))
         os.chmod(room.log, 0)
         server.wait_said(unread(room))
@@ -152,8 +152,9 @@ def log_is_of_another_kind(room):
             server.turn()
             (os.rmdir if number == 0 else os.remove)(room.log)
             server.turn()
-            write(room.log, failures("192.0.2.7"))
-            server.wait_said(found("192.0.2.7"))
+            # Each has an address of its own: what one server counts the next one knows.
+            write(room.log, failures(f"192.0.2.{number}"))
+            server.wait_said(found(f"192.0.2.{number}"))
         os.remove(room.log)
 
 

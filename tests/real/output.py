@@ -24,23 +24,36 @@ def output_becomes_full(room):
     """where the disk of standard output becomes full in the middle of some lines the server ends with status 9"""
     write(room.log, failures(*[f"192.0.2.{number}" for number in range(1, 101)]))
 
+    # The limit is one for all files. So the output goes on far behind the beginning of its file, and the journal stays well below that.
+    before = 1 << 20
+
     def limit():
-        resource.setrlimit(resource.RLIMIT_FSIZE, (200, 200))
+        resource.setrlimit(resource.RLIMIT_FSIZE, (before + 200, before + 200))
 
     # The signal of that limit stays ignored, as it is here, so that writes end as on a full disk.
     with open(room.path("said"), "wb") as said:
+        said.seek(before)
         status, _said, errors = room.run(*room.words()[1:], stdout=said, preexec_fn=limit, restore_signals=False)
     same((status, errors), (9, ""), "end")
-    same(os.path.getsize(room.path("said")), 200, "bytes that were written")
+    same(os.path.getsize(room.path("said")), before + 200, "bytes that were written")
 
 
 def output_is_closed(room):
-    """where standard output is closed at the start the server ends with status 9, and writes into no file"""
+    """where standard output is closed at the start the server ends with status 9, and writes into no file, whatever else is closed"""
     write(room.log, failures("192.0.2.7"))
-    for words in [["--conf", room.conf], ["--version"]]:
-        status, _said, errors = room.run(*words, stdout=None, preexec_fn=lambda: os.close(1))
-        same((status, errors), (9, ""), f"{words}")
+    for closed in [(1,), (0, 1), (1, 2), (0, 1, 2)]:
+
+        def close():
+            for number in closed:
+                os.close(number)
+
+        for words in [["--conf", room.conf], ["--version"]]:
+            status, _said, errors = room.run(*words, stdin=None, stdout=None, preexec_fn=close)
+            same((status, errors), (9, ""), f"{words} without {closed}")
     same(os.path.getsize(room.log), len(failures("192.0.2.7")), "bytes of the log")
+    same(os.path.getsize(room.path("run/journal.lock")), 0, "bytes of the lock")
+    # What was not said is kept all the same, and the journal is one.
+    room.ends(0, ["INFO Server ready", "INFO [web] Found 192.0.2.7"], "--conf", room.conf, "--turns", "2")
 
 
 def reader_has_gone(room):

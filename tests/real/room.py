@@ -101,8 +101,9 @@ def as_nobody():
 class Room:
     """A folder with a configuration and a log, both readable by all, and the programs to be run over them."""
 
-    def __init__(self, program, tester, place):
+    def __init__(self, program, client, tester, place):
         self.program = program
+        self.client = client
         self.tester = tester
         self.place = place
         self.conf = os.path.join(place, "conf")
@@ -121,6 +122,14 @@ class Room:
 
     def path(self, name):
         return os.path.join(self.place, name)
+
+    def as_nobody(self):
+        """How to start a server that may read only what all may, and that has a directory of its own for its journal."""
+        how = as_nobody()
+        os.makedirs(self.path("run"), mode=0o700, exist_ok=True)
+        if how:
+            os.chown(self.path("run"), NOBODY, NOBODY)
+        return how
 
     def words(self, *more):
         return [*self.starter, self.program, "--conf", self.conf, *more]

@@ -10,6 +10,9 @@ pub fn advice(status: &Status) -> Option<&'static str> {
         Status::DiskFault => Some(
             "is another server running, and may this one write beside the socket of its configuration?",
         ),
+        Status::NotAJournal { .. } => Some(
+            "to begin with nothing take journal.0 and journal.1 away, beside the socket of its configuration",
+        ),
         Status::JournalFull { .. } => Some("--journal-limit BYTES lets it get longer"),
         _ => None,
     }

@@ -30,11 +30,13 @@ mod watched;
 mod words;
 
 use advice::advice;
+use fault::Fault;
 use output::write_whole;
 use real::RealWorld;
 use server_top::server;
 use std::alloc::{AllocError, Global};
 use std::fs;
+use std::fs::File;
 use std::process::ExitCode;
 use std::rt::Stderr;
 use words::Call;
@@ -55,6 +57,11 @@ fn main(rt: HostRuntime) -> ExitCode {
         Ok(Call::Server(words)) => {
             let alloc = rt.alloc();
             let errors = standard_error(&rt);
+            let _numbers = match take_numbers(&rt) {
+                Ok(numbers) => numbers,
+                Err(Fault::NoMemory) => return ExitCode::from(NO_MEMORY),
+                Err(Fault::Absent | Fault::Failed) => return ExitCode::from(SINK_FAULT),
+            };
             let mut world = RealWorld::new(rt, errors);
             let status = server(alloc, words.as_slice(), &mut world);
             world.end_commands();
@@ -64,6 +71,24 @@ fn main(rt: HostRuntime) -> ExitCode {
             status.number()
         }
         Err(_) => NO_MEMORY,
+    })
+}
+
+/// What has the numbers of standard streams that the server was started without.
+#[derive(Drop)]
+struct Numbers {
+    first: File,
+    second: File,
+    third: File,
+}
+
+/// Takes the numbers of standard streams that the server was started without, as long as the value stands: else a file of the journal would
+/// get one of them, and what is said would be written there. To what has them then nothing can be written.
+fn take_numbers(rt: &HostRuntime) -> Result<Numbers, Fault> {
+    Ok(Numbers {
+        first: File::open(rt, "/dev/null")?,
+        second: File::open(rt, "/dev/null")?,
+        third: File::open(rt, "/dev/null")?,
     })
 }
 

@@ -17,13 +17,27 @@ pub fn directory_of(path: &str) -> &str {
     }
 }
 
-/// Makes a directory, with those above it, for its owner alone, where it is not there. Then the entry of it is over a stop.
-pub fn make_directory<R: Files>(rt: &R, dir: &str) -> Result<(), Fault> {
+/// Makes a directory, with those above it, each for its owner alone, where they are not there. Then the entries of those that were made are
+/// over a stop.
+pub fn make_directory<R: Files + AllocGlobal>(rt: &R, dir: &str) -> Result<(), Fault> {
+    let mut path = String::new(rt.alloc());
+    for name in dir.split('/') {
+        path.push_str(name)?;
+        // In front of the first slash there is no name.
+        if !path.is_empty() {
+            make_one(rt, path.as_str())?;
+        }
+        path.push('/')?;
+    }
+    Ok(())
+}
+
+/// Makes one directory, where it is not there.
+fn make_one<R: Files>(rt: &R, dir: &str) -> Result<(), Fault> {
     match fs::metadata(rt, dir) {
         Ok(_) => Ok(()),
         Err(error) if error.kind() == ErrorKind::NotFound => {
             let mut builder = DirBuilder::new();
-            builder.recursive(true);
             builder.mode(0o700);
             builder.create(rt, dir)?;
             sync_directory(rt, directory_of(dir))

@@ -68,6 +68,15 @@ fn handle<'s, R: Files<File = File> + AllocGlobal>(
     Ok(kept.as_mut())
 }
 
+/// How long a file is, in bytes. A pipe and its like are `Failed`: they keep nothing.
+fn file_len(file: &File) -> Result<u64, Fault> {
+    let metadata = file.metadata()?;
+    if !metadata.is_file() {
+        return Err(Fault::Failed);
+    }
+    Ok(metadata.len())
+}
+
 /// Exactly so many bytes of a file from an offset on. A file that ends before is `Failed`.
 fn read_range(alloc: Global, file: &mut File, at: u64, len: u64) -> Result<Bytes, Fault>
     ensures whole { IfOk result (λ bytes. length bytes ≡ len) }
@@ -134,14 +143,14 @@ impl Slots {
         handle(rt, dir, "journal.1", &mut self.second, is_new, is_made)
     }
 
-    /// How long a slot is, in bytes: 0 where its file is not there.
+    /// How long a slot is, in bytes: 0 where its file is not there. What is there and is no file is `Failed`.
     pub fn len<R: Files<File = File> + AllocGlobal>(
         &mut self,
         rt: &R,
         slot: u8,
     ) -> Result<u64, Fault> {
         match self.handle(rt, slot, false)? {
-            Some(file) => Ok(file.metadata()?.len()),
+            Some(file) => file_len(file),
             None => Ok(0),
         }
     }

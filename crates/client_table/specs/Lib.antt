@@ -1,0 +1,3 @@
+pub mod Clients
+pub mod Nexts
+pub mod Lives

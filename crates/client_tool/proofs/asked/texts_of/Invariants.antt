@@ -1,0 +1,7 @@
+use Rattle.std.proofs.Common.{◌≡◌, map, take}
+use Rattle.std.specs.Prelude.{string_bytes}
+use Rattle.client_tool.proofs.asked.texts_of.Given as goal
+
+-- a text for each word so far
+abbrev pub invariant-loop-word : goal.invariant-loop-word
+invariant-loop-word l = l.texts ≡ map string_bytes (take l.word-index l.words)

@@ -1,0 +1,69 @@
+//! A request that is sent, and its reply.
+ghost use Rattle.std.specs.Prelude.{◌≡◌, Err, Some, false};
+ghost use Rattle.client_frames.specs.Frames.{AreRequest, request};
+ghost use Rattle.client_frames.specs.declared.error.ReceiveError.TheVariants as error;
+ghost use Rattle.client_tool.specs.Asks.{Request};
+ghost use Rattle.client_tool.specs.Ends.{Ends, MayClose, is_said, status_of};
+ghost use Rattle.client_tool.specs.Lines.{reply_line};
+ghost use Rattle.client_tool.specs.Talks.{IsHeard, SendsAtMost, Talks};
+ghost use Rattle.f2b_world.specs.Faults.{OfLink, Rose};
+
+use crate::line::reply_line;
+use crate::say::say;
+use crate::status::ClientStatus;
+use client_frames::{Answer, ReceiveError, receive_reply, request_frame};
+use f2b_base::{NoMemory, Seq, Text};
+use f2b_world::{Link, Linked, Sink};
+use std::alloc::Global;
+
+/// Sends a request to the server at a path, and receives its reply.
+fn exchange<L: Link>(
+    alloc: Global,
+    socket: &str,
+    words: &Seq<Text>,
+    link: &mut L,
+) -> Result<Answer, ReceiveError>
+    requires { AreRequest words.now }
+    ensures talks { Talks (L.stands link.old) (L.stands link.new) (SendsAtMost (request words.now)) }
+    ensures heard { IsHeard socket.now words.now result (L.stands link.old) (L.stands link.new) }
+    ensures fault { result ≡ Err error.LinkFault → Rose ((L.stands link.old).faults OfLink) ((L.stands link.new).faults OfLink) }
+{
+    let frame = request_frame(alloc, words)?;
+    if let Linked::Failed = link.connect(socket) {
+        return Err(ReceiveError::LinkFault);
+    }
+    if let Linked::Failed = link.send(frame.as_slice()) {
+        return Err(ReceiveError::LinkFault);
+    }
+    receive_reply(alloc, link)
+}
+
+/// Says the reply to these words.
+fn tell<K: Sink>(alloc: Global, words: &Seq<Text>, answer: Answer, sink: &mut K) -> ClientStatus
+    ensures closes { MayClose (reply_line words.now answer) (status_of answer.accepted) (K.stands sink.old) (K.stands sink.new) result }
+    ensures quiet { is_said result ≡ false → sink.new ≡ sink.old }
+{
+    let status = ClientStatus::of_verdict(answer.accepted);
+    match reply_line(alloc, words, answer) {
+        Ok(line) => say(sink, line.as_str(), status),
+        Err(NoMemory) => ClientStatus::NoMemory,
+    }
+}
+
+/// Asks the server at a path, and says its reply.
+pub(crate) fn ask<L: Link, K: Sink>(
+    alloc: Global,
+    socket: &str,
+    words: &Seq<Text>,
+    link: &mut L,
+    sink: &mut K,
+) -> ClientStatus
+    requires { AreRequest words.now }
+    ensures ends { Ends (Some (Request socket.now words.now)) (L.stands link.old) (L.stands link.new) (K.stands sink.old) (K.stands sink.new) result }
+    ensures quiet { is_said result ≡ false → sink.new ≡ sink.old }
+{
+    match exchange(alloc, socket, words, link) {
+        Ok(answer) => tell(alloc, words, answer, sink),
+        Err(error) => ClientStatus::of_failure(error),
+    }
+}
