@@ -1,5 +1,5 @@
 -- Sessions one after the other, from two empty slots on.
-use Rattle.std.proofs.Common.{ℕ, ◌≡◌, List, [], ◌∷◌, ◌++◌, refl}
+use Rattle.std.proofs.Common.{ℕ, List, [], ◌∷◌, ◌++◌, refl}
 use Rattle.f2b_base.specs.declared.input.Input.{Input}
 use Rattle.f2b_model.specs.LaneSound.{never}
 use Rattle.f2b_model.specs.Lists.{AllOf}

@@ -1,5 +1,5 @@
 -- Along a run that begins on a view: its state is the one behind its inputs, and those that a stop may keep can be stored.
-use Rattle.std.proofs.Common.{ℕ, zero, suc, ◌≡◌, ◌<◌, ◌+◌, ◌-◌, ◌⊎◌, inl, inr, Bool, true, false, List, [], ◌∷◌, ◌++◌, take, Option, Some, None, Result, Ok, Err, refl, sym, ap, ◌∙◌, append-nil, subst}
+use Rattle.std.proofs.Common.{ℕ, zero, suc, ◌≡◌, ◌+◌, ◌-◌, ◌⊎◌, inl, inr, Bool, true, false, List, [], ◌∷◌, ◌++◌, Option, Some, None, Result, Ok, Err, refl, sym, ap, ◌∙◌, append-nil, subst}
 use Rattle.std.specs.Prelude.{IfSome, drop, option_to_list, slice_get}
 use Rattle.std.proofs.lemmas.Option.{same_Some}
 use Rattle.f2b_base.specs.declared.input.Input.{Input}
@@ -55,15 +55,13 @@ use Rattle.run_law.specs.Patterns.{Pattern, patterns_of}
 use Rattle.run_law.specs.Pause.{turned}
 use Rattle.run_law.specs.Points.{Place, AtClock, AtLook, AtPoll, AtKill, AtStart, AtPause, Point, AtTree, AtMakes, AtStore, AtFirst, AtNames, AtTurn, Over, Run}
 use Rattle.run_law.specs.Polls.{end_news, ended_as, gone, gone_passed, has_succeeded, killed_at, polled_at, still_point}
-use Rattle.run_law.specs.Refusals.{status_lines}
 use Rattle.run_law.specs.Server.{Server, begun, entry_in, input_at, is_spent, read_at, taken}
 use Rattle.run_law.specs.Start.{defined, first_turn, loads, made, makes_on, names_in, start_news, to_makes, to_names, tree_read, unread_by}
 use Rattle.run_law.specs.Starts.{child_started, with_child, without_child}
 use Rattle.run_law.specs.Stops.{ComesInOrder, ComesTo, IsKept, IsOverAt, IsWrite}
 use Rattle.run_law.specs.Turn.{to_logs, to_looks, to_polls, to_starts}
 use Rattle.run_law.specs.declared.status.Status.{Status}
-use Rattle.run_law.specs.declared.status.Status.TheVariants.{TurnsSpent, ConfFault, ConfRefused, DiskFault, NotAJournal, JournalFull, SinkFault, ConfTooLarge, PatternRefused, NumbersSpent}
-use Rattle.run_law.proofs.DiskLemmas.{writing_point}
+use Rattle.run_law.specs.declared.status.Status.TheVariants.{TurnsSpent, ConfFault, ConfRefused, NotAJournal, JournalFull, ConfTooLarge, PatternRefused, NumbersSpent}
 use Rattle.run_law.proofs.FieldLemmas.{feed_slots}
 use Rattle.run_law.proofs.KeptLemmas.{steps_more}
 use Rattle.run_law.proofs.RestLemmas.{entry_is, slot_still}
@@ -72,7 +70,7 @@ use Rattle.slot_writes.specs.Entries.{Entry, Written, Full, Spent, body, entry, 
 use Rattle.journal_slots.specs.declared.head.Head.{Head}
 use Rattle.journal_slots.specs.declared.head.Head.TheVariants.{Short, Ajar, Shut}
 use Rattle.slot_writes.specs.Rests.{PermitsBoth, nothing_stored}
-use Rattle.slot_writes.specs.Writes.{Put, Sync, Write}
+use Rattle.slot_writes.specs.Writes.{Write}
 use Rattle.slot_writes.specs.declared.position.Position.{Position}
 
 -- ---- an input that is written has calls

@@ -1,16 +1,16 @@
 -- A session that begins on the view of one state goes on as that state does.
-use Rattle.std.proofs.Common.{ℕ, zero, suc, ◌≡◌, ◌⊎◌, inl, inr, Bool, true, false, cond, nat_lt, List, [], ◌∷◌, ◌++◌, length, take, Option, Some, None, refl, sym, ap, ◌∙◌, append-nil, subst}
-use Rattle.std.specs.Prelude.{IfSome, option_to_list, slice_get}
+use Rattle.std.proofs.Common.{ℕ, zero, suc, ◌≡◌, inl, inr, Bool, true, false, cond, nat_lt, List, [], ◌∷◌, ◌++◌, length, take, Option, Some, None, refl, sym, ap, ◌∙◌, append-nil, subst}
+use Rattle.std.specs.Prelude.{option_to_list, slice_get}
 use Rattle.f2b_base.specs.declared.input.Input.{Input}
 use Rattle.f2b_base.specs.declared.job.Job.{Job}
 use Rattle.f2b_base.specs.declared.job.UpLane.{UpLane}
 use Rattle.f2b_base.specs.declared.view.View.{View}
 use Rattle.f2b_model.specs.Active.{held}
 use Rattle.f2b_model.specs.JobLaws.{IsNext}
-use Rattle.f2b_model.specs.Jobs.{ArePending, Ledger, head, next_due, pending}
+use Rattle.f2b_model.specs.Jobs.{ArePending, head, next_due, pending}
 use Rattle.f2b_model.specs.LaneSound.{never}
 use Rattle.f2b_model.specs.Lists.{AllOf}
-use Rattle.f2b_model.specs.Sound.{IsFit, IsSound, IsSoundFrom}
+use Rattle.f2b_model.specs.Sound.{IsFit, IsSoundFrom}
 use Rattle.f2b_model.specs.Steps.{moves}
 use Rattle.f2b_model.specs.Storable.{IsStorableInput}
 use Rattle.f2b_model.specs.Views.{back, view_of}
@@ -28,13 +28,13 @@ use Rattle.f2b_world.proofs.AddsLemmas.{grown_twice}
 use Rattle.child_table.specs.Children.{jobs_of, most_children}
 use Rattle.child_table.specs.declared.child.Child.{Child}
 use Rattle.reconcile.specs.Loads.{view_after}
-use Rattle.run_law.specs.Children.{checked_first, startable}
+use Rattle.run_law.specs.Children.{checked_first}
 use Rattle.run_law.specs.Law.{Free, MayCome, begin, begin_with, feed}
 use Rattle.run_law.specs.News.{inputs_of}
 use Rattle.run_law.specs.Points.{AtStart, AtTurn, Place, Point, Run}
 use Rattle.run_law.specs.Served.{IsStartFor, KeepsInputs, StartsAt, run_after}
 use Rattle.run_law.specs.Server.{Server, jobs, lanes_up}
-use Rattle.run_law.specs.Stops.{BeginsOn, ComesInOrder, ComesTo, IsOverAt}
+use Rattle.run_law.specs.Stops.{BeginsOn, ComesTo, IsOverAt}
 use Rattle.run_law.specs.Turn.{start_place}
 use Rattle.run_law.specs.Words.{plan_of}
 use Rattle.run_law.specs.declared.plan.Plan.{Plan}

@@ -1,5 +1,5 @@
 -- Two runs one after the other, computed: the first is stopped before the last sync of its only input, which may then be there or not.
-use Rattle.std.proofs.Common.{ℕ, zero, suc, ◌≡◌, ◌<◌, ◌≤◌, ◌⊎◌, ◌&&◌, nat_lt, inl, inr, Bool, true, false, Option, Some, None, List, [], ◌∷◌, ◌++◌, length, drop, replicate, refl, sym, ap, ◌∙◌, ◌^◌, subst, arith}
+use Rattle.std.proofs.Common.{ℕ, zero, suc, ◌≡◌, ◌<◌, ◌&&◌, nat_lt, inl, inr, Bool, true, Some, List, [], ◌∷◌, ◌++◌, length, drop, replicate, refl, sym, ap, ◌∙◌, ◌^◌, subst, arith}
 use Rattle.std.specs.Char.{encode_utf8}
 use Rattle.std.specs.Fmt.{digits}
 use Rattle.std.specs.Prelude.{IfSome, codes, slice_index, slice_index_or, take}
@@ -7,12 +7,11 @@ use Rattle.std.proofs.lemmas.Bool.{and_parts, ltb-true}
 use Rattle.std.specs.Str.{is_utf8, chars}
 use Rattle.f2b_base.specs.declared.input.Input.{Input}
 use Rattle.f2b_base.specs.declared.input.What.TheVariants.{Config as Configured}
-use Rattle.f2b_base.specs.declared.jail.Defs.{Defs}
 use Rattle.f2b_base.specs.declared.outside.Tree.{Tree}
 use Rattle.f2b_base.specs.declared.outside.TreeFile.{TreeFile}
 use Rattle.f2b_base.specs.declared.outside.TreeAnswer.TheVariants.{Tree as TreeGiven}
 use Rattle.f2b_model.specs.Storable.{IsStorableInput}
-use Rattle.f2b_world.specs.Bounds.{FitsFile, IsReading}
+use Rattle.f2b_world.specs.Bounds.{FitsFile}
 use Rattle.f2b_world.specs.Slots.{IsOutside, Permits, Slot, settled}
 use Rattle.f2b_world.specs.Told.{History, grown, slot_of}
 use Rattle.f2b_world.specs.Walks.{Along, Comes}
@@ -27,7 +26,7 @@ use Rattle.ini_interp.specs.Merges.{files_of, read_with, all_read, merged_in}
 use Rattle.ini_interp.specs.References.{referred, percent_piece, piece_at, pieces_from}
 use Rattle.ini_interp.specs.Sections.{items_of, raw, opened, with_raw}
 use Rattle.ini_interp.specs.Values.{replaced}
-use Rattle.jail_conf.specs.Conf.{settings_in, conf}
+use Rattle.jail_conf.specs.Conf.{settings_in}
 use Rattle.jail_conf.specs.Sources.{text_in, own}
 use Rattle.jail_conf.specs.Times.{time_word}
 use Rattle.journal_slots.specs.Grammar.{inputs_at, opened_at, parse_slot}
@@ -40,15 +39,15 @@ use Rattle.record_fields.specs.Addresses.{eight, fixed_at}
 use Rattle.record_fields.specs.Lists.{list_of, list_at, items_at, each_at, each_list_at}
 use Rattle.record_fields.specs.Numbers.{digits as number_digits, digits_at, number_at}
 use Rattle.record_fields.specs.Codec.{IsBytes}
-use Rattle.run_law.specs.Calls.{AskWrite, Call, IsNext, Makes}
+use Rattle.run_law.specs.Calls.{IsNext}
 use Rattle.run_law.specs.Changes.{config_changes}
-use Rattle.run_law.specs.Law.{Free, MayCome, begin, call_behind, call_of, feed, next_call}
+use Rattle.run_law.specs.Law.{Free, MayCome, begin, call_behind, call_of, feed}
 use Rattle.run_law.specs.News.{brings, inputs_of, writing}
 use Rattle.run_law.specs.Points.{Run}
 use Rattle.run_law.specs.Served.{Obeys}
 use Rattle.slot_writes.specs.Rests.{PermitsBoth, and_input, nothing_stored}
 use Rattle.slot_writes.specs.Writes.{Write, Put, Sync, done_event, done_events}
-use Rattle.many_runs.specs.Sessions.{AreEmpty, IsSession, MayHold, Session, history_of, run_at, run_of, slots_of}
+use Rattle.many_runs.specs.Sessions.{IsSession, MayHold, Session, history_of, run_at, run_of, slots_of}
 
 -- ---- what both runs are asked for
 

@@ -50,7 +50,7 @@ pub record GoesOn (before : List Input) (s : Session) : Type 0 where
   pub starts : (k id : ℕ) (command : List ℕ) (answer : StartAnswer) → slice_get s.events k ≡ Some (ChildStart id command answer)
       → IsFirstOfLane id (state_after (closed_by before s k)).lanes.jobs
 
--- Of a session count all inputs that it closed up to its stop, and the one more that it may have made.
+-- Of a session count the inputs that it had closed as it was stopped, or all that it had made: those, and at most one more.
 abbrev pub Count : Session → List Input → Type 0
 Count s inputs = (inputs ≡ (run_of s).closed) ⊎ (inputs ≡ inputs_of (run_of s))
 
@@ -69,7 +69,8 @@ pub record AreOne (sessions : List Session) (slots : ℕ → List ℕ) : Type 0 
   pub comes : ComesTo (view_then inputs) slots
   -- over the jobs of all sessions, in each epoch of a lane the Ban or Reban and the Unban jobs of an address alternate, beginning with a Ban or Reban
   pub alternate : (lane : LaneId) (addr : Addr) → Alternate false (kinds_of lane addr (state_after inputs).lanes.jobs.made)
-  -- where a lane has no pending job, the addresses whose last settled job of its last epoch is a Ban or Reban are the active ones of its family where it is up, and none where it is down
+  -- where a lane has no pending job, the addresses whose last settled job of its last epoch is a Ban or Reban are the active ones of its family where
+  -- it is up, and none where it is down
   pub settles : (lane : LaneId) (addr : Addr) → head lane (pending (state_after inputs).lanes.jobs) ≡ None
       → last_is_ban false (kinds_of lane addr (settled (state_after inputs).lanes.jobs))
       ≡ is_banned_in (state_after inputs).lanes.up (held moves (state_after inputs).jails) lane addr

@@ -20,7 +20,7 @@ pub record Session : Type 0 where
   pub before : History
   -- its calls, in order
   pub events : List Event
-  -- behind how many of them it is stopped: behind all, where there are no more
+  -- behind how many of them it is stopped; behind all, where there are not so many
   pub stop : ℕ
 
 -- what its slots hold as it begins
