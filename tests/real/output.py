@@ -81,7 +81,8 @@ def slow(room, blocking):
         fcntl.fcntl(read_end, getattr(fcntl, "F_SETPIPE_SZ", 1031), PAGE)
         with os.fdopen(read_end, "rb", buffering=0) as said_by:
             want(said_by.readline().endswith(b" INFO Server ready\n"), "no first line")
-            write(room.log, failures(*addresses), "a")
+            # Dates that are ahead count as now: on a slow machine the last lines would be too old.
+            write(room.log, failures(*addresses, ahead=3_600), "a")
             time.sleep(2)
             said = b""
             while said.count(b"\n") < len(addresses):
