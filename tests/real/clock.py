@@ -6,7 +6,7 @@ import shutil
 import subprocess
 import time
 
-from room import LONG_PATIENCE, Skipped, failures, same, want, write
+from room import LONG_PATIENCE, Skipped, among_others, failures, same, want, write
 
 
 def moment_is_that_of_the_machine(room):
@@ -123,7 +123,7 @@ def long_log_is_read_at_once(room):
     """a log that is long at the start is read without pauses, each look's lines in one write"""
     # Few of the lines are failures, so that a slow machine comes to the last one before it is too old to count.
     addresses = [f"198.51.{number // 250}.{number % 250 + 1}" for number in range(1_000)]
-    write(room.log, "".join(line + "nothing to see in this line\n" * 12 for line in failures(*addresses).splitlines(keepends=True)))
+    write(room.log, among_others(failures(*addresses), 12))
     looks = os.path.getsize(room.log) // 65_536 + 1
     calls = traced(room, turns=looks)
     writes = [at for at, call in enumerate(calls) if call.startswith("write(1")]

@@ -2,7 +2,7 @@
 
 import os
 
-from room import failures, same, want, write
+from room import among_others, failures, same, want, write
 
 READY = "INFO Server ready"
 
@@ -188,12 +188,13 @@ def tail_begins_at_the_end(room):
 
 def long_log(room):
     """of a log of many looks each line is found once, in its order"""
-    addresses = [f"198.51.{number // 250}.{number % 250 + 1}" for number in range(10_000)]
-    write(room.log, failures(*addresses))
+    addresses = [f"198.51.{number // 250}.{number % 250 + 1}" for number in range(2_000)]
+    # Dates that are ahead count as now: on a slow machine the last lines would be too old.
+    write(room.log, among_others(failures(*addresses, ahead=3_600), 5))
     with room.server() as server:
         server.wait_said(found(addresses[-1]))
         said = server.said()
-        same(len(said), 10_001, "lines")
+        same(len(said), 2_001, "lines")
         want(said[1:] == [found(address) for address in addresses], "the lines are not in the log's order")
 
 

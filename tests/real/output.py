@@ -6,7 +6,7 @@ import resource
 import subprocess
 import time
 
-from room import failures, same, wait_for, want, write
+from room import among_others, failures, same, wait_for, want, write
 
 # A pipe holds so many bytes at least.
 PAGE = 4_096
@@ -72,7 +72,7 @@ def reader_has_gone(room):
 
 def slow(room, blocking):
     """Reads a small pipe slowly, whose end that the server writes to waits or would block."""
-    addresses = [f"198.51.{number // 250}.{number % 250 + 1}" for number in range(10_000)]
+    addresses = [f"198.51.{number // 250}.{number % 250 + 1}" for number in range(2_000)]
     read_end, write_end = os.pipe()
     os.set_blocking(write_end, blocking)
     process = subprocess.Popen(room.words(), stdin=subprocess.DEVNULL, stdout=write_end)
@@ -81,7 +81,8 @@ def slow(room, blocking):
         fcntl.fcntl(read_end, getattr(fcntl, "F_SETPIPE_SZ", 1031), PAGE)
         with os.fdopen(read_end, "rb", buffering=0) as said_by:
             want(said_by.readline().endswith(b" INFO Server ready\n"), "no first line")
-            write(room.log, failures(*addresses), "a")
+            # Dates that are ahead count as now: on a slow machine the last lines would be too old.
+            write(room.log, among_others(failures(*addresses, ahead=3_600), 5), "a")
             time.sleep(2)
             said = b""
             while said.count(b"\n") < len(addresses):

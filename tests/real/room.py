@@ -86,6 +86,11 @@ def failures(*addresses, ahead=0):
     return "".join(f"{now} fail from {address}\n" for address in addresses)
 
 
+def among_others(lines, others):
+    """These lines, each with so many others behind it that are no failures: what is found in a long log is then little work."""
+    return "".join(line + "nothing to see in this line\n" * others for line in lines.splitlines(keepends=True))
+
+
 def as_nobody():
     """How to start a program that may read only what all may: root reads all."""
     if os.geteuid() != 0:

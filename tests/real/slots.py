@@ -190,8 +190,8 @@ class Reader:
     def action(self):
         return self.text(), self.family(), [self.text() for _ in range(5)], self.span()
 
-    def jail(self, patterns):
-        """A jail's definition; `patterns` is how many those before it have."""
+    def jail(self):
+        """A jail's definition."""
         name = self.name()
         logs = self.list(lambda: (self.text(), self.flag()), 4_096, lambda earlier, log: log[0] not in [path for path, _ in earlier])
         begin = self.at
@@ -217,7 +217,7 @@ class Reader:
             patterns = sum(len(one["failing"]) + len(one["ignoring"]) for one in [*earlier, jail])
             return jail["name"] not in [one["name"] for one in earlier] and patterns <= 512
 
-        return age, self.list(lambda: self.jail(0), 256, fits)
+        return age, self.list(self.jail, 256, fits)
 
     def lane(self):
         return self.name(), self.text(), self.family()
@@ -230,7 +230,7 @@ class Reader:
 
     def ending(self):
         kind = self.byte(3)
-        return kind, self.signed(-(1 << 31), (1 << 31) - 1) if kind == 0 else None
+        return kind, self.signed(-(1 << 63), (1 << 63) - 1) if kind == 0 else None
 
     def view_jail(self, now, definition):
         begin = self.at
