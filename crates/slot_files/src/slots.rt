@@ -104,8 +104,9 @@ fn know_bytes(bytes: &[u8])
 }
 
 impl Slots {
-    /// The slots beside a path. Their directory is made, for its owner alone, where it is not there. Where another server has them, and
-    /// where the directory cannot be had, it is `Failed`, and nothing was read or written of them.
+    /// The slots beside a path. Their directory is made, for its owner alone, where it is not there. What is in them is over a stop then,
+    /// also what a server wrote that was killed before it synced. Where another server has them, and where the directory cannot be had, it
+    /// is `Failed`, and nothing was read or written of them.
     pub fn beside<R: Files<File = File> + AllocGlobal>(
         rt: &R,
         socket: &str,
@@ -119,13 +120,17 @@ impl Slots {
         if lock.try_lock().is_err() {
             return Err(Fault::Failed);
         }
-        Ok(Slots {
+        let mut slots = Slots {
             dir,
             lock,
             first: None,
             second: None,
-            is_entry_new: false,
-        })
+            // A server that was killed may have made a file, and not have come to this.
+            is_entry_new: true,
+        };
+        slots.sync(rt, 0)?;
+        slots.sync(rt, 1)?;
+        Ok(slots)
     }
 
     /// The handle of slot 0, or of slot 1.
