@@ -87,7 +87,7 @@ class Log:
 
 def second(date):
     """The second since 1970 of a date in UTC, which may lack its year."""
-    if not date.startswith(tuple("0123456789")) or date[4] == "-":
+    if date[4] == "-":
         return calendar.timegm(time.strptime(date, "%Y-%m-%dT%H:%M:%SZ"))
     latest = time.time() + 86_400
     for year in range(time.gmtime(latest).tm_year, 1970, -1):
@@ -101,6 +101,7 @@ def second(date):
 
 
 def read(path):
+    """What stands in a log."""
     log, above = Log(os.path.basename(path).removesuffix(".log")), None
     with open(path) as file:
         for number, text in enumerate(file.read().splitlines(), 1):
@@ -126,16 +127,16 @@ def run(*words):
 
 def shown(report):
     """The lines that the tester shows under its headings, each with what it says of it. Which pattern ignored a line it does not show."""
-    under, shown = None, {"found": [], "ignored": [], "missed": []}
+    under, lists = None, {"found": [], "ignored": [], "missed": []}
     for text in report.splitlines():
         if text in HEADINGS:
             under = HEADINGS[text]
         elif under == "found":
             pattern, address, at, line = SHOWN_FOUND.match(text).groups()
-            shown[under].append((f"{address} {at} {pattern}", line))
+            lists[under].append((f"{address} {at} {pattern}", line))
         elif under:
-            shown[under].append((under, text[3:]))
-    return shown
+            lists[under].append((under, text[3:]))
+    return lists
 
 
 def same_line(line, lists):
@@ -216,7 +217,7 @@ def attacks(log, chance):
     of_others = [piece for line in failures for piece in pieces(line)]
     places = [(line.text, match.span(1)) for line in failures for words in log.words for match in [words.search(line.text)] if match]
     made = set()
-    for _ in range(ATTACKS if places else 0):
+    for _ in range(ATTACKS):
         text, (front, end) = chance.choice(places)
         piece = chance.choice(["", "x", "x "]) + chance.choice(of_others) + chance.choice(["", "x", " x"])
         for character, instead in log.written.items():
@@ -229,6 +230,8 @@ def words_find_nobody_else(tester, path):
     """Whatever stands in the place of a client's words, nobody is found but who is found in the log."""
     log = read(path)
     known = {line.address() for line in log.lines}
+    if not log.words:
+        return "none are named"
     lines = attacks(log, random.Random(1))
     rows = tested(tester, log.filter, lines, "-o", "row").splitlines()
     strangers = [row for row in rows if row.split("\t")[0] not in known]
@@ -262,24 +265,50 @@ def filters():
     return [name for name in names if name != "common"]
 
 
-def is_accepted(server, local):
-    """The server takes one turn over conf/ with this jail.local, and its logs, which are not there, in a folder of its own."""
+def said_of(server, local, logs):
+    """What the server says in one turn over conf/ with this jail.local, where its logs are those in a folder of its own."""
     with tempfile.TemporaryDirectory(prefix="fail2ban-filters-") as place:
-        conf = os.path.join(place, "conf")
+        conf, folder = os.path.join(place, "conf"), os.path.join(place, "log")
         shutil.copytree(CONF, conf)
-        for path in glob.glob(os.path.join(conf, "paths-*.conf")) + [os.path.join(conf, "jail.conf")]:
+        os.mkdir(folder)
+        for path in glob.glob(os.path.join(conf, "*.conf")):
             with open(path) as file:
                 text = file.read()
             with open(path, "w") as file:
-                file.write(text.replace("/var/log", os.path.join(place, "log")))
-        with open(os.path.join(conf, "jail.local"), "w") as file:
-            file.write(local)
-        with open(os.path.join(conf, "fail2ban.local"), "w") as file:
-            file.write(f"[Definition]\nsocket = {place}/run/fail2ban.sock\n")
+                file.write(text.replace("/var/log", folder))
+        written = {"conf/jail.local": local, "conf/fail2ban.local": f"[Definition]\nsocket = {place}/run/fail2ban.sock\n"}
+        written.update({f"log/{name}": text for name, text in logs.items()})
+        for name, text in written.items():
+            with open(os.path.join(place, name), "w") as file:
+                file.write(text)
         status, said, errors = run(server, "--conf", conf, "--turns", "1")
-    lines = [line.split(" ", 1)[-1] for line in said.splitlines()]
-    if (status, lines, errors) != (0, ["INFO Server ready"], ""):
+    if (status, errors) != (0, ""):
         raise Failed(f"the server ended with {status}: {said}{errors}")
+    return [line.split(" ", 1)[-1] for line in said.splitlines()]
+
+
+def is_accepted(server, local):
+    """The server takes conf/ with this jail.local, and waits for logs that are not there."""
+    said = said_of(server, local, {})
+    if said != ["INFO Server ready"]:
+        raise Failed(f"it said {said}")
+    return ""
+
+
+def jails_find(server):
+    """Jails that are enabled find what stands in their logs."""
+    now = time.time()
+    syslog = time.strftime("%b %e %H:%M:%S", time.gmtime(now))
+    logs = {
+        "auth.log": f"{syslog} host sshd[77]: Failed password for root from 198.51.100.7 port 4022 ssh2\n",
+        "mail.log": f"{syslog} mx postfix/smtpd[77]: warning: unknown[198.51.100.8]: SASL LOGIN authentication failed: UGFzc3dvcmQ6\n",
+        "fail2ban.log": f"{int(now)} NOTICE [sshd] Ban 198.51.100.10\n",
+    }
+    said = said_of(server, enabled(["postfix-sasl", "recidive"]), logs)
+    found = ["[sshd] Found 198.51.100.7", "[postfix-sasl] Found 198.51.100.8", "[recidive] Found 198.51.100.10"]
+    wanted = ["INFO Server ready"] + [f"INFO {each}" for each in found]
+    if sorted(said) != sorted(wanted):
+        raise Failed(f"it said {said}")
     return ""
 
 
@@ -298,11 +327,11 @@ def each_filter_has_its_jail():
 def checks(tester, server):
     for path in sorted(glob.glob(os.path.join(HERE, "*.log"))):
         yield os.path.basename(path), lambda path=path: log_is_read_so(tester, path)
-        if read(path).words:
-            yield f"other words in {os.path.basename(path)}", lambda path=path: words_find_nobody_else(tester, path)
+        yield f"other words in {os.path.basename(path)}", lambda path=path: words_find_nobody_else(tester, path)
     for name in filters():
         yield f"{name}.log has lines enough", lambda name=name: has_lines_enough(name)
     yield "each filter has its jail", each_filter_has_its_jail
+    yield "conf with jails that find", lambda: jails_find(server)
     yield "conf as it ships", lambda: is_accepted(server, "")
     yield "conf with all jails", lambda: is_accepted(server, enabled(jails()))
     fedora = "[INCLUDES]\nbefore = paths-fedora.conf\n"
