@@ -1,0 +1,123 @@
+-- The input of a request within bounds is within bounds.
+use Rattle.std.proofs.Common.{◌≡◌, ℕ, ◌<◌, ◌≤◌, Bool, true, false, ◌==◌, ◌||◌, List, [], ◌∷◌, length, Option, Some, None, ℤ, refl, sym, ◌∙◌, ap, arith}
+use Rattle.std.specs.Prelude.{◌≤ℤ◌, pos, negsuc}
+use Rattle.std.specs.List.{list_any}
+use Rattle.std.specs.Option.{IfSome, is_some, option_and_then}
+use Rattle.std.proofs.lemmas.Int.{ints}
+use Rattle.std.proofs.lemmas.Bool.Decides.{nat_tests}
+use Rattle.f2b_base.specs.Addresses.{IsAddr, same_addr}
+use Rattle.f2b_base.specs.declared.addr.Addr.{Addr}
+use Rattle.f2b_base.specs.declared.addr.Addr.TheVariants.{V4, V6}
+use Rattle.f2b_base.specs.declared.ban.Ban.{Ban}
+use Rattle.f2b_base.specs.declared.input.What.{What}
+use Rattle.f2b_base.specs.declared.input.What.TheVariants as what
+use Rattle.f2b_base.specs.declared.jail.JailDef.{JailDef}
+use Rattle.f2b_model.specs.Lists.{AllOf, AreDistinct}
+use Rattle.f2b_model.specs.Moves.{is_banned}
+use Rattle.f2b_model.specs.Storable.{IsBase}
+use Rattle.f2b_model.specs.Whole.{Now}
+use Rattle.f2b_model.specs.declared.jail_now.JailNow.{JailNow}
+use Rattle.f2b_model.proofs.ListLemmas.{by_test}
+use Rattle.f2b_model.proofs.SoundLemmas.{same_addr_true}
+use Rattle.client_words.specs.declared.request.Request.{Request}
+use Rattle.client_words.specs.declared.request.Request.TheVariants as request
+use Rattle.client_replies.specs.Banned.{is_among, new_addrs, new_after}
+use Rattle.client_replies.specs.Bounds.{IsBoundedRequest, IsTakenWhat}
+use Rattle.client_replies.specs.Changes.{change_in, change_of, change_of_definition, effect, if_any, unless}
+use Rattle.client_replies.specs.Refusals.{jail_in, named, refusal}
+
+-- ---- the addresses that are new
+
+new_are : (P : Addr → Type 0) (seen : List Addr) (bans : List Ban) (addrs : List Addr) → AllOf P addrs → AllOf P (new_after seen bans addrs)
+new_are P seen bans [] all = tt
+new_are P seen bans (addr ∷ addrs) all =
+    by_test (is_banned addr bans || is_among seen addr) _ (λ known. rw known (new_are P seen bans addrs all.1)) (λ new. rw new ((all.0, new_are P (addr ∷ seen) bans addrs all.1)))
+
+new_few : (seen : List Addr) (bans : List Ban) (addrs : List Addr) → length (new_after seen bans addrs) ≤ length addrs
+new_few seen bans [] = omega arith
+new_few seen bans (addr ∷ addrs) =
+    by_test (is_banned addr bans || is_among seen addr) _ (λ known. rw known (omega (arith, new_few seen bans addrs))) (λ new. rw new (omega (arith, new_few (addr ∷ seen) bans addrs)))
+
+itself : (addr : Addr) → same_addr addr addr ≡ true
+itself (V4 number) = grind (arith, nat_tests)
+itself (V6 number) = grind (arith, nat_tests)
+
+or_first : (a b : Bool) → a ≡ true → (a || b) ≡ true
+or_first a b is = rw is refl
+
+or_second : (a b : Bool) → b ≡ true → (a || b) ≡ true
+or_second true b is = refl
+or_second false b is = is
+
+not_second : (a b : Bool) → (a || b) ≡ false → b ≡ false
+not_second true b is = absurd (let e : true ≡ false = is in cc)
+not_second false b is = is
+
+-- none of them was seen before
+new_unseen : (seen : List Addr) (bans : List Ban) (addrs : List Addr) (x : Addr) → is_among seen x ≡ true → list_any (same_addr x) (new_after seen bans addrs) ≡ false
+new_unseen seen bans [] x was = refl
+new_unseen seen bans (addr ∷ addrs) x was =
+    by_test (is_banned addr bans || is_among seen addr) _
+    (λ known. rw known (new_unseen seen bans addrs x was))
+    (λ new. rw new (
+    by_test (same_addr x addr) _
+    (λ same.
+    let there : is_among seen addr ≡ true = ap (is_among seen) (sym (same_addr_true x addr same)) ∙ was in
+    let not_there : is_among seen addr ≡ false = not_second (is_banned addr bans) (is_among seen addr) new in
+    absurd (let e : true ≡ false = sym there ∙ not_there in cc))
+    (λ other. rw other (new_unseen (addr ∷ seen) bans addrs x (or_second (same_addr x addr) (is_among seen x) was)))))
+
+new_distinct : (seen : List Addr) (bans : List Ban) (addrs : List Addr) → AreDistinct same_addr (new_after seen bans addrs)
+new_distinct seen bans [] = tt
+new_distinct seen bans (addr ∷ addrs) =
+    by_test (is_banned addr bans || is_among seen addr) _
+    (λ known. rw known (new_distinct seen bans addrs))
+    (λ new. rw new ((new_unseen (addr ∷ seen) bans addrs addr (or_first (same_addr addr addr) (is_among seen addr) (itself addr)), new_distinct (addr ∷ seen) bans addrs)))
+
+-- ---- inputs
+
+base_bounded : (base : ℤ) → IsBase base → base ≤ℤ pos 3153600000
+base_bounded (pos secs) h = omega (arith, ints)
+base_bounded (negsuc n) h = omega (arith, ints)
+
+some_if_any : (P : What → Type 0) (count : ℕ) (happens : What) → P happens → IfSome (if_any count happens) P
+some_if_any P count happens is = by_test (count == 0) _ (λ none. rw none tt) (λ some. rw some is)
+
+some_unless : (P : What → Type 0) (already : Bool) (happens : What) → P happens → IfSome (unless already happens) P
+some_unless P true happens is = tt
+some_unless P false happens is = is
+
+definition_taken : (d : JailDef) (asked : Request) → IsBoundedRequest asked → IfSome (change_of_definition d asked) IsTakenWhat
+definition_taken d (request.AddIgnore jail cidr) is = some_unless IsTakenWhat _ (what.Ignore jail cidr true) (record { fit = tt; bounded = tt; storable = is })
+definition_taken d (request.DelIgnore jail cidr) is = some_unless IsTakenWhat _ (what.Ignore jail cidr false) (record { fit = tt; bounded = tt; storable = is })
+definition_taken d (request.SetFindtime jail secs) is = some_unless IsTakenWhat _ (what.Findtime jail secs) (record { fit = tt; bounded = is.1.0; storable = is })
+definition_taken d (request.SetBantime jail secs) is = some_unless IsTakenWhat _ (what.Bantime jail secs) (record { fit = tt; bounded = base_bounded secs is.1; storable = is })
+definition_taken d (request.SetMaxretry jail number) is =
+    some_unless IsTakenWhat _ (what.Maxretry jail number) (record { fit = is.1.0; bounded = (is.1.0, omega (arith, is.1.1)); storable = is })
+definition_taken d _ is = tt
+
+jail_taken : (j : JailNow) (asked : Request) → IsBoundedRequest asked → IfSome (change_in j asked) IsTakenWhat
+jail_taken j (request.SetBanip jail addrs) is =
+    some_if_any IsTakenWhat _ (what.Ban jail (new_addrs j.bans addrs)) (record {
+      fit = tt;
+      bounded = tt;
+      storable = (is.0, (new_are IsAddr [] j.bans addrs is.1.0, (new_distinct [] j.bans addrs, omega (arith, is.1.1, new_few [] j.bans addrs))));
+    })
+jail_taken j (request.SetUnbanip jail addrs) is = some_if_any IsTakenWhat _ (what.Unban (Some jail) (Some addrs)) (record { fit = tt; bounded = tt; storable = is })
+jail_taken j (request.SetAttempt jail addr) is = some_unless IsTakenWhat _ (what.Attempt jail addr) (record { fit = tt; bounded = tt; storable = is })
+jail_taken j (request.SetIdle jail idle) is = some_unless IsTakenWhat _ (what.Idle jail idle) (record { fit = tt; bounded = tt; storable = is })
+jail_taken j asked is = definition_taken j.definition asked is
+
+found_taken : (o : Option JailNow) (asked : Request) → IsBoundedRequest asked → IfSome (option_and_then (λ (j : JailNow). change_in j asked) o) IsTakenWhat
+found_taken None asked is = tt
+found_taken (Some j) asked is = jail_taken j asked is
+
+change_taken : (now : Now) (asked : Request) → IsBoundedRequest asked → IfSome (change_of now asked) IsTakenWhat
+change_taken now request.UnbanAll is = some_if_any IsTakenWhat _ (what.Unban None None) (record { fit = tt; bounded = tt; storable = (tt, tt) })
+change_taken now (request.Unban addrs) is = some_if_any IsTakenWhat _ (what.Unban None (Some addrs)) (record { fit = tt; bounded = tt; storable = (tt, is) })
+change_taken now request.Stop is = some_unless IsTakenWhat _ what.Stop (record { fit = tt; bounded = tt; storable = tt })
+change_taken now asked is = found_taken (option_and_then (jail_in now) (named asked)) asked is
+
+pub effect_taken : (now : Now) (asked : Request) → IsBoundedRequest asked → IfSome (effect now asked) IsTakenWhat
+unfolding effect
+effect_taken now asked is = by_test (is_some (refusal now asked)) _ (λ refused. rw refused tt) (λ free. rw free (change_taken now asked is))

@@ -1,0 +1,5 @@
+pub mod KnownLemmas
+pub mod BannedLemmas
+pub mod TextLemmas
+pub mod BoundLemmas
+pub mod RefusalLemmas
