@@ -1,9 +1,7 @@
--- The input of a request within bounds is within bounds.
-use Rattle.std.proofs.Common.{◌≡◌, ℕ, ◌<◌, ◌≤◌, Bool, true, false, ◌==◌, ◌||◌, List, [], ◌∷◌, length, Option, Some, None, ℤ, refl, sym, ◌∙◌, ap, arith}
-use Rattle.std.specs.Prelude.{◌≤ℤ◌, pos, negsuc}
+-- The input of a request whose values are within their bounds can be stored.
+use Rattle.std.proofs.Common.{◌≡◌, ℕ, ◌<◌, ◌≤◌, Bool, true, false, ◌==◌, ◌||◌, List, [], ◌∷◌, length, Option, Some, None, refl, sym, ◌∙◌, ap, arith}
 use Rattle.std.specs.List.{list_any}
 use Rattle.std.specs.Option.{IfSome, is_some, option_and_then}
-use Rattle.std.proofs.lemmas.Int.{ints}
 use Rattle.std.proofs.lemmas.Bool.Decides.{nat_tests}
 use Rattle.f2b_base.specs.Addresses.{IsAddr, same_addr}
 use Rattle.f2b_base.specs.declared.addr.Addr.{Addr}
@@ -14,15 +12,15 @@ use Rattle.f2b_base.specs.declared.input.What.TheVariants as what
 use Rattle.f2b_base.specs.declared.jail.JailDef.{JailDef}
 use Rattle.f2b_model.specs.Lists.{AllOf, AreDistinct}
 use Rattle.f2b_model.specs.Moves.{is_banned}
-use Rattle.f2b_model.specs.Storable.{IsBase}
+use Rattle.f2b_model.specs.Storable.{IsStorableWhat}
 use Rattle.f2b_model.specs.Whole.{Now}
 use Rattle.f2b_model.specs.declared.jail_now.JailNow.{JailNow}
 use Rattle.f2b_model.proofs.ListLemmas.{by_test}
 use Rattle.f2b_model.proofs.SoundLemmas.{same_addr_true}
+use Rattle.client_words.specs.Bounds.{IsBoundedRequest}
 use Rattle.client_words.specs.declared.request.Request.{Request}
 use Rattle.client_words.specs.declared.request.Request.TheVariants as request
 use Rattle.client_replies.specs.Banned.{is_among, new_addrs, new_after}
-use Rattle.client_replies.specs.Bounds.{IsBoundedRequest, IsTakenWhat}
 use Rattle.client_replies.specs.Changes.{change_in, change_of, change_of_definition, effect, if_any, unless}
 use Rattle.client_replies.specs.Refusals.{jail_in, named, refusal}
 
@@ -76,10 +74,6 @@ new_distinct seen bans (addr ∷ addrs) =
 
 -- ---- inputs
 
-base_bounded : (base : ℤ) → IsBase base → base ≤ℤ pos 3153600000
-base_bounded (pos secs) h = omega (arith, ints)
-base_bounded (negsuc n) h = omega (arith, ints)
-
 some_if_any : (P : What → Type 0) (count : ℕ) (happens : What) → P happens → IfSome (if_any count happens) P
 some_if_any P count happens is = by_test (count == 0) _ (λ none. rw none tt) (λ some. rw some is)
 
@@ -87,37 +81,33 @@ some_unless : (P : What → Type 0) (already : Bool) (happens : What) → P happ
 some_unless P true happens is = tt
 some_unless P false happens is = is
 
-definition_taken : (d : JailDef) (asked : Request) → IsBoundedRequest asked → IfSome (change_of_definition d asked) IsTakenWhat
-definition_taken d (request.AddIgnore jail cidr) is = some_unless IsTakenWhat _ (what.Ignore jail cidr true) (record { fit = tt; bounded = tt; storable = is })
-definition_taken d (request.DelIgnore jail cidr) is = some_unless IsTakenWhat _ (what.Ignore jail cidr false) (record { fit = tt; bounded = tt; storable = is })
-definition_taken d (request.SetFindtime jail secs) is = some_unless IsTakenWhat _ (what.Findtime jail secs) (record { fit = tt; bounded = is.1.0; storable = is })
-definition_taken d (request.SetBantime jail secs) is = some_unless IsTakenWhat _ (what.Bantime jail secs) (record { fit = tt; bounded = base_bounded secs is.1; storable = is })
-definition_taken d (request.SetMaxretry jail number) is =
-    some_unless IsTakenWhat _ (what.Maxretry jail number) (record { fit = is.1.0; bounded = (is.1.0, omega (arith, is.1.1)); storable = is })
-definition_taken d _ is = tt
+definition_storable : (d : JailDef) (asked : Request) → IsBoundedRequest asked → IfSome (change_of_definition d asked) IsStorableWhat
+definition_storable d (request.AddIgnore jail cidr) is = some_unless IsStorableWhat _ (what.Ignore jail cidr true) is
+definition_storable d (request.DelIgnore jail cidr) is = some_unless IsStorableWhat _ (what.Ignore jail cidr false) is
+definition_storable d (request.SetFindtime jail secs) is = some_unless IsStorableWhat _ (what.Findtime jail secs) is
+definition_storable d (request.SetBantime jail secs) is = some_unless IsStorableWhat _ (what.Bantime jail secs) is
+definition_storable d (request.SetMaxretry jail number) is = some_unless IsStorableWhat _ (what.Maxretry jail number) is
+definition_storable d _ is = tt
 
-jail_taken : (j : JailNow) (asked : Request) → IsBoundedRequest asked → IfSome (change_in j asked) IsTakenWhat
-jail_taken j (request.SetBanip jail addrs) is =
-    some_if_any IsTakenWhat _ (what.Ban jail (new_addrs j.bans addrs)) (record {
-      fit = tt;
-      bounded = tt;
-      storable = (is.0, (new_are IsAddr [] j.bans addrs is.1.0, (new_distinct [] j.bans addrs, omega (arith, is.1.1, new_few [] j.bans addrs))));
-    })
-jail_taken j (request.SetUnbanip jail addrs) is = some_if_any IsTakenWhat _ (what.Unban (Some jail) (Some addrs)) (record { fit = tt; bounded = tt; storable = is })
-jail_taken j (request.SetAttempt jail addr) is = some_unless IsTakenWhat _ (what.Attempt jail addr) (record { fit = tt; bounded = tt; storable = is })
-jail_taken j (request.SetIdle jail idle) is = some_unless IsTakenWhat _ (what.Idle jail idle) (record { fit = tt; bounded = tt; storable = is })
-jail_taken j asked is = definition_taken j.definition asked is
+jail_storable : (j : JailNow) (asked : Request) → IsBoundedRequest asked → IfSome (change_in j asked) IsStorableWhat
+jail_storable j (request.SetBanip jail addrs) is =
+    some_if_any IsStorableWhat _ (what.Ban jail (new_addrs j.bans addrs))
+    (is.0, (new_are IsAddr [] j.bans addrs is.1.0, (new_distinct [] j.bans addrs, omega (arith, is.1.1, new_few [] j.bans addrs))))
+jail_storable j (request.SetUnbanip jail addrs) is = some_if_any IsStorableWhat _ (what.Unban (Some jail) (Some addrs)) is
+jail_storable j (request.SetAttempt jail addr) is = some_unless IsStorableWhat _ (what.Attempt jail addr) is
+jail_storable j (request.SetIdle jail idle) is = some_unless IsStorableWhat _ (what.Idle jail idle) is
+jail_storable j asked is = definition_storable j.definition asked is
 
-found_taken : (o : Option JailNow) (asked : Request) → IsBoundedRequest asked → IfSome (option_and_then (λ (j : JailNow). change_in j asked) o) IsTakenWhat
-found_taken None asked is = tt
-found_taken (Some j) asked is = jail_taken j asked is
+found_storable : (o : Option JailNow) (asked : Request) → IsBoundedRequest asked → IfSome (option_and_then (λ (j : JailNow). change_in j asked) o) IsStorableWhat
+found_storable None asked is = tt
+found_storable (Some j) asked is = jail_storable j asked is
 
-change_taken : (now : Now) (asked : Request) → IsBoundedRequest asked → IfSome (change_of now asked) IsTakenWhat
-change_taken now request.UnbanAll is = some_if_any IsTakenWhat _ (what.Unban None None) (record { fit = tt; bounded = tt; storable = (tt, tt) })
-change_taken now (request.Unban addrs) is = some_if_any IsTakenWhat _ (what.Unban None (Some addrs)) (record { fit = tt; bounded = tt; storable = (tt, is) })
-change_taken now request.Stop is = some_unless IsTakenWhat _ what.Stop (record { fit = tt; bounded = tt; storable = tt })
-change_taken now asked is = found_taken (option_and_then (jail_in now) (named asked)) asked is
+change_storable : (now : Now) (asked : Request) → IsBoundedRequest asked → IfSome (change_of now asked) IsStorableWhat
+change_storable now request.UnbanAll is = some_if_any IsStorableWhat _ (what.Unban None None) (tt, tt)
+change_storable now (request.Unban addrs) is = some_if_any IsStorableWhat _ (what.Unban None (Some addrs)) (tt, is)
+change_storable now request.Stop is = some_unless IsStorableWhat _ what.Stop tt
+change_storable now asked is = found_storable (option_and_then (jail_in now) (named asked)) asked is
 
-pub effect_taken : (now : Now) (asked : Request) → IsBoundedRequest asked → IfSome (effect now asked) IsTakenWhat
+pub effect_storable : (now : Now) (asked : Request) → IsBoundedRequest asked → IfSome (effect now asked) IsStorableWhat
 unfolding effect
-effect_taken now asked is = by_test (is_some (refusal now asked)) _ (λ refused. rw refused tt) (λ free. rw free (change_taken now asked is))
+effect_storable now asked is = by_test (is_some (refusal now asked)) _ (λ refused. rw refused tt) (λ free. rw free (change_storable now asked is))

@@ -2,4 +2,5 @@ pub mod KnownLemmas
 pub mod BannedLemmas
 pub mod TextLemmas
 pub mod BoundLemmas
+pub mod AskedLemmas
 pub mod RefusalLemmas

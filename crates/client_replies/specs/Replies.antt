@@ -55,17 +55,20 @@ text_of moment now request.Reload = codes "OK"
 text_of moment now request.Stop = codes "Shutdown begun"
 text_of moment now asked = option_map_or (λ (j : JailNow). text_in moment j asked) (option_and_then (jail_in now) (named asked)) []
 
-abbrev pub refused : List ℕ → Answer
-refused text = record { accepted = false; text = text }
+-- ---- replies
 
--- a text that can be sent, or that it cannot
-abbrev pub accepted : List ℕ → Answer
-accepted text = if nat_le (length text) most_text then record { accepted = true; text = text } else refused (codes "Reply too long")
+abbrev pub refused : (why : List ℕ) → Answer
+refused why = record { accepted = false; text = why }
 
-abbrev pub answer : Option (List ℕ) → List ℕ → Answer
+-- why a request is refused, or the text of one that is not
+abbrev pub answer : (why : Option (List ℕ)) → (text : List ℕ) → Answer
 answer (Some why) text = refused why
-answer None text = accepted text
+answer None text = record { accepted = true; text = text }
+
+-- an answer that can be sent, or that it cannot
+abbrev pub sendable : Answer → Answer
+sendable given = if nat_le (length given.text) most_text then given else refused (codes "Reply too long")
 
 -- The reply at a moment, which is at least the state's own. To a reload it is what is replied where the configuration that is read is taken.
 unfoldable pub reply : (moment : ℕ) → Now → Request → Answer
-reply moment now asked = answer (refusal now asked) (text_of (max now.jails.at moment) now asked)
+reply moment now asked = sendable (answer (refusal now asked) (text_of (max now.jails.at moment) now asked))

@@ -4,9 +4,11 @@ ghost use Rattle.f2b_base.specs.declared.ban.Ban.{Ban};
 ghost use Rattle.f2b_base.specs.declared.jail.JailDef.{JailDef};
 ghost use Rattle.f2b_base.specs.declared.input.What.TheVariants as what;
 ghost use Rattle.f2b_model.specs.Moves.{is_banned};
+ghost use Rattle.f2b_model.specs.Storable.{IsStorable, IsStorableWhat};
 ghost use Rattle.f2b_model.specs.declared.jail_now.JailNow.{JailNow};
+ghost use Rattle.client_words.specs.Bounds.{IsBoundedRequest};
+ghost use Rattle.client_replies.specs.Asked.{DoesAsAsked};
 ghost use Rattle.client_replies.specs.Banned.{count_meant, ended, new_addrs};
-ghost use Rattle.client_replies.specs.Bounds.{IsBoundedRequest, IsTakenWhat};
 ghost use Rattle.client_replies.specs.Changes.{ban_of, change_of, change_of_definition, effect, if_any, is_same, unless};
 ghost use Rattle.client_replies.specs.Meant.{bans_at, definition_named};
 ghost use Rattle.client_replies.specs.Refusals.{jail_in};
@@ -214,11 +216,12 @@ fn change_of(alloc: Global, core: &Core, request: &Request) -> Result<Option<Wha
 }
 
 /// The input that a request makes, or `None` where it changes nothing or is refused. A reload's is made of the configuration that is
-/// read, and is not made here. That of a request within bounds can be taken and stored.
-#[tactic(auto, using(crate::proofs::BoundLemmas::effect_taken), unfolding(crate::specs::Changes::effect))]
+/// read, and is not made here. Where the request's values are within their bounds, as words give them, the input can be stored and taken.
+#[tactic(auto, using(crate::proofs::AskedLemmas::effect_as_asked, crate::proofs::BoundLemmas::effect_storable), unfolding(crate::specs::Changes::effect))]
 pub fn effect(alloc: Global, core: &Core, request: &Request) -> Result<Option<What>, NoMemory>
     ensures made { IfOk result (λ made. made ≡ effect core.now request.now) }
-    ensures taken { IsBoundedRequest request.now → IfOk result (λ made. IfSome made IsTakenWhat) }
+    ensures asked { IsStorable core.now → IfOk result (λ made. DoesAsAsked core.now request.now made) }
+    ensures storable { IsBoundedRequest request.now → IfOk result (λ made. IfSome made IsStorableWhat) }
 {
     if is_refused(core, request) {
         return Ok(None);

@@ -1,5 +1,5 @@
 //! What a request is replied.
-ghost use Rattle.std.specs.Prelude.{◌≡◌, [], List, Some, IfOk, codes, length, max};
+ghost use Rattle.std.specs.Prelude.{◌≡◌, ◌≤◌, [], List, Some, IfOk, codes, length, max};
 ghost use Rattle.std.specs.List.{join_by};
 ghost use Rattle.std.specs.Fmt.{decimal};
 ghost use Rattle.std.specs.Option.{option_map_or};
@@ -9,7 +9,8 @@ ghost use Rattle.f2b_base.specs.declared.jail.JailDef.{JailDef};
 ghost use Rattle.f2b_model.specs.Moves.{is_banned};
 ghost use Rattle.client_replies.specs.Banned.{count_meant, ended, new_addrs};
 ghost use Rattle.client_replies.specs.Meant.{bans_at, definition_named};
-ghost use Rattle.client_replies.specs.Replies.{accepted, counted_text, refused, reply, text_of, text_of_definition};
+ghost use Rattle.client_replies.specs.Refusals.{refusal};
+ghost use Rattle.client_replies.specs.Replies.{answer, counted_text, refused, reply, sendable, text_of, text_of_definition};
 ghost use Rattle.client_replies.specs.Texts.{bans_text, idle_text};
 
 use crate::banned::{bans_in, count_meant, ended, whom};
@@ -181,28 +182,36 @@ fn refused(text: Text) -> Answer
     }
 }
 
-/// A text that can be sent, or that it cannot.
-fn accepted(alloc: Global, text: Text) -> Result<Answer, NoMemory>
-    ensures { IfOk result (λ answer. answer ≡ accepted text) }
+/// Why a request is refused, or the text of one that is not.
+fn answer(alloc: Global, core: &Core, now: u64, request: &Request) -> Result<Answer, NoMemory>
+    ensures { IfOk result (λ given. given ≡ answer (refusal core.now request.now) (text_of (max core.now.jails.at now) core.now request.now)) }
 {
-    if text.as_str().len() > MOST_TEXT {
-        return Ok(refused(Text::from_str(alloc, "Reply too long")?));
+    match refusal(alloc, core, request)? {
+        Some(why) => Ok(refused(why)),
+        None => Ok(Answer {
+            accepted: true,
+            text: text_of(alloc, core, now, request)?,
+        }),
     }
-    Ok(Answer {
-        accepted: true,
-        text,
-    })
+}
+
+/// An answer that can be sent, or that it cannot.
+fn sendable(alloc: Global, answer: Answer) -> Result<Answer, NoMemory>
+    ensures answer { IfOk result (λ given. given ≡ sendable answer) }
+    ensures short { IfOk result (λ given. length given.text ≤ most_text) }
+{
+    if answer.text.as_str().len() <= MOST_TEXT {
+        return Ok(answer);
+    }
+    Ok(refused(Text::from_str(alloc, "Reply too long")?))
 }
 
 /// The reply to a request at a moment in seconds since 1970, over the state before the input that the request makes. A moment before the
-/// state's own counts as that. To a reload it is what is replied where the configuration that is read is taken.
+/// state's own counts as that. To a reload it is what is replied where the configuration that is read is taken. It can be framed.
 #[tactic(auto, unfolding(crate::specs::Replies::reply))]
 pub fn reply(alloc: Global, core: &Core, now: u64, request: &Request) -> Result<Answer, NoMemory>
-    ensures { IfOk result (λ answer. answer ≡ reply now core.now request.now) }
+    ensures answer { IfOk result (λ answer. answer ≡ reply now core.now request.now) }
+    ensures short { IfOk result (λ answer. length answer.text ≤ most_text) }
 {
-    if let Some(why) = refusal(alloc, core, request)? {
-        return Ok(refused(why));
-    }
-    let text = text_of(alloc, core, now, request)?;
-    accepted(alloc, text)
+    sendable(alloc, answer(alloc, core, now, request)?)
 }

@@ -1,15 +1,13 @@
--- Requests whose values are within their bounds. The inputs that they make can be taken and stored.
+-- Requests whose values are within the bounds of what is stored.
 use Rattle.std.specs.Prelude.{◌≤◌, length}
 use Rattle.f2b_base.specs.Addresses.{IsAddr}
 use Rattle.f2b_base.specs.Masks.{IsCidr}
-use Rattle.f2b_base.specs.declared.input.What.{What}
-use Rattle.f2b_model.specs.Bounds.{IsBoundedWhat}
 use Rattle.f2b_model.specs.Lists.{AllOf}
-use Rattle.f2b_model.specs.Sound.{IsFitWhat}
-use Rattle.f2b_model.specs.Storable.{most_at_once, IsBase, IsJailName, IsSpanOfTime, IsStorableWhat, IsWithin}
+use Rattle.f2b_model.specs.Storable.{most_at_once, IsBase, IsJailName, IsSpanOfTime, IsWithin}
 use Rattle.client_words.specs.declared.request.Request.{Request}
 use Rattle.client_words.specs.declared.request.Request.TheVariants.{Unban, SetBanip, SetUnbanip, SetAttempt, AddIgnore, DelIgnore, SetFindtime, SetBantime, SetMaxretry, SetIdle}
 
+-- the values of a request that changes something are within their bounds
 abbrev pub IsBoundedRequest : Request → Type 0
 IsBoundedRequest (Unban addrs) = AllOf IsAddr addrs
 IsBoundedRequest (SetBanip jail addrs) = IsJailName jail × AllOf IsAddr addrs × (length addrs ≤ most_at_once)
@@ -22,9 +20,3 @@ IsBoundedRequest (SetBantime jail secs) = IsJailName jail × IsBase secs
 IsBoundedRequest (SetMaxretry jail number) = IsJailName jail × IsWithin 1 100000 number
 IsBoundedRequest (SetIdle jail idle) = IsJailName jail
 IsBoundedRequest _ = Unit {0}
-
--- what happens can be taken and stored
-pub record IsTakenWhat (what : What) : Type 0 where
-  pub fit : IsFitWhat what
-  pub bounded : IsBoundedWhat what
-  pub storable : IsStorableWhat what
