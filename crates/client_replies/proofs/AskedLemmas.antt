@@ -27,6 +27,7 @@ use Rattle.f2b_model.proofs.OrderlyLemmas.{same_addr_sym}
 use Rattle.f2b_model.proofs.SameLemmas.{bytes_eq-true}
 use Rattle.client_words.specs.declared.request.Request.{Request}
 use Rattle.client_words.specs.declared.request.Request.TheVariants as request
+use Rattle.client_replies.proofs.KnownLemmas.{passed, taken}
 use Rattle.client_replies.specs.Asked.{asked_for, or_tick, DoesAsAsked}
 use Rattle.client_replies.specs.Banned.{count_meant, ended_in, is_among, new_addrs, new_after}
 use Rattle.client_replies.specs.Changes.{ban_of, change_in, change_of, effect, has_mask, if_any, is_same, unless}
@@ -44,7 +45,7 @@ in_jail_as name f g n (j ∷ js) same =
     (λ other. rw other (ap (λ (o : JailsAndSerial JailNow). record { jails = j ∷ o.jails; next = o.next }) (in_jail_as name f g n js (λ k found. same k (rw other found)))))
 
 -- a move that leaves the jail as it is
-stays : ℕ → JailNow → JailAndSerial JailNow
+abbrev stays : ℕ → JailNow → JailAndSerial JailNow
 stays n j = record { jail = j; next = n }
 
 in_jail_stays : (name : List ℕ) (n : ℕ) (js : List JailNow) → in_jail moves_now name stays n js ≡ record { jails = js; next = n }
@@ -88,6 +89,20 @@ or_moved false true false = refl
 or_moved false false true = refl
 or_moved false false false = refl
 
+-- who is banned is passed over, and a ban of another one begins
+abbrev by_ban : (at word : ℕ) (addr : Addr) (addrs : List Addr) (n : ℕ) (k : JailNow) (banned : Bool) → JailAndSerial JailNow
+by_ban at word addr addrs n k banned =
+    let o : JailAndSerial JailNow = cond banned (record { jail = k; next = n }) (record { jail = begun_now at word n addr 0 k; next = suc n }) in
+    banned_in_turn moves_now at word addrs o.next o.jail
+
+pass_over : (at word : ℕ) (addr : Addr) (addrs : List Addr) (n : ℕ) (k : JailNow) → is_banned addr k.bans ≡ true
+    → banned_in_turn moves_now at word (addr ∷ addrs) n k ≡ banned_in_turn moves_now at word addrs n k
+pass_over at word addr addrs n k is = ap (λ b. by_ban at word addr addrs n k b) is
+
+begins : (at word : ℕ) (addr : Addr) (addrs : List Addr) (n : ℕ) (k : JailNow) → is_banned addr k.bans ≡ false
+    → banned_in_turn moves_now at word (addr ∷ addrs) n k ≡ banned_in_turn moves_now at word addrs (suc n) (begun_now at word n addr 0 k)
+begins at word addr addrs n k is = ap (λ b. by_ban at word addr addrs n k b) is
+
 -- those who are banned are left out of a ban
 bans_as : (at word : ℕ) (seen : List Addr) (bans : List Ban) (addrs : List Addr) (n : ℕ) (k : JailNow)
     → ((x : Addr) → is_banned x k.bans ≡ (is_banned x bans || is_among seen x))
@@ -95,20 +110,22 @@ bans_as : (at word : ℕ) (seen : List Addr) (bans : List Ban) (addrs : List Add
 bans_as at word seen bans [] n k knows = refl
 bans_as at word seen bans (addr ∷ addrs) n k knows =
     by_test (is_banned addr bans || is_among seen addr) _
-    (λ known. let there : is_banned addr k.bans ≡ true = knows addr ∙ known in rw (known, there) (bans_as at word seen bans addrs n k knows))
+    (λ known.
+    ap (λ l. banned_in_turn moves_now at word l n k) (passed seen bans addr addrs known) ∙ bans_as at word seen bans addrs n k knows
+    ∙ sym (pass_over at word addr addrs n k (knows addr ∙ known)))
     (λ new.
     let free : is_banned addr k.bans ≡ false = knows addr ∙ new in
-    let after : JailNow = begun_now at word n addr 0 k in
-    rw (new, free)
-    (bans_as at word (addr ∷ seen) bans addrs (suc n) after
+    ap (λ l. banned_in_turn moves_now at word l n k) (taken seen bans addr addrs new) ∙ begins at word addr (new_after (addr ∷ seen) bans addrs) n k free
+    ∙ bans_as at word (addr ∷ seen) bans addrs (suc n) (begun_now at word n addr 0 k)
     (λ x.
     banned_push addr x k.bans _ refl ∙ ap (λ t. t || same_addr addr x) (knows x)
     ∙ ap (λ t. (is_banned x bans || is_among seen x) || t) (same_addr_sym addr x)
-    ∙ or_moved (is_banned x bans) (is_among seen x) (same_addr x addr))))
+    ∙ or_moved (is_banned x bans) (is_among seen x) (same_addr x addr))
+    ∙ sym (begins at word addr addrs n k free))
 
 no_one : (addrs : List Addr) → (length addrs == 0) ≡ true → addrs ≡ []
 no_one [] is = refl
-no_one (addr ∷ addrs) is = absurd (cc)
+no_one (addr ∷ addrs) is = absurd (grind (arith, nat_tests, is))
 
 or_nothing : (a : Bool) → a ≡ (a || false)
 or_nothing true = refl
@@ -128,7 +145,7 @@ nothing_ends at addrs j none = ends (filter (is_meant addrs) j.bans) none
   where
     ends : (bs : List Ban) → (length bs == 0) ≡ true → end_all moves_now (λ b. at) bs j ≡ j
     ends [] none = refl
-    ends (b ∷ bs) none = absurd (cc)
+    ends (b ∷ bs) none = absurd (grind (arith, nat_tests, none))
 
 -- in all jails
 all_stay : (at : ℕ) (addrs : Option (List Addr)) (js : List JailNow) → (sum_by (ended_in addrs) js == 0) ≡ true → js ≡ map (λ j. unbanned moves_now at addrs j) js
@@ -194,16 +211,19 @@ not_missing : (name : Option (List ℕ)) (late : Bool) → is_some (refusal_by n
 not_missing None late free = refl
 not_missing (Some name) late free = absurd (let e : true ≡ false = free in cc)
 
-no_change : (o : Option JailNow) → option_and_then (λ (j : JailNow). None {A = What}) o ≡ None
+abbrev nothing : JailNow → Option What
+nothing j = None
+
+no_change : (o : Option JailNow) → option_and_then nothing o ≡ None
 no_change None = refl
 no_change (Some j) = refl
 
 -- what is made of what changes in a jail that may be there
-after : ℕ → JailsNow → Request → Option JailNow → JailsNow
+abbrev after : ℕ → JailsNow → Request → Option JailNow → JailsNow
 after word w asked o = done moves_now word (or_tick (option_and_then (λ (j : JailNow). change_in j asked) o)) w
 
 -- one that asks for nothing
-asks_nothing : (word : ℕ) (w : JailsNow) (o : Option JailNow) → done moves_now word (or_tick (option_and_then (λ (j : JailNow). None {A = What}) o)) w ≡ w
+asks_nothing : (word : ℕ) (w : JailsNow) (o : Option JailNow) → done moves_now word (or_tick (option_and_then nothing o)) w ≡ w
 asks_nothing word w o = ap (λ made. done moves_now word (or_tick made) w) (no_change o)
 
 module _ (word : ℕ) (w : JailsNow) (jail : List ℕ) (j : JailNow) (found : find_jail moves_now jail w.jails ≡ Some j) where

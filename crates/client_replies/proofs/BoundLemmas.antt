@@ -92,7 +92,7 @@ definition_storable d _ is = tt
 jail_storable : (j : JailNow) (asked : Request) → IsBoundedRequest asked → IfSome (change_in j asked) IsStorableWhat
 jail_storable j (request.SetBanip jail addrs) is =
     some_if_any IsStorableWhat _ (what.Ban jail (new_addrs j.bans addrs))
-    (is.0, (new_are IsAddr [] j.bans addrs is.1.0, (new_distinct [] j.bans addrs, omega (arith, is.1.1, new_few [] j.bans addrs))))
+    (is.0, new_are IsAddr [] j.bans addrs is.1, new_distinct [] j.bans addrs, omega (arith, is.2, new_few [] j.bans addrs))
 jail_storable j (request.SetUnbanip jail addrs) is = some_if_any IsStorableWhat _ (what.Unban (Some jail) (Some addrs)) is
 jail_storable j (request.SetAttempt jail addr) is = some_unless IsStorableWhat _ (what.Attempt jail addr) is
 jail_storable j (request.SetIdle jail idle) is = some_unless IsStorableWhat _ (what.Idle jail idle) is

@@ -98,11 +98,11 @@ pub record IsSoFar (bans : List Ban) (addrs : List Addr) (known : Known) (new : 
   pub knows : IsKnown known (λ addr. is_banned addr bans || is_among seen addr)
   pub is : new_after [] bans addrs ≡ new ++ new_after seen bans rest
 
-taken : (seen : List Addr) (bans : List Ban) (addr : Addr) (addrs : List Addr) → (is_banned addr bans || is_among seen addr) ≡ false
+pub taken : (seen : List Addr) (bans : List Ban) (addr : Addr) (addrs : List Addr) → (is_banned addr bans || is_among seen addr) ≡ false
     → new_after seen bans (addr ∷ addrs) ≡ addr ∷ new_after (addr ∷ seen) bans addrs
 taken seen bans addr addrs is = rw is refl
 
-passed : (seen : List Addr) (bans : List Ban) (addr : Addr) (addrs : List Addr) → (is_banned addr bans || is_among seen addr) ≡ true
+pub passed : (seen : List Addr) (bans : List Ban) (addr : Addr) (addrs : List Addr) → (is_banned addr bans || is_among seen addr) ≡ true
     → new_after seen bans (addr ∷ addrs) ≡ new_after seen bans addrs
 passed seen bans addr addrs is = rw is refl
 

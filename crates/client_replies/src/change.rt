@@ -18,7 +18,7 @@ use crate::known::new_addrs;
 use crate::masks::has_mask;
 use crate::refusal::{is_refused, named};
 use client_words::Request;
-use f2b_base::{Addr, Ban, JailDef, NoMemory, Plain, Seq, Text, What};
+use f2b_base::{Addr, Ban, Cidr, JailDef, NoMemory, Plain, Seq, Text, What};
 use jail_core::Core;
 use std::alloc::Global;
 
@@ -49,6 +49,17 @@ pub(crate) fn is_banned(addr: Addr, bans: &[Ban]) -> bool
     bans.iter().any(|ban| ban.addr.same(addr))
 }
 
+/// A mask is added to those that a jail never bans, or taken out of them.
+fn ignore(jail: &Text, cidr: Cidr, add: bool) -> Result<What, NoMemory>
+    ensures { IfOk result (λ happens. happens ≡ what.Ignore jail.now cidr add) }
+{
+    Ok(What::Ignore {
+        jail: jail.copy()?,
+        cidr,
+        add,
+    })
+}
+
 /// What changes of a definition.
 fn change_of_definition(definition: &JailDef, request: &Request) -> Result<Option<What>, NoMemory>
     ensures { IfOk result (λ change. change ≡ change_of_definition definition.now request.now) }
@@ -56,19 +67,11 @@ fn change_of_definition(definition: &JailDef, request: &Request) -> Result<Optio
     match request {
         Request::AddIgnore { jail, cidr } => Ok(unless(
             has_mask(cidr, definition.ignore.as_slice()),
-            What::Ignore {
-                jail: jail.copy()?,
-                cidr: *cidr,
-                add: true,
-            },
+            ignore(jail, *cidr, true)?,
         )),
         Request::DelIgnore { jail, cidr } => Ok(unless(
             !has_mask(cidr, definition.ignore.as_slice()),
-            What::Ignore {
-                jail: jail.copy()?,
-                cidr: *cidr,
-                add: false,
-            },
+            ignore(jail, *cidr, false)?,
         )),
         Request::SetFindtime { jail, secs } => Ok(unless(
             *secs == definition.findtime,
