@@ -18,7 +18,7 @@ use Rattle.f2b_model.specs.Moves.{ban_of as is_ban_of, is_banned, same_cidr, Jai
 use Rattle.f2b_model.specs.NowMoves.{begun_now}
 use Rattle.f2b_model.specs.Nows.{JailsNow}
 use Rattle.f2b_model.specs.Storable.{IsStorable}
-use Rattle.f2b_model.specs.Steps.{alone, at_jail, banned_in_turn, done, end_all, find_jail, in_jail, is_meant, moves_now, names, unbanned, JailsAndSerial}
+use Rattle.f2b_model.specs.Steps.{at_jail, banned_in_turn, done, end_all, find_jail, found_in_turn, in_jail, is_meant, moves_now, names, unbanned, JailsAndSerial}
 use Rattle.f2b_model.specs.Whole.{Now}
 use Rattle.f2b_model.specs.declared.jail_now.JailNow.{JailNow}
 use Rattle.f2b_model.proofs.HeldLemmas.{bytes_swap}
@@ -135,8 +135,11 @@ ban_as : (word : ℕ) (w : JailsNow) (jail : List ℕ) (addrs : List Addr) (j : 
     → done moves_now word (or_tick (ban_of jail (new_addrs j.bans addrs))) w ≡ done moves_now word (what.Ban jail addrs) w
 ban_as word w jail addrs j found =
     none_left_out word w (length (new_addrs j.bans addrs)) (what.Ban jail (new_addrs j.bans addrs))
-    (λ none. at_jail_stays jail _ w j found (ap (λ l. banned_in_turn moves_now w.at word l w.next_ban j) (no_one (new_addrs j.bans addrs) none)))
-    ∙ at_jail_as jail _ _ w j found (bans_as w.at word [] j.bans addrs w.next_ban j (λ x. or_nothing (is_banned x j.bans)))
+    (λ none.
+    at_jail_stays jail (banned_in_turn moves_now w.at word (new_addrs j.bans addrs)) w j found
+    (ap (λ l. banned_in_turn moves_now w.at word l w.next_ban j) (no_one (new_addrs j.bans addrs) none)))
+    ∙ at_jail_as jail (banned_in_turn moves_now w.at word (new_addrs j.bans addrs)) (banned_in_turn moves_now w.at word addrs) w j found
+    (bans_as w.at word [] j.bans addrs w.next_ban j (λ x. or_nothing (is_banned x j.bans)))
 
 -- ---- ends of bans
 
@@ -228,7 +231,7 @@ asks_nothing word w o = ap (λ made. done moves_now word (or_tick made) w) (no_c
 
 module _ (word : ℕ) (w : JailsNow) (jail : List ℕ) (j : JailNow) (found : find_jail moves_now jail w.jails ≡ Some j) where
   attempt_as : (addr : Addr) → done moves_now word (or_tick (unless (is_banned addr j.bans) (what.Attempt jail addr))) w ≡ done moves_now word (what.Attempt jail addr) w
-  attempt_as addr = left_out word w (is_banned addr j.bans) (what.Attempt jail addr) (λ banned. at_jail_stays jail _ w j found (rw banned refl))
+  attempt_as addr = left_out word w (is_banned addr j.bans) (what.Attempt jail addr) (λ banned. at_jail_stays jail (found_in_turn moves_now w.at word (record { addr = addr; time = w.at; line = [] } ∷ [])) w j found (rw banned refl))
 
   unban_as : (addrs : List Addr) → AreDistinct bytes_eq (names moves_now w.jails)
       → done moves_now word (or_tick (if_any (ended_in (Some addrs) j) (what.Unban (Some jail) (Some addrs)))) w ≡ done moves_now word (what.Unban (Some jail) (Some addrs)) w
@@ -239,33 +242,39 @@ module _ (word : ℕ) (w : JailsNow) (jail : List ℕ) (j : JailNow) (found : fi
   idle_as : (idle : Bool) → done moves_now word (or_tick (unless (is_same idle j.idle) (what.Idle jail idle))) w ≡ done moves_now word (what.Idle jail idle) w
   idle_as idle =
       left_out word w (is_same idle j.idle) (what.Idle jail idle)
-      (λ same. at_jail_stays jail _ w j found (ap (λ (b : Bool). record { jail = record j { idle = b }; next = w.next_ban }) (same_flag idle j.idle same)))
+      (λ same.
+      at_jail_stays jail (λ n k. record { jail = moves_now.idle idle k; next = n }) w j found
+      (ap (λ (b : Bool). record { jail = record j { idle = b }; next = w.next_ban }) (same_flag idle j.idle same)))
 
   add_as : (cidr : Cidr) → done moves_now word (or_tick (unless (has_mask cidr j.definition.ignore) (what.Ignore jail cidr true))) w ≡ done moves_now word (what.Ignore jail cidr true) w
-  add_as cidr = left_out word w (has_mask cidr j.definition.ignore) (what.Ignore jail cidr true) (λ there. at_jail_stays jail _ w j found (rw there refl))
+  add_as cidr = left_out word w (has_mask cidr j.definition.ignore) (what.Ignore jail cidr true) (λ there. at_jail_stays jail (λ n k. record { jail = moves_now.ignored cidr true k; next = n }) w j found (rw there refl))
 
   del_as : (cidr : Cidr) → done moves_now word (or_tick (unless (not (has_mask cidr j.definition.ignore)) (what.Ignore jail cidr false))) w ≡ done moves_now word (what.Ignore jail cidr false) w
   del_as cidr =
       left_out word w (not (has_mask cidr j.definition.ignore)) (what.Ignore jail cidr false)
       (λ none.
-      at_jail_stays jail _ w j found
+      at_jail_stays jail (λ n k. record { jail = moves_now.ignored cidr false k; next = n }) w j found
       (ap (λ (masks : List Cidr). record { jail = record j { definition = record (j.definition) { ignore = masks } }; next = w.next_ban }) (none_go cidr j.definition.ignore none)))
 
   findtime_as : (secs : ℕ) → done moves_now word (or_tick (unless (secs == j.definition.findtime) (what.Findtime jail secs))) w ≡ done moves_now word (what.Findtime jail secs) w
   findtime_as secs =
       left_out word w (secs == j.definition.findtime) (what.Findtime jail secs)
-      (λ same. at_jail_stays jail _ w j found (rw (same, itself j.definition.maxretry) refl))
+      (λ same.
+      at_jail_stays jail (λ n k. record { jail = moves_now.limited secs (moves_now.definition k).maxretry k; next = n }) w j found
+      (rw (same, itself j.definition.maxretry) refl))
 
   maxretry_as : (number : ℕ) → done moves_now word (or_tick (unless (number == j.definition.maxretry) (what.Maxretry jail number))) w ≡ done moves_now word (what.Maxretry jail number) w
   maxretry_as number =
       left_out word w (number == j.definition.maxretry) (what.Maxretry jail number)
-      (λ same. at_jail_stays jail _ w j found (rw (itself j.definition.findtime, same) refl))
+      (λ same.
+      at_jail_stays jail (λ n k. record { jail = moves_now.limited (moves_now.definition k).findtime number k; next = n }) w j found
+      (rw (itself j.definition.findtime, same) refl))
 
   bantime_as : (secs : ℤ) → done moves_now word (or_tick (unless (int_eq secs j.definition.rule.base) (what.Bantime jail secs))) w ≡ done moves_now word (what.Bantime jail secs) w
   bantime_as secs =
       left_out word w (int_eq secs j.definition.rule.base) (what.Bantime jail secs)
       (λ same.
-      at_jail_stays jail _ w j found
+      at_jail_stays jail (λ n k. record { jail = moves_now.spanned secs k; next = n }) w j found
       (ap (λ (base : ℤ). record { jail = record j { definition = record (j.definition) { rule = record (j.definition.rule) { base = base } } }; next = w.next_ban })
       ((Decides-int_eq secs j.definition.rule.base).0 same)))
 
