@@ -1,5 +1,5 @@
 -- The bounds of names and times that words spell.
-use Rattle.std.proofs.Common.{◌≡◌, ℕ, zero, suc, ◌<◌, ◌≤◌, ◌==◌, Bool, true, false, cond, ◌&&◌, nat_le, List, [], ◌∷◌, length, Option, None, Some, option_map, ℤ, pos, negsuc, refl, subst, arith}
+use Rattle.std.proofs.Common.{◌≡◌, ◌≢◌, ℕ, zero, suc, ◌<◌, ◌≤◌, ◌==◌, Bool, true, false, cond, ◌&&◌, nat_le, List, [], ◌∷◌, length, Option, None, Some, option_map, ℤ, pos, negsuc, int_le, unsigned_abs, refl, subst, arith}
 use Rattle.std.specs.Prelude.{neg_ℤ}
 use Rattle.std.specs.Char.{is_ascii_digit}
 use Rattle.std.specs.List.{list_all}
@@ -7,7 +7,7 @@ use Rattle.std.proofs.NetLemmas.Options.{cond_some, and_then_some, map_some}
 use Rattle.std.proofs.lemmas.Bool.{leb-true}
 use Rattle.std.proofs.lemmas.Bool.Decides.{nat_tests}
 use Rattle.std.proofs.lemmas.Option.{none-some}
-use Rattle.f2b_model.specs.Storable.{longest_span, IsJailName}
+use Rattle.f2b_model.specs.Storable.{longest_span, IsBase, IsJailName, IsSpanOfTime}
 use Rattle.f2b_model.specs.Storable as model
 use Rattle.ini_interp.specs.Lines.{trimmed}
 use Rattle.jail_conf.specs.Jails.{is_jail_name, is_name_byte}
@@ -72,3 +72,12 @@ signed_is (byte ∷ text) word is = by (byte == 45) is
 pub time_word_is : (text : List ℕ) (word : ℤ) → time_word text ≡ Some word → IsTimeWord word
 unfolding time_word
 time_word_is text word is = signed_is (trimmed text) word is
+
+pub span_is : (secs : ℤ) → IsTimeWord secs → int_le (pos 1) secs ≡ true → IsSpanOfTime (unsigned_abs secs)
+span_is (pos n) below from = (leb-true 1 n from, below)
+span_is (negsuc n) below from = absurd (let e : false ≡ true = from in cc)
+
+pub base_is : (secs : ℤ) → IsTimeWord secs → secs ≢ pos 0 → IsBase secs
+base_is (pos zero) below some = absurd (some refl)
+base_is (pos (suc n)) below some = (omega arith, below)
+base_is (negsuc n) below some = below

@@ -11,7 +11,6 @@ use f2b_base::Text;
 use jail_conf::str2sec;
 
 /// A time of 1 second at least.
-#[tactic(auto, using(crate::proofs::BoundLemmas::time_word_is))]
 pub(crate) fn findtime(word: &Text) -> Result<u64, CommandError>
     ensures secs { result ≡ findtime word.now }
     ensures bounds { IfOk result IsSpanOfTime }
@@ -23,7 +22,6 @@ pub(crate) fn findtime(word: &Text) -> Result<u64, CommandError>
 }
 
 /// A time that is not 0.
-#[tactic(auto, using(crate::proofs::BoundLemmas::time_word_is))]
 pub(crate) fn bantime(word: &Text) -> Result<i64, CommandError>
     ensures secs { result ≡ bantime word.now }
     ensures bounds { IfOk result IsBase }
