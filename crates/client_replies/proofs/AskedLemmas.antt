@@ -334,6 +334,9 @@ as_asked word now (request.GetIgnoreip jail) apart free = asks_nothing word now.
 as_asked word now (request.GetLogpath jail) apart free = asks_nothing word now.jails (jail_in now jail)
 as_asked word now (request.GetFailregex jail) apart free = asks_nothing word now.jails (jail_in now jail)
 
+pub change_as_asked : (now : Now) (asked : Request) → IsStorable now → DoesAsAsked now asked (change_of now asked)
+change_as_asked now asked storable = λ free word. as_asked word now asked storable.names free
+
 pub effect_as_asked : (now : Now) (asked : Request) → IsStorable now → DoesAsAsked now asked (effect now asked)
 unfolding effect
 effect_as_asked now asked storable =

@@ -102,7 +102,7 @@ found_storable : (o : Option JailNow) (asked : Request) → IsBoundedRequest ask
 found_storable None asked is = tt
 found_storable (Some j) asked is = jail_storable j asked is
 
-change_storable : (now : Now) (asked : Request) → IsBoundedRequest asked → IfSome (change_of now asked) IsStorableWhat
+pub change_storable : (now : Now) (asked : Request) → IsBoundedRequest asked → IfSome (change_of now asked) IsStorableWhat
 change_storable now request.UnbanAll is = some_if_any IsStorableWhat _ (what.Unban None None) (tt, tt)
 change_storable now (request.Unban addrs) is = some_if_any IsStorableWhat _ (what.Unban None (Some addrs)) (tt, is)
 change_storable now request.Stop is = some_unless IsStorableWhat _ what.Stop tt

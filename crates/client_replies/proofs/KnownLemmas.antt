@@ -4,7 +4,8 @@ use Rattle.std.specs.BTreeSet as sorted
 use Rattle.std.specs.List.{list_any}
 use Rattle.std.specs.Ordering.{is_eq}
 use Rattle.std.proofs.lemmas.List.{drop_all, drop_more, take_all}
-use Rattle.std.proofs.lemmas.List.Folds.{length-filter_more, list_any_more}
+use Rattle.std.proofs.lemmas.List.Folds.{list_any_more}
+use Rattle.std.proofs.lemmas.List.Filters.{length-filter_more}
 use Rattle.ban_table.specs.Places.{pair_cmp, key_of}
 use Rattle.ban_table.proofs.IndexLemmas.{key_same}
 use Rattle.f2b_base.specs.declared.addr.Addr.{Addr}

@@ -4,3 +4,5 @@ pub mod TextLemmas
 pub mod BoundLemmas
 pub mod AskedLemmas
 pub mod RefusalLemmas
+pub mod ResultLemmas
+pub mod DefaultLemmas

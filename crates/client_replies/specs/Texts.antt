@@ -51,6 +51,10 @@ abbrev pub idle_text : Bool → List ℕ
 idle_text true = codes "on"
 idle_text false = codes "off"
 
+-- a title, and what stands behind it
+unfoldable pub titled : (title text : List ℕ) → List ℕ
+titled title text = title ++ text
+
 -- ---- all jails
 
 abbrev pub def_name : JailDef → List ℕ
@@ -76,24 +80,24 @@ banned_text jails = join_by banned_line (codes "\n") jails
 -- how many jails there are, and their names
 unfoldable pub jails_text : List JailNow → List ℕ
 jails_text jails =
-    codes "Status\n|- Number of jail:\t" ++ decimal (length jails)
-    ++ codes "\n`- Jail list:\t" ++ join_by name_of (codes ", ") jails
+    titled (codes "Status\n|- Number of jail:\t") (decimal (length jails))
+    ++ titled (codes "\n`- Jail list:\t") (join_by name_of (codes ", ") jails)
 
 -- ---- one jail
 
 -- what its filter found: how many addresses failed lately and how many failures counted, and the logs
 unfoldable pub filter_text : (lately failed : ℕ) → List WatchDef → List ℕ
 filter_text lately failed watches =
-    codes "\n|- Filter\n|  |- Currently failed:\t" ++ decimal lately
-    ++ codes "\n|  |- Total failed:\t" ++ decimal failed
-    ++ codes "\n|  `- File list:\t" ++ paths_text (codes " ") watches
+    titled (codes "\n|- Filter\n|  |- Currently failed:\t") (decimal lately)
+    ++ titled (codes "\n|  |- Total failed:\t") (decimal failed)
+    ++ titled (codes "\n|  `- File list:\t") (paths_text (codes " ") watches)
 
 -- what its actions were asked for: who is banned, and how many bans began
 unfoldable pub actions_text : (began : ℕ) → List Ban → List ℕ
 actions_text began bans =
-    codes "\n`- Actions\n   |- Currently banned:\t" ++ decimal (length bans)
-    ++ codes "\n   |- Total banned:\t" ++ decimal began
-    ++ codes "\n   `- Banned IP list:\t" ++ bans_text (codes " ") bans
+    titled (codes "\n`- Actions\n   |- Currently banned:\t") (decimal (length bans))
+    ++ titled (codes "\n   |- Total banned:\t") (decimal began)
+    ++ titled (codes "\n   `- Banned IP list:\t") (bans_text (codes " ") bans)
 
 -- nine lines of one jail at a moment
 unfoldable pub jail_text : (lately : ℕ) → JailDef → Totals → List Ban → List ℕ

@@ -89,6 +89,7 @@ impl Known {
 }
 
 /// The addresses that are not banned, each once, in the order in which they stand first.
+#[tactic(auto, using(crate::proofs::KnownLemmas::so_far_new, crate::proofs::KnownLemmas::so_far_known))]
 pub(crate) fn new_addrs(alloc: Global, bans: &[Ban], addrs: &[Addr]) -> Result<Seq<Addr>, NoMemory>
     ensures { IfOk result (λ new. new ≡ new_addrs bans.now addrs.now) }
 {

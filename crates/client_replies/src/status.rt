@@ -7,7 +7,7 @@ ghost use Rattle.client_replies.specs.Refusals.{jail_in};
 ghost use Rattle.client_replies.specs.Texts.{actions_text, banned_text, filter_text, jail_text, jails_text, status_of};
 
 use crate::banned::bans_in;
-use crate::text::{push_joined, push_number};
+use crate::text::{push_joined, push_titled_list, push_titled_number};
 use f2b_base::{Ban, JailDef, NoMemory, Seq, Text, WatchDef};
 use jail_core::Core;
 use jail_moves::Totals;
@@ -24,12 +24,17 @@ fn push_filter(
 ) -> Result<(), NoMemory>
     ensures { OnOk result (reply.new ≡ reply.old ++ filter_text lately failed watches.now) }
 {
-    reply.push_str("\n|- Filter\n|  |- Currently failed:\t")?;
-    push_number(alloc, reply, u128::from(lately))?;
-    reply.push_str("\n|  |- Total failed:\t")?;
-    push_number(alloc, reply, u128::from(failed))?;
-    reply.push_str("\n|  `- File list:\t")?;
-    push_joined(alloc, reply, " ", watches.as_slice())
+    let failing = "\n|- Filter\n|  |- Currently failed:\t";
+    push_titled_number(alloc, reply, failing, u128::from(lately))?;
+    let total = "\n|  |- Total failed:\t";
+    push_titled_number(alloc, reply, total, u128::from(failed))?;
+    push_titled_list(
+        alloc,
+        reply,
+        "\n|  `- File list:\t",
+        " ",
+        watches.as_slice(),
+    )
 }
 
 /// What the actions of a jail were asked for: how many bans began, and who is banned.
@@ -42,12 +47,17 @@ fn push_actions(
 ) -> Result<(), NoMemory>
     ensures { OnOk result (reply.new ≡ reply.old ++ actions_text began bans.now) }
 {
-    reply.push_str("\n`- Actions\n   |- Currently banned:\t")?;
-    push_number(alloc, reply, bans.len() as u128)?;
-    reply.push_str("\n   |- Total banned:\t")?;
-    push_number(alloc, reply, u128::from(began))?;
-    reply.push_str("\n   `- Banned IP list:\t")?;
-    push_joined(alloc, reply, " ", bans.as_slice())
+    let banned = "\n`- Actions\n   |- Currently banned:\t";
+    push_titled_number(alloc, reply, banned, bans.len() as u128)?;
+    let total = "\n   |- Total banned:\t";
+    push_titled_number(alloc, reply, total, u128::from(began))?;
+    push_titled_list(
+        alloc,
+        reply,
+        "\n   `- Banned IP list:\t",
+        " ",
+        bans.as_slice(),
+    )
 }
 
 /// Nine lines of one jail.
@@ -98,10 +108,11 @@ pub(crate) fn jails_text(alloc: Global, core: &Core) -> Result<Text, NoMemory>
     ensures { IfOk result (λ text. text ≡ jails_text core.now.jails.jails) }
 {
     let defs = core.defs()?;
-    let mut reply = Text::from_str(alloc, "Status\n|- Number of jail:\t")?;
-    push_number(alloc, &mut reply, defs.jails.len() as u128)?;
-    reply.push_str("\n`- Jail list:\t")?;
-    push_joined(alloc, &mut reply, ", ", defs.jails.as_slice())?;
+    let mut reply = Text::new(alloc);
+    let count = "Status\n|- Number of jail:\t";
+    push_titled_number(alloc, &mut reply, count, defs.jails.len() as u128)?;
+    let names = "\n`- Jail list:\t";
+    push_titled_list(alloc, &mut reply, names, ", ", defs.jails.as_slice())?;
     Ok(reply)
 }
 

@@ -3,7 +3,7 @@ ghost use Rattle.std.specs.Prelude.{◌≡◌, ◌++◌, ℕ, List, IfOk, IsUtf8
 ghost use Rattle.std.specs.Fmt.{decimal, signed_decimal};
 ghost use Rattle.std.specs.List.{flat_map, join_by};
 ghost use Rattle.f2b_base.specs.Addresses.{printed};
-ghost use Rattle.client_replies.specs.Texts.{all_bits, ban_text, def_name, itself, line_of, mask_text, path_of, view_line};
+ghost use Rattle.client_replies.specs.Texts.{all_bits, ban_text, def_name, itself, line_of, mask_text, path_of, titled, view_line};
 
 use f2b_base::{Addr, Ban, Cidr, JailDef, JailView, NoMemory, Text, WatchDef};
 use std::alloc::Global;
@@ -56,6 +56,35 @@ pub(crate) fn push_number(alloc: Global, reply: &mut Text, number: u128) -> Resu
 {
     let digits = format!(in alloc; "{number}")?;
     reply.push_str(digits.as_str())
+}
+
+/// A title, and a number behind it.
+#[tactic(auto, unfolding(crate::specs::Texts::titled))]
+pub(crate) fn push_titled_number(
+    alloc: Global,
+    reply: &mut Text,
+    title: &str,
+    number: u128,
+) -> Result<(), NoMemory>
+    ensures { OnOk result (reply.new ≡ reply.old ++ titled title.now (decimal number)) }
+{
+    reply.push_str(title)?;
+    push_number(alloc, reply, number)
+}
+
+/// A title, and items behind it with a text between each two.
+#[tactic(auto, unfolding(crate::specs::Texts::titled))]
+pub(crate) fn push_titled_list<T: Listed>(
+    alloc: Global,
+    reply: &mut Text,
+    title: &str,
+    between: &str,
+    items: &[T],
+) -> Result<(), NoMemory>
+    ensures { OnOk result (reply.new ≡ reply.old ++ titled title.now (join_by T.text between.now items.now)) }
+{
+    reply.push_str(title)?;
+    push_joined(alloc, reply, between, items)
 }
 
 pub(crate) fn number_text(alloc: Global, number: u128) -> Result<Text, NoMemory>
@@ -146,6 +175,7 @@ impl Listed for JailDef {
 impl Listed for JailView {
     ghost text = { view_line };
 
+    #[tactic(auto, unfolding(crate::specs::Texts::line_of))]
     fn push_to(&self, alloc: Global, reply: &mut Text) -> Result<(), NoMemory> {
         reply.push_str(self.name.as_str())?;
         reply.push_str(": ")?;
