@@ -101,6 +101,19 @@ const TEARS: [(u32, u8); 6] = [
     (u32::MAX, 255),
 ];
 
+// Whether a stop that tears the slots so leaves an engine with one of two views.
+fn leaves_either(
+    alloc: Global,
+    world: &MemWorld,
+    at: u64,
+    (keep, fill): (u32, u8),
+    limit: u64,
+    views: (&View, &View),
+) -> Result<Result<bool, LoadError>, Fail> {
+    let mut torn = after_stop(alloc, world, at, keep, fill)?;
+    Ok(has_either(alloc, &mut torn, limit, views))
+}
+
 /// A stop once so many calls were made: the engine that is loaded then has the one view or the other.
 pub fn is_either(
     rt: &impl Abort,
@@ -111,10 +124,9 @@ pub fn is_either(
     limit: u64,
     views: (&View, &View),
 ) -> Result<(), Fail> {
-    for &(keep, fill) in &TEARS {
-        let mut torn = after_stop(alloc, world, at, keep, fill)?;
-        let is = has_either(alloc, &mut torn, limit, views);
-        assert_eq!(rt; is, Ok(true), "{name}, {at}, {keep}, {fill}");
+    for &tear in &TEARS {
+        let is = leaves_either(alloc, world, at, tear, limit, views)?;
+        assert_eq!(rt; is, Ok(true), "{name}, {at}, {tear:?}");
     }
     Ok(())
 }

@@ -73,8 +73,20 @@ fn an_input_without_room_or_a_number_is_refused_before_any_call(
 // A slot 0, the limit of a slot, and how many calls write that time passed at 1100.
 const FAULTS: [(&[u8], u64, u64); 3] = [(&TICK, 1000, 4), (&TICK, 30, 10), (&BANS, 200, 4)];
 
-// A call that writes the input fails, counted from 0: the engine that is loaded then has the one view or the other.
-fn fails_at(
+// What comes of the input where that call fails, and how many calls there are then.
+fn take_failing(
+    alloc: Global,
+    slot0: &[u8],
+    limit: u64,
+    call: u64,
+) -> Result<(Result<(), EngineError>, u64), Fail> {
+    let mut world = disk(alloc, slot0, &[], &[call])?;
+    let is = take(alloc, &mut world, limit, Step::Tick(1100))?;
+    Ok((is, world.events().len() as u64))
+}
+
+// A stop behind the call that fails: the engine that is loaded then has the one view or the other.
+fn stops_there(
     rt: &impl Abort,
     alloc: Global,
     slot0: &[u8],
@@ -83,11 +95,31 @@ fn fails_at(
     views: (&View, &View),
 ) -> Result<(), Fail> {
     let mut world = disk(alloc, slot0, &[], &[call])?;
-    let is = take(alloc, &mut world, limit, Step::Tick(1100))?;
-    assert_eq!(rt; is, Err(EngineError::DiskFault), "{call}");
-    let at = call.saturating_add(1);
-    assert_eq!(rt; world.events().len() as u64, at, "{call}");
-    is_either(rt, alloc, "a fault", &world, at, limit, views)
+    let _is = take(alloc, &mut world, limit, Step::Tick(1100))?;
+    is_either(
+        rt,
+        alloc,
+        "a fault",
+        &world,
+        call.saturating_add(1),
+        limit,
+        views,
+    )
+}
+
+// A call that writes the input fails.
+fn fails_at(
+    rt: &impl Abort,
+    alloc: Global,
+    slot0: &[u8],
+    limit: u64,
+    call: u64,
+    views: (&View, &View),
+) -> Result<(), Fail> {
+    let is = take_failing(alloc, slot0, limit, call)?;
+    let want = (Err(EngineError::DiskFault), call.saturating_add(1));
+    assert_eq!(rt; is, want, "{call}");
+    stops_there(rt, alloc, slot0, limit, call, views)
 }
 
 // The view of an engine that is loaded.
@@ -102,6 +134,21 @@ fn view_with(alloc: Global, slot0: &[u8], limit: u64) -> Result<View, Fail> {
     view_after(alloc, &mut world, limit, &[Step::Tick(1100)])
 }
 
+fn each_call(
+    rt: &impl Abort,
+    alloc: Global,
+    slot0: &[u8],
+    limit: u64,
+    writes: u64,
+    views: (&View, &View),
+) -> Result<(), Fail> {
+    let begin = calls(alloc, slot0, limit)?;
+    for call in begin..begin.saturating_add(writes) {
+        fails_at(rt, alloc, slot0, limit, call, views)?;
+    }
+    Ok(())
+}
+
 fn each_fault(
     rt: &impl Abort,
     alloc: Global,
@@ -111,11 +158,7 @@ fn each_fault(
 ) -> Result<(), Fail> {
     let before = view_before(alloc, slot0, limit)?;
     let after = view_with(alloc, slot0, limit)?;
-    let begin = calls(alloc, slot0, limit)?;
-    for call in begin..begin.saturating_add(writes) {
-        fails_at(rt, alloc, slot0, limit, call, (&before, &after))?;
-    }
-    Ok(())
+    each_call(rt, alloc, slot0, limit, writes, (&before, &after))
 }
 
 fn each_row_fails(rt: &impl Abort, alloc: Global, rows: &[(&[u8], u64, u64)]) -> Result<(), Fail> {

@@ -3,7 +3,7 @@
 use crate::bytes::{NEWER, OLD_VERSION, SHUT, TICK};
 use crate::play::{NOTHING, Stored, Tear, after_stop, all_stored, disk};
 use crate::writes::write;
-use ban_journal::AppendError;
+use ban_journal::{AppendError, LoadError};
 use f2b_mem::MemWorld;
 use std::alloc::Global;
 use std::process::Abort;
@@ -255,30 +255,43 @@ fn wanted(scene: &Scene, calls: u64, tear: Tear) -> Stored {
     }
 }
 
-// The input is written to what a stop left, behind what is stored there or behind the new view.
-fn goes_on(
-    rt: &impl Abort,
+// What is stored behind a stop.
+fn stored_behind(
     alloc: Global,
-    scene: &Scene,
-    world: &mut MemWorld,
-    stored: Stored,
-) -> Result<(), Fail> {
-    let (_begin, written) = write(alloc, world, scene.limit)?;
-    assert_eq!(rt; written, Ok(()), "{}, {stored:?}", scene.name);
-    let is = all_stored(alloc, world);
+    world: &MemWorld,
+    at: u64,
+    tear: Tear,
+) -> Result<Result<Stored, LoadError>, Fail> {
+    let mut torn = after_stop(alloc, world, at, tear)?;
+    Ok(all_stored(alloc, &mut torn))
+}
+
+// The same once the input is written to what the stop left.
+fn stored_then(
+    alloc: Global,
+    world: &MemWorld,
+    at: u64,
+    tear: Tear,
+    limit: u64,
+) -> Result<Result<Stored, LoadError>, Fail> {
+    let mut torn = after_stop(alloc, world, at, tear)?;
+    let (_begin, written) = write(alloc, &mut torn, limit)?;
+    if written.is_err() {
+        return Err("not written".into());
+    }
+    Ok(all_stored(alloc, &mut torn))
+}
+
+// Whether the input stands behind what was stored, or behind the new view.
+fn has_input(stored: Stored, is: Result<Stored, LoadError>) -> bool {
     let turned = Stored {
         generation: stored.generation.saturating_add(1),
         ..FIRST_INPUT
     };
-    assert!(rt;
-        is == Ok(appended(stored)) || is == Ok(turned),
-        "{}, {stored:?}",
-        scene.name
-    );
-    Ok(())
+    is == Ok(appended(stored)) || is == Ok(turned)
 }
 
-// A stop behind the call at that place is opened again, where so many of the calls count as done.
+// A stop behind the call at that place is opened again, where so many of the calls count as done, and the input is written to it.
 fn is_stopped(
     rt: &impl Abort,
     alloc: Global,
@@ -288,30 +301,37 @@ fn is_stopped(
     calls: u64,
 ) -> Result<(), Fail> {
     for &tear in &TEARS {
-        let mut torn = after_stop(alloc, world, at, tear)?;
-        let is = all_stored(alloc, &mut torn);
         let want = wanted(scene, calls, tear);
+        let is = stored_behind(alloc, world, at, tear)?;
         assert_eq!(rt; is, Ok(want), "{}, {calls}, {tear:?}", scene.name);
-        goes_on(rt, alloc, scene, &mut torn, want)?;
+        let then = stored_then(alloc, world, at, tear, scene.limit)?;
+        assert!(rt; has_input(want, then), "{}, {calls}, {tear:?}", scene.name);
     }
     Ok(())
 }
 
-// The input is written, and each call of it may be the last.
+// Each call that wrote the input may be the last.
+fn each_call(
+    rt: &impl Abort,
+    alloc: Global,
+    scene: &Scene,
+    world: &MemWorld,
+    begin: u64,
+) -> Result<(), Fail> {
+    for calls in 0..=scene.calls {
+        is_stopped(rt, alloc, scene, world, begin.saturating_add(calls), calls)?;
+    }
+    Ok(())
+}
+
+// The input is written.
 fn each_stop(rt: &impl Abort, alloc: Global, scene: &Scene) -> Result<(), Fail> {
     let mut world = disk(alloc, scene.slot0, scene.slot1, &[])?;
     let (begin, written) = write(alloc, &mut world, scene.limit)?;
-    assert_eq!(rt; written, Ok(()), "{}", scene.name);
-    assert_eq!(rt;
-        world.events().len() as u64,
-        begin.saturating_add(scene.calls),
-        "{}",
-        scene.name
-    );
-    for calls in 0..=scene.calls {
-        is_stopped(rt, alloc, scene, &world, begin.saturating_add(calls), calls)?;
-    }
-    Ok(())
+    let is = (written, world.events().len() as u64);
+    let want = (Ok(()), begin.saturating_add(scene.calls));
+    assert_eq!(rt; is, want, "{}", scene.name);
+    each_call(rt, alloc, scene, &world, begin)
 }
 
 fn each_scene(rt: &impl Abort, alloc: Global, scenes: &[Scene]) -> Result<(), Fail> {
@@ -328,7 +348,39 @@ fn a_stop_at_any_call_leaves_what_was_stored_or_that_and_the_input(
     each_scene(&rt, rt.alloc(), &SCENES)
 }
 
-// A call that writes the input fails, counted from 0. What was written and not synced may be there or not.
+// What comes of the input where the call at that place fails, and how many calls there are then.
+fn write_failing(
+    alloc: Global,
+    scene: &Scene,
+    place: u64,
+) -> Result<(Result<(), AppendError>, u64), Fail> {
+    let mut world = disk(alloc, scene.slot0, scene.slot1, &[place])?;
+    let (_begin, written) = write(alloc, &mut world, scene.limit)?;
+    Ok((written, world.events().len() as u64))
+}
+
+// A stop behind the call that fails, where so many of the calls count as done.
+fn stops_there(
+    rt: &impl Abort,
+    alloc: Global,
+    scene: &Scene,
+    place: u64,
+    calls: u64,
+) -> Result<(), Fail> {
+    let mut world = disk(alloc, scene.slot0, scene.slot1, &[place])?;
+    let (_begin, _written) = write(alloc, &mut world, scene.limit)?;
+    is_stopped(rt, alloc, scene, &world, place.saturating_add(1), calls)
+}
+
+// How many calls may count as done where that one failed: what was written and not synced may be there.
+fn done_at(call: u64) -> u64 {
+    if call % 2 == 0 {
+        return call.saturating_add(1);
+    }
+    call
+}
+
+// A call that writes the input fails, counted from 0.
 fn fails_at(
     rt: &impl Abort,
     alloc: Global,
@@ -337,27 +389,21 @@ fn fails_at(
     call: u64,
 ) -> Result<(), Fail> {
     let place = begin.saturating_add(call);
-    let mut world = disk(alloc, scene.slot0, scene.slot1, &[place])?;
-    let (_begin, written) = write(alloc, &mut world, scene.limit)?;
-    assert_eq!(rt;
-        written,
-        Err(AppendError::DiskFault),
-        "{}, {call}",
-        scene.name
-    );
-    let at = place.saturating_add(1);
-    assert_eq!(rt; world.events().len() as u64, at, "{}, {call}", scene.name);
-    let done = if call % 2 == 0 {
-        call.saturating_add(1)
-    } else {
-        call
-    };
-    is_stopped(rt, alloc, scene, &world, at, done)
+    let is = write_failing(alloc, scene, place)?;
+    let want = (Err(AppendError::DiskFault), place.saturating_add(1));
+    assert_eq!(rt; is, want, "{}, {call}", scene.name);
+    stops_there(rt, alloc, scene, place, done_at(call))
+}
+
+// At which call the input begins to be written.
+fn begin_of(alloc: Global, scene: &Scene) -> Result<u64, Fail> {
+    let mut world = disk(alloc, scene.slot0, scene.slot1, &[])?;
+    let (begin, _written) = write(alloc, &mut world, scene.limit)?;
+    Ok(begin)
 }
 
 fn each_fault(rt: &impl Abort, alloc: Global, scene: &Scene) -> Result<(), Fail> {
-    let mut world = disk(alloc, scene.slot0, scene.slot1, &[])?;
-    let (begin, _written) = write(alloc, &mut world, scene.limit)?;
+    let begin = begin_of(alloc, scene)?;
     for call in 0..scene.calls {
         fails_at(rt, alloc, scene, begin, call)?;
     }
