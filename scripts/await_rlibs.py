@@ -12,7 +12,7 @@ def load(top):
     os.chdir(top)
     m.Crate.allowed = m.handles_of(top)
     return {c.name: c for c in m.crates_of(top)}
-mine, base = load(root), load("/work/main")
+mine, base = load(root), load("/work/w-land")
 name = os.path.basename(here if os.path.dirname(here).endswith("/crates") else "")
 if name not in mine: sys.exit(0)
 def same(n, seen={}):

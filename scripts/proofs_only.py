@@ -26,6 +26,8 @@ def ci(self, flags, tests):
         flags = ["--jobs", "4"] if not isinstance(flags, str) else flags
     return old_ci(self, flags, tests)
 m.Crate.ci = ci
+if os.environ.get("FREE"):
+    m.free = lambda: float(os.environ["FREE"])
 if os.environ.get("FEED"):
     m.Kept.drop = lambda self, path: None
 sys.exit(m.main(["ci", *sys.argv[1:]]))
