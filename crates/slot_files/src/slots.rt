@@ -8,12 +8,19 @@ use f2b_base::Bytes;
 use std::alloc::{AllocGlobal, Global};
 use std::fs::{File, OpenFile, OpenOptions};
 use std::io::{ErrorKind, Read, Seek, SeekFrom, Write};
-use std::mem;
 use std::os::unix::fs::OpenOptionsExt;
 use std::rt::Files;
+use std::time::{Clock, Duration};
+use std::{mem, thread};
 
 /// Nobody but the owner of the server reads or writes its files.
 const OWNER_ALONE: u32 = 0o600;
+
+/// How often the lock is tried: of a server that was killed a command may have it up to the moment where it begins.
+const MOST_TRIES: u32 = 100;
+
+/// For how many milliseconds it is waited behind each of these.
+const WAIT_MS: u64 = 10;
 
 /// The two slots, files `journal.0` and `journal.1` in one directory. Another server that asks for them there gets nothing as long as
 /// this value stands.
@@ -68,6 +75,17 @@ fn handle<'s, R: Files<File = File> + AllocGlobal>(
     Ok(kept.as_mut())
 }
 
+/// Takes the lock, as soon as nobody has it within a second.
+fn take_lock<R: Clock>(rt: &R, lock: &File) -> Result<(), Fault> {
+    for _ in 0..MOST_TRIES {
+        if lock.try_lock().is_ok() {
+            return Ok(());
+        }
+        thread::sleep(rt, Duration::from_millis(WAIT_MS));
+    }
+    Err(Fault::Failed)
+}
+
 /// How long a file is, in bytes. A pipe and its like are `Failed`: they keep nothing.
 fn file_len(file: &File) -> Result<u64, Fault> {
     let metadata = file.metadata()?;
@@ -105,9 +123,9 @@ fn know_bytes(bytes: &[u8])
 
 impl Slots {
     /// The slots beside a path. Their directory is made, for its owner alone, where it is not there. What is in them is over a stop then,
-    /// also what a server wrote that was killed before it synced. Where another server has them, and where the directory cannot be had, it
-    /// is `Failed`, and nothing was read or written of them.
-    pub fn beside<R: Files<File = File> + AllocGlobal>(
+    /// also what a server wrote that was killed before it synced. Where another server has them for a second, and where the directory cannot
+    /// be had, it is `Failed`, and nothing was read or written of them.
+    pub fn beside<R: Files<File = File> + Clock + AllocGlobal>(
         rt: &R,
         socket: &str,
     ) -> Result<Slots, Fault> {
@@ -117,9 +135,7 @@ impl Slots {
         let Some(lock) = open_file(rt, path.as_str(), true)? else {
             return Err(Fault::Failed);
         };
-        if lock.try_lock().is_err() {
-            return Err(Fault::Failed);
-        }
+        take_lock(rt, &lock)?;
         let mut slots = Slots {
             dir,
             lock,
