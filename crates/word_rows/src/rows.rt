@@ -48,10 +48,7 @@ const REQUESTS: [(&str, &str); 24] = [
         "set sshd maxretry 003",
         "SetMaxretry { jail: \"sshd\", number: 3 }",
     ),
-    (
-        "set sshd idle on",
-        "SetIdle { jail: \"sshd\", idle: true }",
-    ),
+    ("set sshd idle on", "SetIdle { jail: \"sshd\", idle: true }"),
     ("get sshd banip", "GetBanip { jail: \"sshd\" }"),
     ("get sshd findtime", "GetFindtime { jail: \"sshd\" }"),
     ("get sshd bantime", "GetBantime { jail: \"sshd\" }"),
@@ -212,11 +209,7 @@ fn are_refused(rt: &impl Abort, alloc: Global, lines: &[&str], want: &str) -> Re
     Ok(())
 }
 
-fn are_told_of_words(
-    rt: &impl Abort,
-    alloc: Global,
-    rows: &[(&[&str], &str)],
-) -> Result<(), Fail> {
+fn are_told_of_words(rt: &impl Abort, alloc: Global, rows: &[(&[&str], &str)]) -> Result<(), Fail> {
     for (words, want) in rows {
         assert_eq!(rt; told_of_words(alloc, words)?.as_str(), *want, "{words:?}");
     }

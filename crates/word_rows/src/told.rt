@@ -6,6 +6,10 @@ use std::test::Fail;
 
 /// How the request of words prints, or what a client is told of them.
 pub(crate) fn told(alloc: Global, words: &Seq<Text>) -> Result<String, Fail> {
+    // No row has so many, and a request never has as many as a machine could count.
+    if words.as_slice().len() > 1_000 {
+        return Ok(String::from_str(alloc, "too many words for a row")?);
+    }
     match command(alloc, words) {
         Ok(request) => Ok(format!(in alloc; "{request:?}")?),
         Err(error) => {
