@@ -380,8 +380,8 @@ def lines_come_behind_their_input(room):
         calls = [line.split(None, 1)[1] for line in lines]
     kinds = [kind for kind in map(kind_of, calls[1:]) if kind]
     append = ["write", "sync", "gate", "sync"]
-    # The directory is made, and the first slot, each with a sync of its entry. Its view is opened; then comes the configuration, as an input.
-    made = ["sync", "write", "sync", "sync", *append, *append, "say"]
+    # The directory is made and synced in the one above it, and itself before it is read; then the first slot, with a sync of its entry. Its view is opened; then comes the configuration, as an input.
+    made = ["sync", "sync", "write", "sync", "sync", *append, *append, "say"]
     # The failures with their ban, the action's start, its end, the ban's command, and its end.
     same(kinds, [*made, *append, "say", "start", *append, "start", *append], "calls")
 
