@@ -33,6 +33,10 @@ import time
 from dataclasses import dataclass, field
 
 HERE = os.path.dirname(os.path.abspath(__file__))
+sys.path.append(os.path.dirname(HERE))
+
+from checks import Failed, status_of
+
 CONF = os.path.join(HERE, "../../conf")
 
 # What each filter's own log has at least.
@@ -49,12 +53,11 @@ STRANGER, ATTACKS = "192.0.2.99", 150
 # Where a piece of a line may begin or end.
 EDGES = re.compile(r"(?<=[ <>\"'\[\](),:=])|(?=[ <>\"'\[\](),:=])|^|$")
 
+# What the actions of the jails would change: these are programs that do nothing here. tests/actions.sh looks at actions.
+PROGRAMS = ["nft"]
+
 # How many seconds a program may take, on a machine that is busy with other work.
 PATIENCE = 600
-
-
-class Failed(Exception):
-    """What a check saw in place of what it wanted."""
 
 
 @dataclass
@@ -120,8 +123,8 @@ def read(path):
     return log
 
 
-def run(*words):
-    ended = subprocess.run(words, stdin=subprocess.DEVNULL, capture_output=True, timeout=PATIENCE, check=False)
+def run(*words, environment=None):
+    ended = subprocess.run(words, stdin=subprocess.DEVNULL, capture_output=True, env=environment, timeout=PATIENCE, check=False)
     return ended.returncode, ended.stdout.decode(), ended.stderr.decode()
 
 
@@ -269,8 +272,14 @@ def said_of(server, local, logs):
     """What the server says in one turn over conf/ with this jail.local, where its logs are those in a folder of its own."""
     with tempfile.TemporaryDirectory(prefix="fail2ban-filters-") as place:
         conf, folder = os.path.join(place, "conf"), os.path.join(place, "log")
-        shutil.copytree(CONF, conf)
+        shutil.copytree(CONF, conf, symlinks=True)
         os.mkdir(folder)
+        os.mkdir(os.path.join(place, "bin"))
+        for name in PROGRAMS:
+            path = os.path.join(place, "bin", name)
+            with open(path, "w") as file:
+                file.write("#!/bin/sh\n")
+            os.chmod(path, 0o755)
         for path in glob.glob(os.path.join(conf, "*.conf")):
             with open(path) as file:
                 text = file.read()
@@ -281,7 +290,7 @@ def said_of(server, local, logs):
         for name, text in written.items():
             with open(os.path.join(place, name), "w") as file:
                 file.write(text)
-        status, said, errors = run(server, "--conf", conf, "--turns", "1")
+        status, said, errors = run(server, "--conf", conf, "--turns", "1", environment={"PATH": f"{place}/bin:{os.environ['PATH']}"})
     if (status, errors) != (0, ""):
         raise Failed(f"the server ended with {status}: {said}{errors}")
     return [line.split(" ", 1)[-1] for line in said.splitlines()]
@@ -336,23 +345,14 @@ def checks(tester, server):
     yield "conf with all jails", lambda: is_accepted(server, enabled(jails()))
     fedora = "[INCLUDES]\nbefore = paths-fedora.conf\n"
     yield "conf with all jails, and the paths of Fedora", lambda: is_accepted(server, fedora + enabled(jails()))
+    journal = "[INCLUDES]\nbefore = paths-journal.conf\n"
+    yield "conf with all jails, and the file of the system's journal", lambda: is_accepted(server, journal + enabled(jails()))
     for name in jails():
         yield f"conf with the jail {name}", lambda name=name: is_accepted(server, enabled([name]))
 
 
 def main(tester, server, word):
-    count = {"ok": 0, "FAILED": 0}
-    for name, check in checks(tester, server):
-        if word not in name:
-            continue
-        try:
-            came_to, more = "ok", check()
-        except Failed as why:
-            came_to, more = "FAILED", str(why)
-        count[came_to] += 1
-        print(f"{came_to}: {name}{': ' + more if more else ''}", flush=True)
-    print(f"filters: {count['ok']} passed, {count['FAILED']} failed")
-    return 1 if count["FAILED"] or not count["ok"] else 0
+    return status_of("filters", checks(tester, server), word)
 
 
 if __name__ == "__main__":

@@ -10,10 +10,10 @@ and not for seconds, so a busy machine makes it slow and not wrong.
 import os
 import sys
 import tempfile
-import traceback
-from concurrent.futures import ThreadPoolExecutor
+from functools import partial
 
 import client
+import clients
 import clock
 import commands
 import configuration
@@ -23,7 +23,7 @@ import jumps
 import logs
 import output
 import tester
-from room import Failed, Room, Skipped
+from room import Room, status_of
 
 # So many checks are made side by side: most of each is waiting.
 SIDE_BY_SIDE = 6
@@ -38,38 +38,20 @@ CHECKS = [
     *journal.CHECKS,
     *jumps.CHECKS,
     *client.CHECKS,
+    *clients.CHECKS,
     *tester.CHECKS,
 ]
 
 
-def sentence(check):
-    return check.__doc__.strip()
-
-
 def made(programs, check):
-    """Makes a check in a folder of its own, and gives what it came to and why."""
+    """Makes a check in a folder of its own."""
     with tempfile.TemporaryDirectory(prefix="fail2ban-real-") as place:
-        try:
-            check(Room(*programs, place))
-        except Failed as why:
-            return "FAILED", str(why)
-        except Skipped as why:
-            return "skipped", str(why)
-        except Exception as why:
-            traceback.print_exc()
-            return "FAILED", repr(why)
-    return "ok", ""
+        check(Room(*programs, place))
 
 
 def main(programs, word):
-    checks = [check for check in CHECKS if word in sentence(check)]
-    count = {"ok": 0, "FAILED": 0, "skipped": 0}
-    with ThreadPoolExecutor(SIDE_BY_SIDE) as pool:
-        for check, (came_to, why) in zip(checks, pool.map(lambda it: made(programs, it), checks)):
-            count[came_to] += 1
-            print(f"{came_to}: {sentence(check)}{': ' + why if why else ''}", flush=True)
-    print(f"real: {count['ok']} passed, {count['FAILED']} failed")
-    return 1 if count["FAILED"] or not count["ok"] else 0
+    checks = [(check.__doc__.strip(), partial(made, programs, check)) for check in CHECKS]
+    return status_of("real", checks, word, SIDE_BY_SIDE)
 
 
 if __name__ == "__main__":

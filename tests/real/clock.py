@@ -85,8 +85,16 @@ def traced(room, *more, turns):
         return [line.split(None, 1)[1] for line in lines]
 
 
+def is_pause(call):
+    """Whether a call sleeps, or waits for a client."""
+    return "sleep" in call or re.match(r"epoll_p?wait", call) is not None
+
+
 def slept(call):
-    """How many seconds a call that sleeps asked for."""
+    """How many seconds a call that is a pause asked for."""
+    waited = re.match(r"epoll_p?wait\(\d+, \[.*\], \d+, (\d+)", call)
+    if waited:
+        return int(waited[1]) / 1e3
     asked = re.search(r"\{tv_sec=(\d+), tv_nsec=(\d+)\}", call)
     return int(asked[1]) + int(asked[2]) / 1e9 if asked else 0
 
@@ -98,7 +106,7 @@ def idle_server_calls_little(room):
     opened = sum(f'"{room.log}"' in call and call.startswith("open") for call in calls)
     same(opened, 12, "times that the log was opened")
     ready = max(at for at, call in enumerate(calls) if call.startswith("write(1"))
-    pauses = [at for at, call in enumerate(calls) if at > ready and "sleep" in call]
+    pauses = [at for at, call in enumerate(calls) if at > ready and is_pause(call)]
     want(pauses, "no pause")
     idle = calls[pauses[0] : pauses[-1]]
     writes = [call for call in idle if re.match(r"write|pwrite|send", call)]
@@ -128,7 +136,7 @@ def long_log_is_read_at_once(room):
     calls = traced(room, turns=looks)
     writes = [at for at, call in enumerate(calls) if call.startswith("write(1")]
     same(len(writes), 1 + looks, "writes: the server is ready, and a look's lines")
-    pauses = sum("sleep" in call for call in calls[: writes[-1]])
+    pauses = sum(is_pause(call) for call in calls[: writes[-1]])
     same(pauses, 0, "pauses before the last of the lines")
 
 

@@ -46,10 +46,12 @@ def both(room):
 
 
 def files(room):
-    """Each file of the journal's directory, with its bytes and the moment at which it was last written to."""
+    """Each file of the journal's directory but the socket, with its bytes and the moment at which it was last written to."""
     seen = {}
     for name in os.listdir(room.path("run")):
         path = room.path(f"run/{name}")
+        if stat.S_ISSOCK(os.stat(path).st_mode):
+            continue
         with open(path, "rb") as file:
             seen[name] = file.read(), os.stat(path).st_mtime_ns
     return seen
@@ -110,7 +112,7 @@ def starts_so(room, first, second, what):
     if status != 0:
         same(both(room), [first or b"", second or b""], f"{what}: slots")
         there = [f"journal.{number}" for number, data in enumerate([first, second]) if data is not None]
-        same(sorted(os.listdir(room.path("run"))), [*there, "journal.lock"], f"{what}: files")
+        same(sorted(files(room)), [*there, "journal.lock"], f"{what}: files")
     elif counts is not None:
         same(slots.journal(*both(room)).view, counts.view, f"{what}: view that is kept")
     return status

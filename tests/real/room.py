@@ -3,11 +3,13 @@
 import contextlib
 import os
 import subprocess
+import sys
 import tempfile
 import time
 
-# How many seconds a check waits for what has to come while nothing else comes, on a machine that is busy with other work.
-PATIENCE = 180
+sys.path.append(os.path.dirname(os.path.dirname(os.path.abspath(__file__))))
+
+from checks import PATIENCE, Failed, Skipped, same, status_of, wait_for, want
 
 # How many seconds a program may take that is run to its end, which tells nothing meanwhile.
 LONG_PATIENCE = 5 * PATIENCE
@@ -43,34 +45,6 @@ datepattern = Epoch
 failregex = ^ fail from <ADDR>$
 maxretry = 100000
 """
-
-
-class Failed(Exception):
-    """What a check saw in place of what it wanted."""
-
-
-class Skipped(Exception):
-    """Why a check cannot be made here."""
-
-
-def want(holds, saw):
-    if not holds:
-        raise Failed(saw)
-
-
-def same(saw, wanted, what):
-    want(saw == wanted, f"{what}: {saw!r} and not {wanted!r}")
-
-
-def wait_for(holds, what, so_far=lambda: None):
-    """Waits until the condition holds, for as long as something comes. `so_far` tells what has come."""
-    last, end = so_far(), time.monotonic() + PATIENCE
-    while not holds():
-        now = so_far()
-        if now != last:
-            last, end = now, time.monotonic() + PATIENCE
-        want(time.monotonic() < end, f"{what}: nothing within {PATIENCE} s, behind {last!r}")
-        time.sleep(0.02)
 
 
 def write(path, content, mode="w"):

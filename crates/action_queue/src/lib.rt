@@ -27,12 +27,6 @@ mod entries;
 mod kinds;
 mod lanes;
 mod queue;
-#[cfg(test)]
-mod tests;
-#[cfg(test)]
-mod tests_checks;
-#[cfg(test)]
-mod tests_many;
 mod tries;
 
 pub use checks::CheckEnd;

@@ -22,8 +22,6 @@ mod lists;
 mod past;
 mod purge;
 mod table;
-#[cfg(test)]
-mod tests;
 
 pub use lists::BanLists;
 pub use table::BanTable;

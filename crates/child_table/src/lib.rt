@@ -18,8 +18,6 @@ mod child;
 mod numbers;
 mod place;
 mod table;
-#[cfg(test)]
-mod tests;
 
 pub use child::{Child, MOST_CHILDREN, Task};
 pub use table::ChildTable;

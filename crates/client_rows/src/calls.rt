@@ -1,10 +1,11 @@
 //! Calls over a link and a sink in memory.
 
 use client_tool::{ClientStatus, client};
-use f2b_base::{Bytes, Seq};
+use f2b_base::{Bytes, NoMemory, Seq};
 use f2b_mem::{Image, MemLink, MemWorld, Script};
-use f2b_world::Event;
+use f2b_world::{Event, Link, Sink};
 use std::alloc::Global;
+use std::fmt::Debug;
 use std::process::Abort;
 use std::test::Fail;
 
@@ -252,38 +253,131 @@ const ROWS: [Row; 30] = [
     },
 ];
 
-fn places(alloc: Global, fails: &[u64]) -> Result<Seq<u64>, Fail> {
-    let mut places = Seq::new(alloc);
-    for place in fails {
-        places.push(*place)?;
-    }
-    Ok(places)
+fn all_rows() -> &'static [Row] {
+    &ROWS
+}
+
+/// Fails at this place unless what was seen is what is wanted.
+fn same<A: Debug, T: PartialEq + Debug>(rt: &impl Abort, at: &A, saw: &T, want: &T) {
+    assert!(rt; *saw == *want, "at {at:?}: {saw:?}, not {want:?}");
+}
+
+fn places(alloc: Global, fails: &[u64]) -> Result<Seq<u64>, NoMemory> {
+    Ok(Seq::from(fails.to_vec(alloc)?))
 }
 
 /// A link over which these bytes come in pieces of two, and whose calls at these places fail.
-fn link_of(alloc: Global, bytes: &[u8], fails: &[u64]) -> Result<MemLink, Fail> {
+fn link_of(alloc: Global, bytes: &[u8], fails: &[u64]) -> Result<MemLink, NoMemory> {
+    let fails = places(alloc, fails)?;
     let bytes = Bytes::from_slice(alloc, bytes)?;
-    Ok(MemLink::new(alloc, bytes, 2, places(alloc, fails)?)?)
+    MemLink::new(alloc, bytes, 2, fails)
 }
 
 /// A world whose calls at these places fail, for a sink.
-fn sink_of(alloc: Global, fails: &[u64]) -> Result<MemWorld, Fail> {
+fn sink_of(alloc: Global, fails: &[u64]) -> Result<MemWorld, NoMemory> {
+    let fails = places(alloc, fails)?;
+    let image = Image {
+        slot0: Bytes::new(alloc),
+        slot1: Bytes::new(alloc),
+    };
     let script = Script {
         readings: Seq::new(alloc),
         trees: Seq::new(alloc),
         changes: Seq::new(alloc),
         children: Seq::new(alloc),
         clients: Seq::new(alloc),
-        fails: places(alloc, fails)?,
-        image: Image {
-            slot0: Bytes::new(alloc),
-            slot1: Bytes::new(alloc),
-        },
+        fails,
+        image,
     };
-    Ok(MemWorld::new(alloc, script)?)
+    MemWorld::new(alloc, script)
 }
 
-fn words_of(alloc: Global, words: &[&str]) -> Result<Vec<String>, Fail> {
+/// Both, where there was memory for them.
+fn both<A: Drop, B: Drop>(
+    one: Result<A, NoMemory>,
+    other: Result<B, NoMemory>,
+) -> Result<(A, B), NoMemory> {
+    let one = one?;
+    let other = other?;
+    Ok((one, other))
+}
+
+/// A link over which these bytes come, and a sink, whose calls at these places fail.
+fn place_of(
+    alloc: Global,
+    bytes: &[u8],
+    link_fails: &[u64],
+    sink_fails: &[u64],
+) -> Result<(MemLink, MemWorld), NoMemory> {
+    both(
+        link_of(alloc, bytes, link_fails),
+        sink_of(alloc, sink_fails),
+    )
+}
+
+/// How a call ended, how often something was said, and what was said and sent.
+#[derive(Drop)]
+struct Outcome {
+    status: ClientStatus,
+    count: usize,
+    said: Bytes,
+    sent: Bytes,
+}
+
+/// Where a call is made.
+trait Place: Drop {
+    fn call(&mut self, alloc: Global, words: &[String]) -> ClientStatus;
+
+    /// What is seen once a call ended like this.
+    fn look(&self, alloc: Global, status: ClientStatus) -> Result<Outcome, NoMemory>;
+}
+
+impl Place for (MemLink, MemWorld) {
+    fn call(&mut self, alloc: Global, words: &[String]) -> ClientStatus {
+        called(alloc, words, &mut self.0, &mut self.1)
+    }
+
+    fn look(&self, alloc: Global, status: ClientStatus) -> Result<Outcome, NoMemory> {
+        outcome_of(alloc, status, self.0.sent(), self.1.events())
+    }
+}
+
+fn called<L: Link, K: Sink>(
+    alloc: Global,
+    words: &[String],
+    link: &mut L,
+    sink: &mut K,
+) -> ClientStatus {
+    client(alloc, words, link, sink)
+}
+
+fn said(alloc: Global, events: &[Event]) -> Result<Bytes, NoMemory> {
+    let mut said = Bytes::new(alloc);
+    for event in events {
+        if let Event::Say { bytes, .. } = event {
+            said.push_slice(bytes.as_slice())?;
+        }
+    }
+    Ok(said)
+}
+
+fn outcome_of(
+    alloc: Global,
+    status: ClientStatus,
+    sent: &[u8],
+    events: &[Event],
+) -> Result<Outcome, NoMemory> {
+    let said = said(alloc, events)?;
+    let sent = Bytes::from_slice(alloc, sent)?;
+    Ok(Outcome {
+        status,
+        count: events.len(),
+        said,
+        sent,
+    })
+}
+
+fn words_of(alloc: Global, words: &[&str]) -> Result<Vec<String>, NoMemory> {
     let mut list = Vec::new(alloc);
     for word in words {
         list.push(String::from_str(alloc, word)?)?;
@@ -291,46 +385,54 @@ fn words_of(alloc: Global, words: &[&str]) -> Result<Vec<String>, Fail> {
     Ok(list)
 }
 
-/// How a call of these words ends.
-fn called(
+/// What is seen of a call of these words at this place.
+fn seen_at<T: Place>(
+    alloc: Global,
+    words: Result<Vec<String>, NoMemory>,
+    place: Result<T, NoMemory>,
+) -> Result<Outcome, NoMemory> {
+    let words = words?;
+    let mut place = place?;
+    let status = place.call(alloc, words.as_slice());
+    place.look(alloc, status)
+}
+
+/// What is seen of a call of these words, where these bytes come and the calls at these places fail.
+fn seen(
     alloc: Global,
     words: &[&str],
-    link: &mut MemLink,
-    sink: &mut MemWorld,
-) -> Result<ClientStatus, Fail> {
-    let words = words_of(alloc, words)?;
-    Ok(client(alloc, words.as_slice(), link, sink))
+    bytes: &[u8],
+    link_fails: &[u64],
+    sink_fails: &[u64],
+) -> Result<Outcome, NoMemory> {
+    let place = place_of(alloc, bytes, link_fails, sink_fails);
+    seen_at(alloc, words_of(alloc, words), place)
 }
 
-/// What was said, and how often something was.
-fn said(alloc: Global, sink: &MemWorld) -> Result<(Bytes, usize), Fail> {
-    let mut said = Bytes::new(alloc);
-    for event in sink.events() {
-        if let Event::Say { bytes, .. } = event {
-            said.push_slice(bytes.as_slice())?;
-        }
-    }
-    Ok((said, sink.events().len()))
+/// How a call ended, and how often something was said.
+fn end(seen: &Outcome) -> (ClientStatus, usize) {
+    (seen.status, seen.count)
 }
 
-fn ends(rt: &impl Abort, alloc: Global, row: &Row) -> Result<(), Fail> {
-    let mut link = link_of(alloc, row.says, &[])?;
-    let mut sink = sink_of(alloc, &[])?;
-    let status = called(alloc, row.words, &mut link, &mut sink)?;
-    let (prints, count) = said(alloc, &sink)?;
-    assert_eq!(rt; status, row.status, "{:?}", row.words);
-    assert_eq!(rt; prints.as_slice(), row.prints.as_bytes(), "{:?}", row.words);
-    assert_eq!(rt;
-        count,
-        usize::from(!row.prints.is_empty()),
-        "{:?}",
-        row.words
-    );
-    assert_eq!(rt; link.sent(), row.sent, "{:?}", row.words);
+/// The same, and what was said and sent.
+fn whole(seen: &Outcome) -> (ClientStatus, usize, &[u8], &[u8]) {
+    (
+        seen.status,
+        seen.count,
+        seen.said.as_slice(),
+        seen.sent.as_slice(),
+    )
+}
+
+fn ends(rt: &impl Abort, alloc: Global, row: &Row) -> Result<(), NoMemory> {
+    let seen = seen(alloc, row.words, row.says, &[], &[])?;
+    let count = usize::from(!row.prints.is_empty());
+    let want = (row.status, count, row.prints.as_bytes(), row.sent);
+    same(rt, &row.words, &whole(&seen), &want);
     Ok(())
 }
 
-fn all_end(rt: &impl Abort, alloc: Global, rows: &[Row]) -> Result<(), Fail> {
+fn all_end(rt: &impl Abort, alloc: Global, rows: &[Row]) -> Result<(), NoMemory> {
     for row in rows {
         ends(rt, alloc, row)?;
     }
@@ -339,17 +441,21 @@ fn all_end(rt: &impl Abort, alloc: Global, rows: &[Row]) -> Result<(), Fail> {
 
 #[test]
 fn a_call_ends_as_its_row_says(rt: HostRuntime) -> Result<(), Fail> {
-    all_end(&rt, rt.alloc(), &ROWS)
+    all_end(&rt, rt.alloc(), all_rows())?;
+    Ok(())
 }
 
-/// Calls that ask no server end alike over a link on which every call would fail.
-fn ask_no_server(rt: &impl Abort, alloc: Global, rows: &[Row]) -> Result<(), Fail> {
+/// A call that asks no server ends alike over a link on which every call would fail.
+fn asks_no_server(rt: &impl Abort, alloc: Global, row: &Row) -> Result<(), NoMemory> {
+    let seen = seen(alloc, row.words, row.says, &[0, 1, 2], &[])?;
+    same(rt, &row.words, &seen.status, &row.status);
+    Ok(())
+}
+
+fn ask_no_server(rt: &impl Abort, alloc: Global, rows: &[Row]) -> Result<(), NoMemory> {
     for row in rows {
         if row.sent.is_empty() {
-            let mut link = link_of(alloc, row.says, &[0, 1, 2])?;
-            let mut sink = sink_of(alloc, &[])?;
-            let status = called(alloc, row.words, &mut link, &mut sink)?;
-            assert_eq!(rt; status, row.status, "{:?}", row.words);
+            asks_no_server(rt, alloc, row)?;
         }
     }
     Ok(())
@@ -357,17 +463,21 @@ fn ask_no_server(rt: &impl Abort, alloc: Global, rows: &[Row]) -> Result<(), Fai
 
 #[test]
 fn seconds_and_words_that_ask_for_nothing_need_no_server(rt: HostRuntime) -> Result<(), Fail> {
-    ask_no_server(&rt, rt.alloc(), &ROWS)
+    ask_no_server(&rt, rt.alloc(), all_rows())?;
+    Ok(())
+}
+
+/// A ping of which these bytes come.
+fn is_cut_at(rt: &impl Abort, alloc: Global, bytes: &[u8]) -> Result<(), NoMemory> {
+    let seen = seen(alloc, &["ping"], bytes, &[], &[])?;
+    same(rt, &bytes, &end(&seen), &(ClientStatus::LinkEnded, 0));
+    Ok(())
 }
 
 /// A reply that is cut anywhere ended too soon, and nothing is printed of it.
-fn is_cut(rt: &impl Abort, alloc: Global, reply: &[u8]) -> Result<(), Fail> {
+fn is_cut(rt: &impl Abort, alloc: Global, reply: &[u8]) -> Result<(), NoMemory> {
     for len in 0..reply.len() {
-        let mut link = link_of(alloc, &reply[..len], &[])?;
-        let mut sink = sink_of(alloc, &[])?;
-        let status = called(alloc, &["ping"], &mut link, &mut sink)?;
-        assert_eq!(rt; status, ClientStatus::LinkEnded, "{len}");
-        assert_eq!(rt; sink.events().len(), 0, "{len}");
+        is_cut_at(rt, alloc, &reply[..len])?;
     }
     Ok(())
 }
@@ -375,78 +485,111 @@ fn is_cut(rt: &impl Abort, alloc: Global, reply: &[u8]) -> Result<(), Fail> {
 #[test]
 fn nothing_is_printed_of_a_reply_that_is_cut(rt: HostRuntime) -> Result<(), Fail> {
     is_cut(&rt, rt.alloc(), PONG)?;
-    is_cut(&rt, rt.alloc(), NO)
+    is_cut(&rt, rt.alloc(), NO)?;
+    Ok(())
+}
+
+fn is_lost_at(rt: &impl Abort, alloc: Global, reply: &[u8], place: u64) -> Result<(), NoMemory> {
+    let seen = seen(alloc, &["ping"], reply, &[place], &[])?;
+    let sent = if place < 2 { [].as_slice() } else { PING };
+    let want = (ClientStatus::LinkFault, 0, [].as_slice(), sent);
+    same(rt, &place, &whole(&seen), &want);
+    Ok(())
 }
 
 /// Where any call on the link fails nothing is printed.
-fn is_lost(rt: &impl Abort, alloc: Global, reply: &[u8]) -> Result<(), Fail> {
+fn is_lost(rt: &impl Abort, alloc: Global, reply: &[u8]) -> Result<(), NoMemory> {
     for place in 0..7 {
-        let mut link = link_of(alloc, reply, &[place])?;
-        let mut sink = sink_of(alloc, &[])?;
-        let status = called(alloc, &["ping"], &mut link, &mut sink)?;
-        assert_eq!(rt; status, ClientStatus::LinkFault, "{place}");
-        assert_eq!(rt; sink.events().len(), 0, "{place}");
-        let sent = if place < 2 { [].as_slice() } else { PING };
-        assert_eq!(rt; link.sent(), sent, "{place}");
+        is_lost_at(rt, alloc, reply, place)?;
     }
     Ok(())
 }
 
 #[test]
 fn nothing_is_printed_where_the_link_fails(rt: HostRuntime) -> Result<(), Fail> {
-    is_lost(&rt, rt.alloc(), PONG)
-}
-
-/// A sink that fails is its own end, whatever was to be printed.
-fn is_unsaid(rt: &impl Abort, alloc: Global, words: &[&str], reply: &[u8]) -> Result<(), Fail> {
-    let mut link = link_of(alloc, reply, &[])?;
-    let mut sink = sink_of(alloc, &[0])?;
-    let status = called(alloc, words, &mut link, &mut sink)?;
-    assert_eq!(rt; status, ClientStatus::SinkFault);
-    assert_eq!(rt; sink.events().len(), 1);
+    is_lost(&rt, rt.alloc(), PONG)?;
     Ok(())
 }
 
-#[test]
-fn a_text_that_cannot_be_printed_is_told(rt: HostRuntime) -> Result<(), Fail> {
-    is_unsaid(&rt, rt.alloc(), &["ping"], PONG)?;
-    is_unsaid(&rt, rt.alloc(), &["status"], NO)?;
-    is_unsaid(&rt, rt.alloc(), &["--str2sec", "1h"], PONG)
+/// A sink that fails is its own end, whatever was to be printed.
+fn is_unsaid(rt: &impl Abort, alloc: Global, words: &[&str], reply: &[u8]) -> Result<(), NoMemory> {
+    let seen = seen(alloc, words, reply, &[], &[0])?;
+    same(rt, &words, &end(&seen), &(ClientStatus::SinkFault, 1));
+    Ok(())
 }
 
-/// How a call of one word of so many bytes ends, over a link whose first call fails.
-fn long_call(alloc: Global, len: usize) -> Result<ClientStatus, Fail> {
+fn are_unsaid(rt: &impl Abort, alloc: Global, rows: &[(&[&str], &[u8])]) -> Result<(), NoMemory> {
+    for (words, reply) in rows {
+        is_unsaid(rt, alloc, words, reply)?;
+    }
+    Ok(())
+}
+
+const UNSAID: [(&[&str], &[u8]); 3] = [
+    (&["ping"], PONG),
+    (&["status"], NO),
+    (&["--str2sec", "1h"], PONG),
+];
+
+#[test]
+fn a_text_that_cannot_be_printed_is_told(rt: HostRuntime) -> Result<(), Fail> {
+    are_unsaid(&rt, rt.alloc(), &UNSAID)?;
+    Ok(())
+}
+
+fn long_word(alloc: Global, len: usize) -> Result<String, NoMemory> {
     let mut word = String::new(alloc);
     for _ in 0..len {
         word.push('x')?;
     }
-    let mut words = Vec::new(alloc);
-    words.push(word)?;
-    let mut link = link_of(alloc, &[], &[0])?;
-    let mut sink = sink_of(alloc, &[])?;
-    Ok(client(alloc, words.as_slice(), &mut link, &mut sink))
+    Ok(word)
 }
 
-#[test]
-fn a_request_of_more_than_65_536_bytes_is_not_sent(rt: HostRuntime) -> Result<(), Fail> {
-    assert_eq!(rt; long_call(rt.alloc(), 65_534)?, ClientStatus::LinkFault);
-    assert_eq!(rt; long_call(rt.alloc(), 65_535)?, ClientStatus::Usage);
+/// One word of so many bytes.
+fn long_words(alloc: Global, len: usize) -> Result<Vec<String>, NoMemory> {
+    let mut words = Vec::new(alloc);
+    words.push(long_word(alloc, len)?)?;
+    Ok(words)
+}
+
+/// How a call of one word of so many bytes ends, over a link whose first call fails.
+fn long_call(
+    rt: &impl Abort,
+    alloc: Global,
+    len: usize,
+    status: ClientStatus,
+) -> Result<(), NoMemory> {
+    let place = place_of(alloc, &[], &[0], &[]);
+    let seen = seen_at(alloc, long_words(alloc, len), place)?;
+    same(rt, &len, &seen.status, &status);
     Ok(())
 }
 
 #[test]
-fn each_end_has_its_number(rt: HostRuntime) {
-    let numbers = [
-        (ClientStatus::Done, 0),
-        (ClientStatus::Refused, 1),
-        (ClientStatus::Usage, 2),
-        (ClientStatus::LinkFault, 8),
-        (ClientStatus::SinkFault, 9),
-        (ClientStatus::BadReply, 12),
-        (ClientStatus::LinkEnded, 13),
-        (ClientStatus::NoMemory, 71),
-    ];
-    for (status, number) in numbers {
-        assert_eq!(rt; status.number(), number);
+fn a_request_of_more_than_65_536_bytes_is_not_sent(rt: HostRuntime) -> Result<(), Fail> {
+    long_call(&rt, rt.alloc(), 65_534, ClientStatus::LinkFault)?;
+    long_call(&rt, rt.alloc(), 65_535, ClientStatus::Usage)?;
+    Ok(())
+}
+
+const NUMBERS: [(ClientStatus, u8); 8] = [
+    (ClientStatus::Done, 0),
+    (ClientStatus::Refused, 1),
+    (ClientStatus::Usage, 2),
+    (ClientStatus::LinkFault, 8),
+    (ClientStatus::SinkFault, 9),
+    (ClientStatus::BadReply, 12),
+    (ClientStatus::LinkEnded, 13),
+    (ClientStatus::NoMemory, 71),
+];
+
+fn have_numbers(rt: &impl Abort, rows: &[(ClientStatus, u8)]) {
+    for (status, number) in rows {
+        same(rt, status, &status.number(), number);
     }
+}
+
+#[test]
+fn each_end_has_its_number(rt: HostRuntime) {
+    have_numbers(&rt, &NUMBERS);
 }

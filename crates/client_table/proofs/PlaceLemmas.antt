@@ -1,9 +1,12 @@
 -- The client at a place among the others.
-use Rattle.std.proofs.Common.{◌≡◌, ℕ, suc, zero, ◌<◌, List, [], ◌∷◌, length, get_or, Option, Some, None, refl, sym, ap, ◌∙◌, subst, IfSome}
+use Rattle.std.proofs.Common.{◌≡◌, inl, inr, ℕ, suc, zero, ◌+◌, ◌<◌, ◌≤◌, Bool, true, false, nat_lt, List, [], ◌∷◌, length, get_or, Option, Some, None, refl, sym, ap, ◌∙◌, subst, IfSome, arith}
+use Rattle.std.specs.List.{insert, position, position_or_len}
 use Rattle.std.specs.Prelude.{slice_get, slice_set}
 use Rattle.std.specs.Option.{option_map_or}
+use Rattle.std.proofs.lemmas.Bool.{cases_Bool, ltb-false}
+use Rattle.std.proofs.lemmas.List.Edits.{length-insert}
 use Rattle.std.proofs.lemmas.Option.{slice_get_read}
-use Rattle.client_table.specs.Clients.{Client, changed_at}
+use Rattle.client_table.specs.Clients.{Client, changed_at, most_clients}
 
 -- the client that was read at a place stands there
 pub read_at : (cs : List Client) (place : ℕ) (c : Client) → place < length cs → c ≡ get_or cs place c → slice_get cs place ≡ Some c
@@ -51,3 +54,24 @@ get-changed_at zero change (x ∷ cs) c at =
     let first : x ≡ c = cc in
     ap (λ (y : Client). Some (change y)) first
 get-changed_at (suc place) change (x ∷ cs) c at = get-changed_at place change cs c at
+
+-- ---- the place of one more
+
+-- the place that was found, or the end, is one of the list or its end
+pub place_within : {A : Type 0} (p : A → Bool) (xs : List A) → position_or_len p xs ≤ length xs
+place_within p [] = omega arith
+place_within p (x ∷ xs) = elim (cases_Bool (p x)) [
+  | inl here ↦ rw here (omega arith)
+  | inr later ↦ rw later (omega (arith, place_within p xs))
+]
+
+-- where none was found it is the end
+pub place_none : {A : Type 0} (p : A → Bool) (xs : List A) → position p xs ≡ None → length xs ≡ position_or_len p xs
+place_none p xs none = elim (cases_Bool (nat_lt (position_or_len p xs) (length xs))) [
+  | inl found ↦ absurd (let some : Some (position_or_len p xs) ≡ None = rw found at none in cc)
+  | inr end ↦ omega (arith, ltb-false _ _ end, place_within p xs)
+]
+
+-- one more is as many as may be at most, where there was room
+pub few_more : (cs : List Client) (place : ℕ) (c : Client) → place ≤ length cs → length cs < most_clients → length (insert cs place c) ≤ most_clients
+few_more cs place c within room = omega (arith, length-insert cs place c within)

@@ -1,6 +1,6 @@
 -- The clients of a server: what came of each, what is still to be written to it, what it asks next, and when it is over.
-use Rattle.std.specs.Prelude.{ℕ, zero, suc, ◌==◌, ◌+◌, ◌≤◌, nat_le, Bool, true, false, ◌||◌, ◌&&◌, not, if◌then◌else◌, List, [], ◌∷◌, ◌++◌, length, drop, slice_get, IfSome}
-use Rattle.std.specs.List.{list_any}
+use Rattle.std.specs.Prelude.{ℕ, zero, suc, ◌==◌, ◌+◌, ◌≤◌, nat_le, nat_lt, Bool, true, false, ◌||◌, ◌&&◌, not, if◌then◌else◌, List, [], ◌∷◌, ◌++◌, length, drop, slice_get, IfSome}
+use Rattle.std.specs.List.{insert, list_any, position_or_len}
 use Rattle.std.specs.Option.{option_map_or}
 use Rattle.client_frames.specs.Comes.{Hearing, Heard, Part, Is, heard, hearing_after, wanted}
 use Rattle.client_frames.specs.Frames.{most_request, reply}
@@ -120,7 +120,15 @@ is_idle now c = nat_le (c.last + idle_seconds) now
 abbrev pub is_over : ℕ → Client → Bool
 is_over now c = c.gone || (is_refused c || is_idle now c)
 
--- ---- all of them, in the order of their accepts
+-- ---- all of them, by their numbers
+
+-- the place of a number among them: in front of the first with a greater one, or behind them all
+abbrev pub place_for : ℕ → List Client → ℕ
+place_for conn cs = position_or_len (λ (c : Client). nat_lt conn c.conn) cs
+
+-- one more
+abbrev pub with_client : Client → List Client → List Client
+with_client c cs = insert cs (place_for c.conn cs) c
 
 -- of the client at a place: its number, what it asks, what is still to be written to it, and whether it is over
 abbrev pub conn_at : ℕ → List Client → ℕ

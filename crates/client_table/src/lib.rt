@@ -1,6 +1,6 @@
 //! The clients of a server: what is still to be written to each, what came of a request that is not whole yet, and when each is over.
 //!
-//! A caller accepts clients while there is room, goes through them in the order of their accepts, and makes the one call that each asks
+//! A caller accepts clients while there is room, goes through them by their numbers, and makes the one call that each asks
 //! for: what is unwritten is written before anything more is read. It says how the outside answered, and what time it is. Where a request
 //! came whole it gets its words, and puts in the reply before it goes on; so no second request of a client is taken before the reply to
 //! the first is written whole. A frame that is refused is answered as well, and the client is over when that is written. So is one whose

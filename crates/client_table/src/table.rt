@@ -1,8 +1,8 @@
 //! `ClientTable` and its methods.
-ghost use Rattle.std.specs.Prelude.{◌≡◌, ◌<◌, ◌≤◌, ◌↔◌, ◌∷◌, ◌++◌, [], Err, false, length, remove, IsTrue, IfSome, OnOk, OnErr};
+ghost use Rattle.std.specs.Prelude.{◌≡◌, ◌<◌, ◌≤◌, ◌↔◌, ◌∷◌, ◌++◌, [], Err, false, length, nat_lt, position, remove, IsTrue, IfSome, OnOk, OnErr};
 ghost use Rattle.client_frames.specs.Comes.{told};
 ghost use Rattle.client_frames.specs.Frames.{most_text};
-ghost use Rattle.client_table.specs.Clients.{AnswersRead, AnswersWrite, IsBounded, IsHeardAt, accepted, after_read, after_write, answered, asks_at, changed_at, conn_at, have_unwritten, heard_at, is_over_at, most_clients, unwritten_at};
+ghost use Rattle.client_table.specs.Clients.{AnswersRead, AnswersWrite, Client, IsBounded, IsHeardAt, accepted, after_read, after_write, answered, asks_at, changed_at, conn_at, have_unwritten, heard_at, is_over_at, most_clients, place_for, unwritten_at, with_client};
 ghost use Rattle.client_table.specs.Nexts.{told_to};
 
 use crate::client::{Client, MOST_CLIENTS};
@@ -13,7 +13,7 @@ use f2b_world::{GateRead, GateWrite};
 use std::alloc::Global;
 use std::marker::Model;
 
-/// The clients, in the order of their accepts.
+/// The clients, by their numbers.
 #[derive(Drop)]
 pub struct ClientTable {
     alloc: Global,
@@ -29,6 +29,25 @@ impl Model for ClientTable {
     ghost view = { λ t. t.clients.items };
 
     ghost invariant = { λ t. length t.clients.items ≤ most_clients };
+}
+
+// The first place with a greater number.
+fn first_above(clients: &[Client], conn: u32) -> Option<usize>
+    ensures { result ≡ position (λ (other : Client). nat_lt conn other.conn) clients.now }
+{
+    clients.iter().position(|other| conn < other.conn())
+}
+
+// The place of a number among the others.
+#[tactic(auto, using(crate::proofs::PlaceLemmas::place_none, crate::proofs::PlaceLemmas::place_within))]
+fn place_for(clients: &[Client], conn: u32) -> usize
+    ensures place { result ≡ place_for conn clients.now }
+    ensures within { result ≤ length clients.now }
+{
+    match first_above(clients, conn) {
+        Some(place) => place,
+        None => clients.len(),
+    }
 }
 
 impl ClientTable {
@@ -58,14 +77,17 @@ impl ClientTable {
         self.clients.len() == MOST_CLIENTS
     }
 
-    /// Adds a client behind the others, by the number that the outside gave it, where there is room; it was accepted at `now`, in
-    /// seconds since 1970. An error changes nothing.
+    /// Adds a client, at the place of the number that the outside gave it, where there is room; it was accepted at `now`, in seconds since
+    /// 1970. An error changes nothing.
+    #[tactic(auto, using(crate::proofs::PlaceLemmas::few_more))]
     pub fn accept(&mut self, conn: u32, now: u64) -> Result<(), NoMemory>
         requires { length self.old < most_clients }
-        ensures ok { OnOk result (self.new ≡ self.old ++ accepted conn now ∷ []) }
+        ensures ok { OnOk result (self.new ≡ with_client (accepted conn now) self.old) }
         ensures err { OnErr result (self.new ≡ self.old) }
     {
-        self.clients.push(Client::new(self.alloc, conn, now))?;
+        let place = place_for(self.clients.as_slice(), conn);
+        self.clients
+            .insert(place, Client::new(self.alloc, conn, now))?;
         Ok(())
     }
 

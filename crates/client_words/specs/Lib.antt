@@ -1,3 +1,4 @@
+pub mod Bounds
 pub mod Commands
 pub mod Refusals
 pub mod Values

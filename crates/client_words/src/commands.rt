@@ -1,5 +1,7 @@
 //! Words as requests.
-ghost use Rattle.std.specs.Prelude.{◌≡◌, ◌<◌, ◌≤◌, ◌+◌, ◌^◌, length};
+ghost use Rattle.std.specs.Prelude.{◌≡◌, ◌<◌, ◌≤◌, ◌+◌, ◌^◌, length, IfOk};
+ghost use Rattle.f2b_model.specs.Storable.{IsJailName};
+ghost use Rattle.client_words.specs.Bounds.{IsBoundedRequest};
 ghost use Rattle.client_words.specs.Commands.{command_of, get_request, is_all, request_of, set_one, set_request, unban_request};
 ghost use Rattle.client_words.specs.Values.{Gives};
 
@@ -13,7 +15,8 @@ use std::alloc::Global;
 
 /// What one word sets of a jail, the fourth.
 fn set_one(setting: Setting, jail: Text, word: &Text) -> Result<Request, CommandError>
-    ensures { Gives (set_one setting jail word.now) result }
+    ensures request { Gives (set_one setting jail word.now) result }
+    ensures bounds { IsJailName jail → IfOk result IsBoundedRequest }
 {
     match setting {
         Setting::Attempt => {
@@ -56,7 +59,8 @@ fn set_request(
     values: &[Text],
 ) -> Result<Request, CommandError>
     requires { 4 + length values.now ≤ 2 ^ 32 }
-    ensures { Gives (set_request setting jail values.now) result }
+    ensures request { Gives (set_request setting jail values.now) result }
+    ensures bounds { IsJailName jail → IfOk result IsBoundedRequest }
 {
     match setting {
         Setting::Banip => {
@@ -76,7 +80,8 @@ fn set_request(
 
 /// What is got of a jail.
 fn get_request(item: Item, jail: Text) -> Request
-    ensures { result ≡ get_request item jail }
+    ensures request { result ≡ get_request item jail }
+    ensures bounds { IsBoundedRequest result }
 {
     match item {
         Item::Banip => Request::GetBanip { jail },
@@ -102,7 +107,8 @@ fn is_all(values: &[Text]) -> bool
 /// What the words from the second on unban.
 fn unban_request(alloc: Global, values: &[Text]) -> Result<Request, CommandError>
     requires { 2 + length values.now ≤ 2 ^ 32 }
-    ensures { Gives (unban_request values.now) result }
+    ensures request { Gives (unban_request values.now) result }
+    ensures bounds { IfOk result IsBoundedRequest }
 {
     if is_all(values) {
         return Ok(Request::UnbanAll);
@@ -114,7 +120,8 @@ fn unban_request(alloc: Global, values: &[Text]) -> Result<Request, CommandError
 /// The request of a verb by all words, which are as many as it has.
 fn request_of(alloc: Global, verb: Verb, words: &[Text]) -> Result<Request, CommandError>
     requires { length words.now < 2 ^ 32 }
-    ensures { Gives (request_of verb words.now) result }
+    ensures request { Gives (request_of verb words.now) result }
+    ensures bounds { IfOk result IsBoundedRequest }
 {
     match (verb, words) {
         (Verb::Ping, _) => Ok(Request::Ping),
@@ -144,7 +151,8 @@ fn request_of(alloc: Global, verb: Verb, words: &[Text]) -> Result<Request, Comm
 #[tactic(auto, unfolding(crate::specs::Commands::command_of))]
 pub fn command(alloc: Global, words: &Seq<Text>) -> Result<Request, CommandError>
     requires { length words.now < 2 ^ 32 }
-    ensures { Gives (command_of words.now) result }
+    ensures request { Gives (command_of words.now) result }
+    ensures bounds { IfOk result IsBoundedRequest }
 {
     let words = words.as_slice();
     let verb = verb_of(words)?;

@@ -1,6 +1,7 @@
 //! Times and numbers that words spell, as the items of a configuration read them.
-ghost use Rattle.std.specs.Prelude.{◌≡◌, ◌+◌, ◌*◌, ◌-◌, ◌^◌, min, option_map, IsTrue};
+ghost use Rattle.std.specs.Prelude.{◌≡◌, ◌+◌, ◌*◌, ◌-◌, ◌^◌, min, option_map, IfOk, IsTrue};
 ghost use Rattle.std.specs.Char.{digit_value, is_ascii_digit};
+ghost use Rattle.f2b_model.specs.Storable.{IsBase, IsSpanOfTime, IsWithin};
 ghost use Rattle.ini_interp.specs.Lines.{is_blank, trimmed_end, trimmed_start};
 ghost use Rattle.jail_conf.specs.Words.{number};
 ghost use Rattle.client_words.specs.Values.{bantime, findtime, maxretry};
@@ -11,7 +12,8 @@ use jail_conf::str2sec;
 
 /// A time of 1 second at least.
 pub(crate) fn findtime(word: &Text) -> Result<u64, CommandError>
-    ensures { result ≡ findtime word.now }
+    ensures secs { result ≡ findtime word.now }
+    ensures bounds { IfOk result IsSpanOfTime }
 {
     match str2sec(word.as_str()) {
         Some(secs) if secs >= 1 => Ok(secs as u64),
@@ -21,7 +23,8 @@ pub(crate) fn findtime(word: &Text) -> Result<u64, CommandError>
 
 /// A time that is not 0.
 pub(crate) fn bantime(word: &Text) -> Result<i64, CommandError>
-    ensures { result ≡ bantime word.now }
+    ensures secs { result ≡ bantime word.now }
+    ensures bounds { IfOk result IsBase }
 {
     match str2sec(word.as_str()) {
         Some(secs) if secs != 0 => Ok(secs),
@@ -87,7 +90,8 @@ fn number(text: &[u8]) -> Option<u64>
 
 /// A number of 1 to 100,000.
 pub(crate) fn maxretry(word: &Text) -> Result<u64, CommandError>
-    ensures { result ≡ maxretry word.now }
+    ensures number { result ≡ maxretry word.now }
+    ensures bounds { IfOk result (IsWithin 1 100000) }
 {
     match number(trim_start(trim_end(word.as_str().as_bytes()))) {
         Some(number) if 1 <= number && number <= 100_000 => Ok(number),

@@ -1,6 +1,10 @@
 //! Names, addresses and masks that words spell.
-ghost use Rattle.std.specs.Prelude.{◌≡◌, ◌≤◌, ◌+◌, ◌^◌, length};
+ghost use Rattle.std.specs.Prelude.{◌≡◌, ◌≤◌, ◌+◌, ◌^◌, length, IfOk};
 ghost use Rattle.std.specs.List.{list_all};
+ghost use Rattle.f2b_base.specs.Addresses.{IsAddr};
+ghost use Rattle.f2b_base.specs.Masks.{IsCidr};
+ghost use Rattle.f2b_model.specs.Lists.{AllOf};
+ghost use Rattle.f2b_model.specs.Storable.{IsJailName};
 ghost use Rattle.client_words.specs.Values.{Gives, address, addresses, jail_name, mask};
 ghost use Rattle.jail_conf.specs.Jails.{is_jail_name, is_name_byte};
 
@@ -28,8 +32,10 @@ fn is_jail_name(name: &[u8]) -> bool
 }
 
 /// A name that a jail can have.
+#[tactic(auto, using(crate::proofs::BoundLemmas::name_is))]
 pub(crate) fn jail_name(word: &Text) -> Result<Text, CommandError>
-    ensures { Gives (jail_name word.now) result }
+    ensures name { Gives (jail_name word.now) result }
+    ensures bounds { IfOk result IsJailName }
 {
     if !is_jail_name(word.as_str().as_bytes()) {
         return Err(CommandError::BadJailName);
@@ -39,7 +45,8 @@ pub(crate) fn jail_name(word: &Text) -> Result<Text, CommandError>
 
 /// The address that the word at a place spells.
 pub(crate) fn address(place: u32, word: &Text) -> Result<Addr, CommandError>
-    ensures { result ≡ address place word.now }
+    ensures addr { result ≡ address place word.now }
+    ensures bounds { IfOk result IsAddr }
 {
     match Addr::read(word.as_str().as_bytes()) {
         Some(addr) => Ok(addr),
@@ -49,7 +56,8 @@ pub(crate) fn address(place: u32, word: &Text) -> Result<Addr, CommandError>
 
 /// The mask that the word at a place spells.
 pub(crate) fn mask(place: u32, word: &Text) -> Result<Cidr, CommandError>
-    ensures { result ≡ mask place word.now }
+    ensures mask { result ≡ mask place word.now }
+    ensures bounds { IfOk result IsCidr }
 {
     match Cidr::read(word.as_str().as_bytes()) {
         Some(cidr) => Ok(cidr),
@@ -64,7 +72,9 @@ pub(crate) fn addresses(
     words: &[Text],
 ) -> Result<Seq<Addr>, CommandError>
     requires { place + length words.now ≤ 2 ^ 32 }
-    ensures { Gives (addresses place words.now) result }
+    ensures addrs { Gives (addresses place words.now) result }
+    ensures bounds { IfOk result (AllOf IsAddr) }
+    ensures few { IfOk result (λ addrs. length addrs ≤ length words.now) }
 {
     let mut addrs = Seq::new(alloc);
     for (index, word) in words.iter().enumerate() {

@@ -1,4 +1,5 @@
 //! Whole configurations, with what they come to.
+use crate::rows::same;
 use crate::trees::{told, tree};
 use f2b_base::{ActionDef, JailDef, WatchDef};
 use jail_conf::conf;
@@ -56,44 +57,58 @@ const WORKED: [(&str, &str); 5] = [
 ];
 
 fn is_as_worked(rt: &impl Abort, jail: &JailDef) {
-    assert_eq!(rt; jail.name.as_str(), "sshd");
-    assert!(rt; jail.pref.is_some());
-    assert_eq!(rt; jail.fail.len(), 3);
-    assert_eq!(rt; jail.ignore_lines.len(), 0);
-    assert_eq!(rt; jail.ignore.len(), 4);
-    assert_eq!(rt; jail.findtime, 600);
-    assert_eq!(rt; jail.maxretry, 3);
-    assert_eq!(rt; jail.maxmatches, 3);
-    assert_eq!(rt; jail.rule.base, 600);
+    same(rt, "name", jail.name.as_str(), "sshd");
+    same(rt, "pref", jail.pref.is_some(), true);
+    let counts = (jail.fail.len(), jail.ignore_lines.len(), jail.ignore.len());
+    same(rt, "counts", counts, (3, 0, 4));
+    same(rt, "findtime", jail.findtime, 600);
+    same(rt, "most", (jail.maxretry, jail.maxmatches), (3, 3));
+    same(rt, "base", jail.rule.base, 600);
+}
+
+fn first_path(watches: &[WatchDef]) -> Option<&str> {
+    let watch = watches.first()?;
+    Some(watch.path.as_str())
 }
 
 fn log_is_as_worked(rt: &impl Abort, watches: &[WatchDef]) {
-    assert_eq!(rt; watches.len(), 1);
-    assert_eq!(rt; watches[0].path.as_str(), "/var/log/auth.log");
+    let log = (watches.len(), first_path(watches));
+    same(rt, "log", log, (1, Some("/var/log/auth.log")));
+}
+
+fn is_worked(rt: &impl Abort, action: &ActionDef) {
+    same(rt, "start", action.start.as_str(), "echo start sshd");
+    let ban = "echo ban <ip> ssh <failures> <bantime>";
+    same(rt, "ban", action.ban.as_str(), ban);
+    same(rt, "timeout", action.timeout, 60);
 }
 
 fn action_is_as_worked(rt: &impl Abort, actions: &[ActionDef]) {
-    assert_eq!(rt; actions.len(), 1);
-    assert_eq!(rt; actions[0].start.as_str(), "echo start sshd");
-    assert_eq!(rt;
-        actions[0].ban.as_str(),
-        "echo ban <ip> ssh <failures> <bantime>"
-    );
-    assert_eq!(rt; actions[0].timeout, 60);
+    same(rt, "actions", actions.len(), 1);
+    for action in actions {
+        is_worked(rt, action);
+    }
 }
 
 fn jails_are_as_worked(rt: &impl Abort, jails: &[JailDef]) {
-    assert_eq!(rt; jails.len(), 1);
-    is_as_worked(rt, &jails[0]);
-    log_is_as_worked(rt, jails[0].watches.as_slice());
-    action_is_as_worked(rt, jails[0].actions.as_slice());
+    same(rt, "jails", jails.len(), 1);
+    for jail in jails {
+        is_as_worked(rt, jail);
+        log_is_as_worked(rt, jail.watches.as_slice());
+        action_is_as_worked(rt, jail.actions.as_slice());
+    }
 }
 
 #[test]
 fn reads_the_worked_tree(rt: HostRuntime) -> Result<(), Fail> {
     let settings = conf(rt.alloc(), &tree(rt.alloc(), &WORKED)?)?;
-    assert_eq!(rt; settings.socket.as_str(), "/var/run/fail2ban/fail2ban.sock");
-    assert_eq!(rt; settings.defs.purge, 86_400);
+    same(
+        &rt,
+        "socket",
+        settings.socket.as_str(),
+        "/var/run/fail2ban/fail2ban.sock",
+    );
+    same(&rt, "purge", settings.defs.purge, 86_400);
     jails_are_as_worked(&rt, settings.defs.jails.as_slice());
     Ok(())
 }
@@ -115,8 +130,9 @@ fn told_of_jail(alloc: Global, items: &str) -> Result<String, Fail> {
 
 /// Rows of a jail's items, and what is told of it.
 fn are_told_of_jails(rt: &impl Abort, alloc: Global, rows: &[(&str, &str)]) -> Result<(), Fail> {
-    for (items, want) in rows {
-        assert_eq!(rt; told_of_jail(alloc, items)?.as_str(), *want);
+    for &(items, want) in rows {
+        let told = told_of_jail(alloc, items)?;
+        same(rt, items, told.as_str(), want);
     }
     Ok(())
 }
@@ -171,7 +187,8 @@ fn are_told_of_two(
 ) -> Result<(), Fail> {
     for &(server, jails, want) in rows {
         let files = [("fail2ban.conf", server), ("jail.conf", jails)];
-        assert_eq!(rt; told(alloc, files.as_slice())?.as_str(), want);
+        let told = told(alloc, files.as_slice())?;
+        same(rt, jails, told.as_str(), want);
     }
     Ok(())
 }

@@ -1,4 +1,5 @@
 //! Texts of items, with what they are read as.
+use crate::rows::same;
 use crate::trees::{jail_with, only_jail, told};
 use f2b_base::{DateSpec, Text};
 use jail_conf::{ConfKind, Fail as Refusal, str2sec};
@@ -15,15 +16,15 @@ fn refused<A>(kind: ConfKind) -> Result<A, Refusal<ConfKind>> {
     Err(Refusal::Refused(kind))
 }
 
+fn increment(alloc: Global, text: &str) -> Result<Result<bool, Refusal<ConfKind>>, Fail> {
+    Ok(jail_with(alloc, "bantime.increment", text)?.map(|jail| jail.rule.increment))
+}
+
 /// Rows of a text and what it means, or none where it is refused.
 fn are_booleans(rt: &impl Abort, alloc: Global, rows: &[(&str, Option<bool>)]) -> Result<(), Fail> {
-    for (text, want) in rows {
-        let jail = jail_with(alloc, "bantime.increment", text)?;
-        assert_eq!(rt;
-            jail.map(|jail| jail.rule.increment),
-            answer(*want, ConfKind::BadBool),
-            "{text}"
-        );
+    for &(text, want) in rows {
+        let read = increment(alloc, text)?;
+        same(rt, text, &read, &answer(want, ConfKind::BadBool));
     }
     Ok(())
 }
@@ -50,31 +51,38 @@ fn told_with(alloc: Global, name: &str, text: &str) -> Result<Result<(), Refusal
     Ok(jail_with(alloc, name, text)?.map(|_jail| ()))
 }
 
+/// That is told of a jail with this item.
+fn is_told(
+    rt: &impl Abort,
+    alloc: Global,
+    name: &str,
+    text: &str,
+    want: &Result<(), Refusal<ConfKind>>,
+) -> Result<(), Fail> {
+    let told = told_with(alloc, name, text)?;
+    same(rt, (name, text), &told, want);
+    Ok(())
+}
+
 #[test]
 fn reads_choices(rt: HostRuntime) -> Result<(), Fail> {
     let alloc = rt.alloc();
-    assert_eq!(rt; told_with(alloc, "usedns", "Warn")?, Ok(()));
-    assert_eq!(rt;
-        told_with(alloc, "usedns", "raw")?,
-        refused(ConfKind::Unsupported)
-    );
-    assert_eq!(rt; told_with(alloc, "bantime.overalljails", "no")?, Ok(()));
-    assert_eq!(rt;
-        told_with(alloc, "bantime.overalljails", "yes")?,
-        refused(ConfKind::Unsupported)
-    );
-    Ok(())
+    is_told(&rt, alloc, "usedns", "Warn", &Ok(()))?;
+    let unsupported = refused(ConfKind::Unsupported);
+    is_told(&rt, alloc, "usedns", "raw", &unsupported)?;
+    is_told(&rt, alloc, "bantime.overalljails", "no", &Ok(()))?;
+    is_told(&rt, alloc, "bantime.overalljails", "yes", &unsupported)
+}
+
+fn maxretry(alloc: Global, text: &str) -> Result<Result<u64, Refusal<ConfKind>>, Fail> {
+    Ok(jail_with(alloc, "maxretry", text)?.map(|jail| jail.maxretry))
 }
 
 /// Rows of a text and its number, or none where it is refused.
 fn are_numbers(rt: &impl Abort, alloc: Global, rows: &[(&str, Option<u64>)]) -> Result<(), Fail> {
-    for (text, want) in rows {
-        let jail = jail_with(alloc, "maxretry", text)?;
-        assert_eq!(rt;
-            jail.map(|jail| jail.maxretry),
-            answer(*want, ConfKind::BadNumber),
-            "{text}"
-        );
+    for &(text, want) in rows {
+        let read = maxretry(alloc, text)?;
+        same(rt, text, &read, &answer(want, ConfKind::BadNumber));
     }
     Ok(())
 }
@@ -100,20 +108,22 @@ fn reads_numbers(rt: HostRuntime) -> Result<(), Fail> {
 #[test]
 fn reads_the_number_one_and_several_numbers(rt: HostRuntime) -> Result<(), Fail> {
     let alloc = rt.alloc();
-    assert_eq!(rt; told_with(alloc, "maxlines", "01")?, Ok(()));
-    assert_eq!(rt;
-        told_with(alloc, "maxlines", "2")?,
-        refused(ConfKind::Unsupported)
-    );
+    is_told(&rt, alloc, "maxlines", "01", &Ok(()))?;
+    is_told(&rt, alloc, "maxlines", "2", &refused(ConfKind::Unsupported))?;
     let jail = jail_with(alloc, "bantime.multipliers", "1 5\n 30")??;
-    assert_eq!(rt; jail.rule.multipliers.as_slice(), [1, 5, 30].as_slice());
+    same(
+        &rt,
+        "multipliers",
+        jail.rule.multipliers.as_slice(),
+        &[1, 5, 30],
+    );
     Ok(())
 }
 
 /// Rows of a text and its seconds.
 fn are_times(rt: &impl Abort, rows: &[(&str, Option<i64>)]) {
-    for (text, want) in rows {
-        assert_eq!(rt; str2sec(text), *want, "{text}");
+    for &(text, want) in rows {
+        same(rt, text, str2sec(text), want);
     }
 }
 
@@ -143,39 +153,32 @@ fn reads_times(rt: HostRuntime) {
     are_times(&rt, &TIMES);
 }
 
+fn base(alloc: Global, text: &str) -> Result<Result<i64, Refusal<ConfKind>>, Fail> {
+    Ok(jail_with(alloc, "bantime", text)?.map(|jail| jail.rule.base))
+}
+
 #[test]
 fn reads_times_of_items(rt: HostRuntime) -> Result<(), Fail> {
     let alloc = rt.alloc();
-    assert_eq!(rt;
-        told_with(alloc, "findtime", "0")?,
-        refused(ConfKind::BadTime)
-    );
-    let for_ever = jail_with(alloc, "bantime", "-1")?;
-    assert_eq!(rt; for_ever.map(|jail| jail.rule.base), Ok(-1));
-    assert_eq!(rt;
-        told_with(alloc, "bantime", "0s")?,
-        refused(ConfKind::BadTime)
-    );
-    assert_eq!(rt;
-        told_with(alloc, "bantime.rndtime", "12d")?,
-        refused(ConfKind::BadNumber)
-    );
-    assert_eq!(rt;
-        told_with(alloc, "bantime.rndtime", "x")?,
-        refused(ConfKind::BadTime)
-    );
-    Ok(())
+    let no_time = refused(ConfKind::BadTime);
+    is_told(&rt, alloc, "findtime", "0", &no_time)?;
+    let for_ever = base(alloc, "-1")?;
+    same(&rt, "for ever", &for_ever, &Ok(-1));
+    is_told(&rt, alloc, "bantime", "0s", &no_time)?;
+    let no_number = refused(ConfKind::BadNumber);
+    is_told(&rt, alloc, "bantime.rndtime", "12d", &no_number)?;
+    is_told(&rt, alloc, "bantime.rndtime", "x", &no_time)
+}
+
+fn factor(alloc: Global, text: &str) -> Result<Result<u64, Refusal<ConfKind>>, Fail> {
+    Ok(jail_with(alloc, "bantime.factor", text)?.map(|jail| jail.rule.factor))
 }
 
 /// Rows of a text and its factor in thousandths, or none where it is refused.
 fn are_factors(rt: &impl Abort, alloc: Global, rows: &[(&str, Option<u64>)]) -> Result<(), Fail> {
-    for (text, want) in rows {
-        let jail = jail_with(alloc, "bantime.factor", text)?;
-        assert_eq!(rt;
-            jail.map(|jail| jail.rule.factor),
-            answer(*want, ConfKind::BadNumber),
-            "{text}"
-        );
+    for &(text, want) in rows {
+        let read = factor(alloc, text)?;
+        same(rt, text, &read, &answer(want, ConfKind::BadNumber));
     }
     Ok(())
 }
@@ -193,15 +196,15 @@ const FACTORS: [(&str, Option<u64>); 10] = [
     ("-1", None),
 ];
 
+fn zone(alloc: Global, text: &str) -> Result<Result<i64, Refusal<ConfKind>>, Fail> {
+    Ok(jail_with(alloc, "logtimezone", text)?.map(|jail| jail.zone))
+}
+
 /// Rows of a text and its zone in seconds, or none where it is refused.
 fn are_zones(rt: &impl Abort, alloc: Global, rows: &[(&str, Option<i64>)]) -> Result<(), Fail> {
-    for (text, want) in rows {
-        let jail = jail_with(alloc, "logtimezone", text)?;
-        assert_eq!(rt;
-            jail.map(|jail| jail.zone),
-            answer(*want, ConfKind::BadZone),
-            "{text}"
-        );
+    for &(text, want) in rows {
+        let read = zone(alloc, text)?;
+        same(rt, text, &read, &answer(want, ConfKind::BadZone));
     }
     Ok(())
 }
@@ -225,28 +228,36 @@ fn reads_factors_and_zones(rt: HostRuntime) -> Result<(), Fail> {
     are_zones(&rt, rt.alloc(), &ZONES)
 }
 
-fn date(alloc: Global, text: &str) -> Result<Result<DateSpec, Refusal<ConfKind>>, Fail> {
+/// A spec of dates, or the kind of its refusal.
+type Date = Result<DateSpec, Refusal<ConfKind>>;
+
+fn date(alloc: Global, text: &str) -> Result<Date, Fail> {
     Ok(jail_with(alloc, "datepattern", text)?.map(|jail| jail.date))
+}
+
+/// A text is read as that spec of dates.
+fn is_date(rt: &impl Abort, alloc: Global, text: &str, want: &Date) -> Result<(), Fail> {
+    let date = date(alloc, text)?;
+    same(rt, text, &date, want);
+    Ok(())
 }
 
 #[test]
 fn reads_dates(rt: HostRuntime) -> Result<(), Fail> {
     let alloc = rt.alloc();
-    assert_eq!(rt; date(alloc, "{^LN-BEG}")?, Ok(DateSpec::Anchored));
-    assert_eq!(rt; date(alloc, "{NONE}")?, Ok(DateSpec::NoDate));
-    assert_eq!(rt; date(alloc, "Epoch")?, Ok(DateSpec::Epoch));
-    assert_eq!(rt; date(alloc, "ISO8601")?, Ok(DateSpec::Iso));
+    is_date(&rt, alloc, "{^LN-BEG}", &Ok(DateSpec::Anchored))?;
+    is_date(&rt, alloc, "{NONE}", &Ok(DateSpec::NoDate))?;
+    is_date(&rt, alloc, "Epoch", &Ok(DateSpec::Epoch))?;
+    is_date(&rt, alloc, "ISO8601", &Ok(DateSpec::Iso))?;
     let pattern = Text::from_str(alloc, "%d/%b")?;
-    assert_eq!(rt;
-        date(alloc, "{^LN-BEG}%%d/%%b")?,
-        Ok(DateSpec::AnchoredPattern(pattern))
-    );
-    Ok(())
+    let own = Ok(DateSpec::AnchoredPattern(pattern));
+    is_date(&rt, alloc, "{^LN-BEG}%%d/%%b", &own)
 }
 
 fn are_no_dates(rt: &impl Abort, alloc: Global, texts: &[&str]) -> Result<(), Fail> {
+    let no_date = refused(ConfKind::BadDate);
     for text in texts {
-        assert_eq!(rt; date(alloc, text)?, refused(ConfKind::BadDate), "{text}");
+        is_date(rt, alloc, text, &no_date)?;
     }
     Ok(())
 }
@@ -258,17 +269,19 @@ fn refuses_what_is_no_date(rt: HostRuntime) -> Result<(), Fail> {
     are_no_dates(&rt, rt.alloc(), &NO_DATES)
 }
 
+/// How many addresses are never banned.
+fn ignored(alloc: Global, text: &str) -> Result<Result<usize, Refusal<ConfKind>>, Fail> {
+    Ok(jail_with(alloc, "ignoreip", text)?.map(|jail| jail.ignore.len()))
+}
+
 #[test]
 fn reads_addresses(rt: HostRuntime) -> Result<(), Fail> {
     let alloc = rt.alloc();
-    let jail = jail_with(alloc, "ignoreip", "127.0.0.1/8 ::1,\n 10.0.0.1")?;
+    let count = ignored(alloc, "127.0.0.1/8 ::1,\n 10.0.0.1")?;
     // Three, and the two of the loopback.
-    assert_eq!(rt; jail.map(|jail| jail.ignore.len()), Ok(5));
-    assert_eq!(rt;
-        told_with(alloc, "ignoreip", "10.0.0.1 host")?,
-        refused(ConfKind::BadAddress)
-    );
-    Ok(())
+    same(&rt, "ignored", &count, &Ok(5));
+    let no_address = refused(ConfKind::BadAddress);
+    is_told(&rt, alloc, "ignoreip", "10.0.0.1 host", &no_address)
 }
 
 const FROM_DEFAULT: &str =
@@ -278,10 +291,10 @@ const FROM_DEFAULT: &str =
 fn reads_an_item_where_it_stands(rt: HostRuntime) -> Result<(), Fail> {
     let files = [("jail.conf", FROM_DEFAULT)];
     let jail = only_jail(rt.alloc(), files.as_slice())??;
-    assert_eq!(rt; jail.maxretry, 3);
-    assert!(rt; !jail.rule.increment);
+    same(&rt, "maxretry", jail.maxretry, 3);
+    same(&rt, "increment", jail.rule.increment, false);
     // That the machine's own addresses are never banned is not said, and the two of the loopback are there.
-    assert_eq!(rt; jail.ignore.len(), 2);
+    same(&rt, "ignored", jail.ignore.len(), 2);
     Ok(())
 }
 
@@ -289,7 +302,8 @@ fn reads_an_item_where_it_stands(rt: HostRuntime) -> Result<(), Fail> {
 fn are_told(rt: &impl Abort, alloc: Global, rows: &[(&str, &str)]) -> Result<(), Fail> {
     for &(jail, want) in rows {
         let files = [("jail.conf", jail)];
-        assert_eq!(rt; told(alloc, files.as_slice())?.as_str(), want);
+        let told = told(alloc, files.as_slice())?;
+        same(rt, jail, told.as_str(), want);
     }
     Ok(())
 }

@@ -21,4 +21,8 @@ mod patterns;
 #[cfg(test)]
 mod printed;
 #[cfg(test)]
+mod rows;
+#[cfg(test)]
+mod tags;
+#[cfg(test)]
 mod trees;

@@ -1,4 +1,5 @@
 //! Configurations at their limits, and faults of files.
+use crate::rows::same;
 use crate::trees::told;
 use f2b_base::{Bytes, NoMemory, Seq, Text, Tree, TreeFile};
 use ini_interp::IniError;
@@ -12,10 +13,17 @@ fn told_of(alloc: Global, jail: &str) -> Result<String, Fail> {
     told(alloc, &[("jail.conf", jail)])
 }
 
+/// That is told of a configuration that is this `jail.conf`.
+fn is_told(rt: &impl Abort, alloc: Global, jail: &str, want: &str) -> Result<(), Fail> {
+    let told = told_of(alloc, jail)?;
+    same(rt, jail, told.as_str(), want);
+    Ok(())
+}
+
 /// Rows of a `jail.conf`, and what is told of it.
 fn are_told(rt: &impl Abort, alloc: Global, rows: &[(&str, &str)]) -> Result<(), Fail> {
-    for (jail, want) in rows {
-        assert_eq!(rt; told_of(alloc, jail)?.as_str(), *want);
+    for &(jail, want) in rows {
+        is_told(rt, alloc, jail, want)?;
     }
     Ok(())
 }
@@ -63,8 +71,7 @@ fn deep_jail(alloc: Global, depth: u32) -> Result<String, Fail> {
 
 fn is_told_of_depth(rt: &impl Abort, alloc: Global, depth: u32, want: &str) -> Result<(), Fail> {
     let jail = deep_jail(alloc, depth)?;
-    assert_eq!(rt; told_of(alloc, jail.as_str())?.as_str(), want);
-    Ok(())
+    is_told(rt, alloc, jail.as_str(), want)
 }
 
 #[test]
@@ -95,9 +102,10 @@ fn full_of_patterns(alloc: Global) -> Result<String, Fail> {
 
 /// A `jail.conf` is read, and with this `jail.local` that is told.
 fn is_full(rt: &impl Abort, alloc: Global, full: &str, more: &str, want: &str) -> Result<(), Fail> {
-    assert_eq!(rt; told_of(alloc, full)?.as_str(), "read");
+    is_told(rt, alloc, full, "read")?;
     let files = [("jail.conf", full), ("jail.local", more)];
-    assert_eq!(rt; told(alloc, files.as_slice())?.as_str(), want);
+    let told = told(alloc, files.as_slice())?;
+    same(rt, more, told.as_str(), want);
     Ok(())
 }
 
@@ -134,8 +142,7 @@ fn jail_of_lines(
 
 fn is_told_of_logs(rt: &impl Abort, alloc: Global, count: u32, want: &str) -> Result<(), Fail> {
     let jail = jail_of_lines(alloc, "logpath", "/var/log/", "", count)?;
-    assert_eq!(rt; told_of(alloc, jail.as_str())?.as_str(), want);
-    Ok(())
+    is_told(rt, alloc, jail.as_str(), want)
 }
 
 #[test]
@@ -150,7 +157,8 @@ fn is_told_of_actions(rt: &impl Abort, alloc: Global, count: u32, want: &str) ->
         ("action.d/a.conf", "[Definition]\nactionban = ban\n"),
         ("jail.conf", jail.as_str()),
     ];
-    assert_eq!(rt; told(alloc, files.as_slice())?.as_str(), want);
+    let told = told(alloc, files.as_slice())?;
+    same(rt, count, told.as_str(), want);
     Ok(())
 }
 
@@ -170,16 +178,24 @@ fn tree_of_bytes(alloc: Global, path: &str, bytes: &[u8]) -> Result<Tree, NoMemo
     Ok(Tree { files })
 }
 
+/// The kind of the refusal of a tree.
+fn kind_told(alloc: Global, tree: &Tree) -> Option<ConfKind> {
+    match conf(alloc, tree) {
+        Err(Refusal::Refused(error)) => Some(error.kind),
+        Err(Refusal::NoMemory) => None,
+        Ok(_settings) => None,
+    }
+}
+
 #[test]
 fn tells_the_first_byte_that_is_no_utf_8(rt: HostRuntime) -> Result<(), Fail> {
     let tree = tree_of_bytes(rt.alloc(), "jail.conf", b"[j]\n\xff\n")?;
-    let came = conf(rt.alloc(), &tree);
-    match came {
-        Err(Refusal::Refused(error)) => {
-            assert_eq!(rt; error.kind, ConfKind::Ini(IniError::NotUtf8(4)));
-        }
-        Err(Refusal::NoMemory) => assert!(rt; false),
-        Ok(_settings) => assert!(rt; false),
-    }
+    let kind = kind_told(rt.alloc(), &tree);
+    same(
+        &rt,
+        "kind",
+        &kind,
+        &Some(ConfKind::Ini(IniError::NotUtf8(4))),
+    );
     Ok(())
 }

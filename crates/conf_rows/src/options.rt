@@ -1,4 +1,5 @@
 //! Names of filters with options, with what they are read as.
+use crate::rows::same;
 use crate::trees::{told, tree, with_item};
 use f2b_base::{Plain, Text};
 use jail_conf::conf;
@@ -31,8 +32,9 @@ fn shown(alloc: Global, text: &str) -> Result<Text, Fail> {
 
 /// Rows of a text and what is told of it.
 fn are_told(rt: &impl Abort, alloc: Global, rows: &[(&str, &str)]) -> Result<(), Fail> {
-    for (text, want) in rows {
-        assert_eq!(rt; told_of(alloc, text)?.as_str(), *want, "{text}");
+    for &(text, want) in rows {
+        let told = told_of(alloc, text)?;
+        same(rt, text, told.as_str(), want);
     }
     Ok(())
 }
@@ -47,8 +49,9 @@ const NAMES: [(&str, &str); 4] = [
 
 /// Rows of a text and what is shown of its options.
 fn are_shown(rt: &impl Abort, alloc: Global, rows: &[(&str, &str)]) -> Result<(), Fail> {
-    for (text, want) in rows {
-        assert_eq!(rt; shown(alloc, text)?.as_str(), *want, "{text}");
+    for &(text, want) in rows {
+        let shown = shown(alloc, text)?;
+        same(rt, text, shown.as_str(), want);
     }
     Ok(())
 }
@@ -81,12 +84,9 @@ fn reads_names_with_options(rt: HostRuntime) -> Result<(), Fail> {
 }
 
 fn are_refused(rt: &impl Abort, alloc: Global, texts: &[&str]) -> Result<(), Fail> {
-    for text in texts {
-        assert_eq!(rt;
-            told_of(alloc, text)?.as_str(),
-            "jail.conf|j|filter|BadOptions",
-            "{text}"
-        );
+    for &text in texts {
+        let told = told_of(alloc, text)?;
+        same(rt, text, told.as_str(), "jail.conf|j|filter|BadOptions");
     }
     Ok(())
 }

@@ -1,4 +1,5 @@
 //! Patterns, with what they are read as.
+use crate::rows::same;
 use crate::trees::{Read, jail_with, only_jail, told};
 use f2b_base::{NoMemory, Text};
 use jail_conf::{ConfKind, Fail as Refusal};
@@ -34,19 +35,35 @@ fn refused<A>(kind: ConfKind) -> Result<A, Refusal<ConfKind>> {
     Err(Refusal::Refused(kind))
 }
 
+/// How many patterns of failures are read from this text, or what kind of refusal there is.
+fn fail_count(alloc: Global, text: &str) -> Result<Result<usize, Refusal<ConfKind>>, Fail> {
+    let jail = jail_with(alloc, "failregex", text)?;
+    Ok(jail.map(|jail| jail.fail.len()))
+}
+
 #[test]
 fn reads_patterns_of_so_many_bytes(rt: HostRuntime) -> Result<(), Fail> {
     let alloc = rt.alloc();
     let longest = repeated(alloc, "a", 8_186, "<HOST>")?;
     let longer = repeated(alloc, "a", 8_187, "<HOST>")?;
-    assert_eq!(rt; longest.as_str().len(), 8_192);
-    let jail = jail_with(alloc, "failregex", longest.as_str())?;
-    assert_eq!(rt; jail.map(|jail| jail.fail.len()), Ok(1));
-    let jail = jail_with(alloc, "failregex", longer.as_str())?;
-    assert_eq!(rt;
-        jail.map(|jail| jail.fail.len()),
-        refused(ConfKind::TooMany)
-    );
+    same(&rt, "longest", longest.as_str().len(), 8_192);
+    let read = fail_count(alloc, longest.as_str())?;
+    same(&rt, "longest", &read, &Ok(1));
+    let read = fail_count(alloc, longer.as_str())?;
+    same(&rt, "longer", &read, &refused(ConfKind::TooMany));
+    Ok(())
+}
+
+/// So many patterns are read from these lines.
+fn are_counted(
+    rt: &impl Abort,
+    alloc: Global,
+    fail: &str,
+    ignore: &str,
+    want: &Counts,
+) -> Result<(), Fail> {
+    let counts = count(alloc, fail, ignore)?;
+    same(rt, (fail.len(), ignore.len()), &counts, want);
     Ok(())
 }
 
@@ -60,31 +77,21 @@ fn reads_so_many_patterns(rt: HostRuntime) -> Result<(), Fail> {
     let alloc = rt.alloc();
     let most = repeated(alloc, " a\n", 512, "")?;
     let more = repeated(alloc, " a\n", 513, "")?;
-    assert_eq!(rt; count(alloc, "", most.as_str())?, Ok((0, 512)));
-    assert_eq!(rt;
-        count(alloc, "", more.as_str())?,
-        refused(ConfKind::TooMany)
-    );
-    assert_eq!(rt;
-        count(alloc, " <HOST>\n", most.as_str())?,
-        refused(ConfKind::TooMany)
-    );
+    are_counted(&rt, alloc, "", most.as_str(), &Ok((0, 512)))?;
+    let too_many = refused(ConfKind::TooMany);
+    are_counted(&rt, alloc, "", more.as_str(), &too_many)?;
+    are_counted(&rt, alloc, " <HOST>\n", most.as_str(), &too_many)?;
     let blank = " a\n %(none)s\n %(none)s %(none)s\n";
     let but_one = hosts(alloc, 511)?;
-    assert_eq!(rt; count(alloc, but_one.as_str(), blank)?, Ok((511, 1)));
+    are_counted(&rt, alloc, but_one.as_str(), blank, &Ok((511, 1)))?;
     let all = hosts(alloc, 512)?;
-    assert_eq!(rt; count(alloc, all.as_str(), "")?, Ok((512, 0)));
-    Ok(())
+    are_counted(&rt, alloc, all.as_str(), "", &Ok((512, 0)))
 }
 
 fn have_bad_tags(rt: &impl Abort, alloc: Global, texts: &[&str]) -> Result<(), Fail> {
     for text in texts {
-        let jail = jail_with(alloc, "ignoreregex", text)?;
-        assert_eq!(rt;
-            jail.map(|jail| jail.ignore_lines.len()),
-            refused(ConfKind::BadTag),
-            "{text}"
-        );
+        let kind = kind_of(jail_with(alloc, "ignoreregex", text)?);
+        same(rt, *text, &kind, &Some(ConfKind::BadTag));
     }
     Ok(())
 }
@@ -117,10 +124,8 @@ fn are_refused_for_hosts(
     rows: &[(&str, ConfKind)],
 ) -> Result<(), Fail> {
     for (text, want) in rows {
-        match kind_of(jail_with(alloc, "failregex", text)?) {
-            Some(kind) => assert_eq!(rt; kind, *want, "{text}"),
-            None => assert!(rt; false, "{text}"),
-        }
+        let kind = kind_of(jail_with(alloc, "failregex", text)?);
+        same(rt, *text, kind.as_ref(), Some(want));
     }
     Ok(())
 }
@@ -135,8 +140,8 @@ const BAD_HOSTS: [(&str, ConfKind); 5] = [
 
 fn are_patterns(rt: &impl Abort, alloc: Global, texts: &[&str]) -> Result<(), Fail> {
     for text in texts {
-        let jail = jail_with(alloc, "failregex", text)?;
-        assert_eq!(rt; jail.map(|jail| jail.fail.len()), Ok(1), "{text}");
+        let read = fail_count(alloc, text)?;
+        same(rt, *text, &read, &Ok(1));
     }
     Ok(())
 }
@@ -167,8 +172,9 @@ fn told_of_prefix(alloc: Global, text: &str) -> Result<String, Fail> {
 
 /// Texts of which that is told.
 fn are_prefixes(rt: &impl Abort, alloc: Global, texts: &[&str], want: &str) -> Result<(), Fail> {
-    for text in texts {
-        assert_eq!(rt; told_of_prefix(alloc, text)?.as_str(), want, "{text}");
+    for &text in texts {
+        let told = told_of_prefix(alloc, text)?;
+        same(rt, text, told.as_str(), want);
     }
     Ok(())
 }

@@ -1,4 +1,5 @@
 //! Refusals as they print.
+use crate::rows::same;
 use crate::trees::tree;
 use f2b_base::Text;
 use jail_conf::{ConfKind, Fail as Refusal, conf};
@@ -17,8 +18,9 @@ fn printed(alloc: Global, jail: &str) -> Result<Text, Fail> {
 
 /// Rows of a `jail.conf`, and what is printed of it.
 fn are_printed(rt: &impl Abort, alloc: Global, rows: &[(&str, &str)]) -> Result<(), Fail> {
-    for (jail, want) in rows {
-        assert_eq!(rt; printed(alloc, jail)?.as_str(), *want);
+    for &(jail, want) in rows {
+        let text = printed(alloc, jail)?;
+        same(rt, jail, text.as_str(), want);
     }
     Ok(())
 }

@@ -4,14 +4,18 @@ use jail_conf::{ConfKind, Fail as Refusal, conf};
 use std::alloc::Global;
 use std::test::Fail;
 
+fn file_of(alloc: Global, path: &str, content: &str) -> Result<TreeFile, NoMemory> {
+    Ok(TreeFile {
+        path: Text::from_str(alloc, path)?,
+        content: Bytes::from_slice(alloc, content.as_bytes())?,
+    })
+}
+
 /// A tree of these files, each a path and its content.
 pub(crate) fn tree(alloc: Global, files: &[(&str, &str)]) -> Result<Tree, NoMemory> {
     let mut listed = Seq::new(alloc);
-    for file in files {
-        listed.push(TreeFile {
-            path: Text::from_str(alloc, file.0)?,
-            content: Bytes::from_slice(alloc, file.1.as_bytes())?,
-        })?;
+    for &(path, content) in files {
+        listed.push(file_of(alloc, path, content)?)?;
     }
     Ok(Tree { files: listed })
 }

@@ -25,6 +25,3 @@ pub use build::Dates;
 pub use date_words::is_date_pattern;
 pub use error::BuildError;
 pub use search::{Found, Searcher};
-
-#[cfg(test)]
-mod tests;

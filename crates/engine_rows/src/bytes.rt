@@ -1,49 +1,49 @@
 //! Slots, byte by byte.
 
 /// The gate, generation 1, version 2, the view before the first configuration, that time passed at 100, and a closed gate.
-pub const TICK: [u8; 26] = [
+pub(crate) const TICK: [u8; 26] = [
     1, 0, 0, 0, 0, 0, 0, 0, 1, 2, 0, 0x80, 0xa3, 5, 0, 0, 0, 0, 0, 0, 0, 1, 100, 0, 0, 0,
 ];
 
 /// The same in generation 2, and at 101.
-pub const NEWER: [u8; 26] = [
+pub(crate) const NEWER: [u8; 26] = [
     1, 0, 0, 0, 0, 0, 0, 0, 2, 2, 0, 0x80, 0xa3, 5, 0, 0, 0, 0, 0, 0, 0, 1, 101, 0, 0, 0,
 ];
 
 /// The first in version 1.
-pub const OLD_VERSION: [u8; 26] = [
+pub(crate) const OLD_VERSION: [u8; 26] = [
     1, 0, 0, 0, 0, 0, 0, 0, 1, 1, 0, 0x80, 0xa3, 5, 0, 0, 0, 0, 0, 0, 0, 1, 100, 0, 0, 0,
 ];
 
 /// The first in the last generation.
-pub const LAST: [u8; 26] = [
+pub(crate) const LAST: [u8; 26] = [
     1, 0x40, 0, 0, 0, 0, 0, 0, 0, 2, 0, 0x80, 0xa3, 5, 0, 0, 0, 0, 0, 0, 0, 1, 100, 0, 0, 0,
 ];
 
 /// A view whose next id is past 2^62, and a closed gate.
-pub const NO_IDS: [u8; 30] = [
+pub(crate) const NO_IDS: [u8; 30] = [
     1, 0, 0, 0, 0, 0, 0, 0, 1, 2, 0, 0x80, 0xa3, 5, 0, 0, 0, 0, 0, // the view up to its next id
     0x81, 0x80, 0x80, 0x80, 0x80, 0x80, 0x80, 0x80, 0x40, 0, 0,
 ];
 
 /// The first with its own gate closed.
-pub const SHUT: [u8; 26] = [
+pub(crate) const SHUT: [u8; 26] = [
     0, 0, 0, 0, 0, 0, 0, 0, 1, 2, 0, 0x80, 0xa3, 5, 0, 0, 0, 0, 0, 0, 0, 1, 100, 0, 0, 0,
 ];
 
 /// The first with the version turned to one that nobody writes.
-pub const NO_VERSION: [u8; 26] = [
+pub(crate) const NO_VERSION: [u8; 26] = [
     1, 0, 0, 0, 0, 0, 0, 0, 1, 3, 0, 0x80, 0xa3, 5, 0, 0, 0, 0, 0, 0, 0, 1, 100, 0, 0, 0,
 ];
 
 /// The first with what happened turned to what is nothing.
-pub const NO_INPUT: [u8; 26] = [
+pub(crate) const NO_INPUT: [u8; 26] = [
     1, 0, 0, 0, 0, 0, 0, 0, 1, 2, 0, 0x80, 0xa3, 5, 0, 0, 0, 0, 0, 0, 0, 1, 100, 0, 128, 0,
 ];
 
 /// Behind the view before the first configuration: at 100 a jail that bans for 100 seconds, at 1000 a ban of 192.0.2.7 by command, and at
 /// 1005 an attempt of 192.0.2.8.
-pub const BANS: [u8; 79] = [
+pub(crate) const BANS: [u8; 79] = [
     1, 0, 0, 0, 0, 0, 0, 0, 1, 2, 0, 0x80, 0xa3, 5, 0, 0, 0, 0, 0, 0, 0, // the view
     1, 100, 0, 3, 0x80, 0xa3, 5, 1, 1, b'a', 0, 0, 0, 0, 0, 0, 0, 0xd8, 4, 3, 0, 0xc8, 1, 0, 0xe8,
     7, 0, 0x80, 0xa3, 5, 0, 0, // the configuration

@@ -25,7 +25,12 @@ fn script(alloc: Global, image: Image, fails: &[u64]) -> Result<Script, NoMemory
 }
 
 /// A disk whose slots hold these bytes, and whose calls at these places fail.
-pub fn disk(alloc: Global, slot0: &[u8], slot1: &[u8], fails: &[u64]) -> Result<MemWorld, Fail> {
+pub(crate) fn disk(
+    alloc: Global,
+    slot0: &[u8],
+    slot1: &[u8],
+    fails: &[u64],
+) -> Result<MemWorld, Fail> {
     let image = Image {
         slot0: Bytes::from_slice(alloc, slot0)?,
         slot1: Bytes::from_slice(alloc, slot1)?,
@@ -35,7 +40,7 @@ pub fn disk(alloc: Global, slot0: &[u8], slot1: &[u8], fails: &[u64]) -> Result<
 
 /// The disk as a stop leaves it that comes once so many calls were made, where of each slot's unsynced bytes so many were kept and the
 /// others are this.
-pub fn after_stop(
+pub(crate) fn after_stop(
     alloc: Global,
     world: &MemWorld,
     at: u64,
@@ -51,14 +56,14 @@ pub fn after_stop(
 }
 
 /// The view of the engine that a disk gives.
-pub fn view_of<D: Disk>(alloc: Global, disk: &mut D, limit: u64) -> Result<View, LoadError> {
+pub(crate) fn view_of<D: Disk>(alloc: Global, disk: &mut D, limit: u64) -> Result<View, LoadError> {
     let engine = Engine::load(alloc, disk, limit)?;
     let view = engine.core().view()?;
     Ok(view)
 }
 
 /// The same where it is loaded.
-pub fn loaded_view(alloc: Global, world: &mut MemWorld, limit: u64) -> Result<View, Fail> {
+pub(crate) fn loaded_view(alloc: Global, world: &mut MemWorld, limit: u64) -> Result<View, Fail> {
     match view_of(alloc, world, limit) {
         Ok(view) => Ok(view),
         Err(_) => Err("not loaded".into()),
@@ -66,13 +71,17 @@ pub fn loaded_view(alloc: Global, world: &mut MemWorld, limit: u64) -> Result<Vi
 }
 
 /// What the view shows of the engine that a disk gives.
-pub fn shown_of<D: Disk>(alloc: Global, disk: &mut D, limit: u64) -> Result<Shown, LoadError> {
+pub(crate) fn shown_of<D: Disk>(
+    alloc: Global,
+    disk: &mut D,
+    limit: u64,
+) -> Result<Shown, LoadError> {
     let view = view_of(alloc, disk, limit)?;
     Ok(as_shown(&view))
 }
 
 /// How many calls load the engine of a slot 0.
-pub fn calls(alloc: Global, slot0: &[u8], limit: u64) -> Result<u64, Fail> {
+pub(crate) fn calls(alloc: Global, slot0: &[u8], limit: u64) -> Result<u64, Fail> {
     let mut world = disk(alloc, slot0, &[], &[])?;
     let Ok(_) = shown_of(alloc, &mut world, limit) else {
         return Err("not loaded".into());
@@ -81,7 +90,7 @@ pub fn calls(alloc: Global, slot0: &[u8], limit: u64) -> Result<u64, Fail> {
 }
 
 /// Whether the engine that a disk gives has one of two views.
-pub fn has_either<D: Disk>(
+pub(crate) fn has_either<D: Disk>(
     alloc: Global,
     disk: &mut D,
     limit: u64,
@@ -102,7 +111,7 @@ const TEARS: [(u32, u8); 6] = [
 ];
 
 /// A stop once so many calls were made: the engine that is loaded then has the one view or the other.
-pub fn is_either(
+pub(crate) fn is_either(
     rt: &impl Abort,
     alloc: Global,
     name: &str,
@@ -121,7 +130,7 @@ pub fn is_either(
 
 /// What a view shows, in numbers, of all jails together.
 #[derive(Clone, Copy, Debug, PartialEq, Eq)]
-pub struct Shown {
+pub(crate) struct Shown {
     pub at: u64,
     pub stopping: bool,
     pub jails: u64,
@@ -131,7 +140,7 @@ pub struct Shown {
 }
 
 /// The view before the first configuration.
-pub const NOTHING: Shown = Shown {
+pub(crate) const NOTHING: Shown = Shown {
     at: 0,
     stopping: false,
     jails: 0,
@@ -141,7 +150,7 @@ pub const NOTHING: Shown = Shown {
 };
 
 /// What a view shows.
-pub fn as_shown(view: &View) -> Shown {
+pub(crate) fn as_shown(view: &View) -> Shown {
     let mut shown = Shown {
         at: view.at,
         stopping: view.stopping,

@@ -12,7 +12,7 @@ use std::test::Fail;
 
 /// An input of a row: when, and what happened.
 #[derive(Clone, Copy)]
-pub enum Step {
+pub(crate) enum Step {
     Tick(u32),
     /// A configuration with no jail, in which bans that are over count for so long.
     Config(u32, u16),
@@ -73,7 +73,7 @@ fn all_taken<D: Disk>(
 }
 
 /// What comes of an input that an engine takes once it is loaded.
-pub fn take(
+pub(crate) fn take(
     alloc: Global,
     world: &mut MemWorld,
     limit: u64,
@@ -89,7 +89,7 @@ pub fn take(
 }
 
 /// The view of an engine that is loaded and takes inputs.
-pub fn view_after(
+pub(crate) fn view_after(
     alloc: Global,
     world: &mut MemWorld,
     limit: u64,

@@ -62,6 +62,3 @@ pub fn build_pattern(alloc: Global, text: &str) -> Made
         Err(Error::OutOfMemory) => Made::NoMemory,
     }
 }
-
-#[cfg(test)]
-mod tests;

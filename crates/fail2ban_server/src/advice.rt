@@ -13,6 +13,9 @@ pub fn advice(status: &Status) -> Option<&'static str> {
         Status::NotAJournal { .. } => Some(
             "to begin with nothing take journal.0 and journal.1 away, beside the socket of its configuration",
         ),
+        Status::GateFault => Some(
+            "does anything else stand or answer at the socket of its configuration, whose path has 103 bytes at most?",
+        ),
         Status::JournalFull { .. } => Some("--journal-limit BYTES lets it get longer"),
         _ => None,
     }

@@ -8,6 +8,7 @@
 //! ```text
 //! let mut world = RealWorld::new(rt, errors);
 //! let number = server(alloc, words.as_slice(), &mut world).number();
+//! world.end_gate();
 //! world.end_commands();
 //! ```
 #![tactic(auto)]
@@ -64,6 +65,7 @@ fn main(rt: HostRuntime) -> ExitCode {
             };
             let mut world = RealWorld::new(rt, errors);
             let status = server(alloc, words.as_slice(), &mut world);
+            world.end_gate();
             world.end_commands();
             if let Some(sentence) = advice(&status) {
                 world.advise(sentence);

@@ -1,6 +1,9 @@
 //! The real world: the operating system that the server runs on.
 //!
 //! It tells no history. It counts its faults, and each call keeps what the traits of the outside say of it.
+ghost use Rattle.std.specs.Prelude.{◌≤◌, length};
+ghost use Rattle.f2b_world.specs.Bounds.{FitsRead};
+ghost use Rattle.f2b_world.specs.Told.{IsReceived, IsTaken};
 
 use crate::clock;
 use crate::commands::Commands;
@@ -13,15 +16,17 @@ use crate::wait::wait;
 use crate::watched::Watched;
 use f2b_base::{FileLook, Reading, TreeAnswer};
 use f2b_world::{
-    Children, Configuration, Directories, Disk, Faults, Len, Logs, Look, Made, NamesAnswer,
-    Outside, Patterns, Piece, PollAnswer, Said, Sink, StartAnswer, Store, StoreAnswer, Synced,
-    Time, World, Wrote, build_pattern, raised,
+    Accept, Children, Configuration, Directories, Disk, Faults, Gate, GateRead, GateWrite, Len,
+    Listen, Logs, Look, Made, NamesAnswer, Outside, Patterns, Piece, PollAnswer, Said, Sink,
+    StartAnswer, Store, StoreAnswer, Synced, Time, World, Wrote, build_pattern, raised,
 };
+use gate_socket::GateSocket;
 use slot_files::Slots;
-use std::alloc::AllocGlobal;
+use std::alloc::{AllocGlobal, Global};
 use std::env::Env;
 use std::fs::File;
 use std::io::{IsTerminal, Print, Write};
+use std::net::Net;
 use std::process::Processes;
 use std::rt::{Files, Stderr};
 use std::time::Clock;
@@ -41,6 +46,8 @@ where
     commands: Commands<R::Started>,
     /// The slots of the journal, where they were named and no other server has them.
     slots: Option<Slots>,
+    /// The socket that clients connect to, once the server listens.
+    gate: Option<GateSocket>,
     /// The logs that were looked at since the last pause.
     watched: Watched,
     /// Whether a look since the last pause gave as many bytes as it was asked for, so that there may be more to read at once.
@@ -61,6 +68,7 @@ where
             commands,
             watched,
             slots: None,
+            gate: None,
             faults: Faults::NONE,
             last: Reading { secs: 0, word: 0 },
             is_behind: false,
@@ -76,6 +84,14 @@ where
             }
             clock::sleep(&self.rt, 1);
         }
+    }
+
+    /// Takes the file of the socket away, as far as it is still this server's. Clients cannot connect any more then.
+    pub fn end_gate(&mut self) {
+        if let Some(gate) = self.gate.as_ref() {
+            gate.remove(&self.rt);
+        }
+        self.gate = None;
     }
 
     /// Writes a line to standard error where that is a terminal. Nothing follows where it cannot be written.
@@ -138,14 +154,22 @@ where
         self.last
     }
 
-    /// Ends at once where a look since the last pause was full, so that a long log is read as fast as it can be searched, and as soon as
-    /// a command has ended, so that its lane goes on, or a log has changed.
+    /// Ends at once where a look since the last pause was full, so that a long log is read as fast as it can be searched, or a client
+    /// was served, so that its next request is heard as fast as it sends it, and as soon as a command has ended, so that its lane goes on,
+    /// a log has changed, or a client asks for something.
     fn pause(&mut self, ms: u32) {
-        if self.is_behind {
+        let was_busy = was_busy(&mut self.gate);
+        if self.is_behind || was_busy {
             self.is_behind = false;
         } else {
             let most = u64::from(ms).saturating_mul(1_000);
-            wait(&self.rt, &mut self.commands, &self.watched, most);
+            wait(
+                &self.rt,
+                &mut self.gate,
+                &mut self.commands,
+                &self.watched,
+                most,
+            );
         }
         self.watched.clear();
     }
@@ -306,6 +330,58 @@ where
     }
 }
 
+impl<R> Gate for RealWorld<R>
+where
+    R: Files + Net + Clock + Print + Env + Processes + AllocGlobal + Clone + Drop,
+{
+    /// A world that listens already is `Failed`, and goes on listening where it does.
+    fn gate_listen(&mut self, path: &str) -> Listen {
+        if self.gate.is_none()
+            && let Ok(gate) = GateSocket::listen(&self.rt, path)
+        {
+            self.gate = Some(gate);
+            return Listen::Listening;
+        }
+        self.faults.gate = raised(self.faults.gate);
+        Listen::Failed
+    }
+
+    fn gate_accept(&mut self) -> Accept {
+        let answer = accept_at(&mut self.gate);
+        if let Accept::Failed = answer {
+            self.faults.gate = raised(self.faults.gate);
+        }
+        answer
+    }
+
+    fn gate_read(&mut self, conn: u32, max: u32) -> GateRead {
+        match read_at(&mut self.gate, self.rt.alloc(), conn, max) {
+            GateRead::Bytes(bytes) => GateRead::Bytes(bytes),
+            GateRead::Quiet => GateRead::Quiet,
+            GateRead::End => GateRead::End,
+            GateRead::NoMemory => GateRead::NoMemory,
+            GateRead::Failed => {
+                self.faults.gate = raised(self.faults.gate);
+                GateRead::Failed
+            }
+        }
+    }
+
+    fn gate_write(&mut self, conn: u32, bytes: &[u8]) -> GateWrite {
+        let answer = write_at(&mut self.gate, conn, bytes);
+        if let GateWrite::Failed = answer {
+            self.faults.gate = raised(self.faults.gate);
+        }
+        answer
+    }
+
+    fn gate_close(&mut self, conn: u32) {
+        if let Some(gate) = self.gate.as_mut() {
+            gate.close(conn);
+        }
+    }
+}
+
 impl<R> World for RealWorld<R>
 where
     R: Files + Clock + Print + Env + Processes + AllocGlobal + Clone + Drop,
@@ -314,4 +390,42 @@ where
 /// Whether a look gave as many bytes as it was asked for.
 fn is_full(seen: &FileLook, max: u32) -> bool {
     max > 0 && seen.bytes.len() as u64 >= u64::from(max)
+}
+
+/// Whether a client was served since this was asked last.
+fn was_busy(gate: &mut Option<GateSocket>) -> bool {
+    match gate {
+        Some(gate) => gate.was_busy(),
+        None => false,
+    }
+}
+
+/// The next client. Where the server does not listen there is none.
+fn accept_at(gate: &mut Option<GateSocket>) -> Accept {
+    match gate {
+        Some(gate) => gate.accept(),
+        None => Accept::Quiet,
+    }
+}
+
+/// What a client sent.
+fn read_at(gate: &mut Option<GateSocket>, alloc: Global, conn: u32, max: u32) -> GateRead
+    requires { 1 ≤ max }
+    ensures bounds { IsReceived max result }
+    ensures fits { FitsRead result }
+{
+    match gate {
+        Some(gate) => gate.read(alloc, conn, max),
+        None => GateRead::End,
+    }
+}
+
+/// How many bytes a client took.
+fn write_at(gate: &mut Option<GateSocket>, conn: u32, bytes: &[u8]) -> GateWrite
+    ensures { IsTaken (length bytes.now) result }
+{
+    match gate {
+        Some(gate) => gate.write(conn, bytes),
+        None => GateWrite::Failed,
+    }
 }

@@ -1,4 +1,5 @@
 mod commands;
+mod gate;
 
 use crate::real::RealWorld;
 use f2b_base::TreeAnswer;

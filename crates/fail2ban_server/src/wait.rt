@@ -3,6 +3,7 @@
 use crate::clock::nap;
 use crate::commands::Commands;
 use crate::watched::Watched;
+use gate_socket::GateSocket;
 use std::alloc::AllocGlobal;
 use std::process::Processes;
 use std::rt::Files;
@@ -11,9 +12,11 @@ use std::time::Clock;
 /// How often logs are looked after, in microseconds.
 const STEP: u64 = 25_000;
 
-/// Waits for so many microseconds, and no longer than until a command has ended or a log has changed. Those that were ended are forgotten.
+/// Waits for so many microseconds, and no longer than until a command has ended, a log has changed or a client asks for something. Those
+/// commands that were ended are forgotten.
 pub(crate) fn wait<R: Files + Clock + Processes + AllocGlobal>(
     rt: &R,
+    gate: &mut Option<GateSocket>,
     commands: &mut Commands<R::Started>,
     watched: &Watched,
     most: u64,
@@ -28,13 +31,26 @@ pub(crate) fn wait<R: Files + Clock + Processes + AllocGlobal>(
             return;
         }
         let micros = micros_behind(slept, commands.has_some()).min(most.saturating_sub(slept));
-        nap(rt, micros);
+        if nap_at(rt, gate, micros) {
+            return;
+        }
         slept = slept.saturating_add(micros);
         if slept.saturating_sub(looked) >= step {
             looked = slept;
             if watched.has_changed(rt) {
                 return;
             }
+        }
+    }
+}
+
+// Sleeps for so many microseconds, or until a client asks for something. Whether one did.
+fn nap_at<R: Clock>(rt: &R, gate: &mut Option<GateSocket>, micros: u64) -> bool {
+    match gate {
+        Some(gate) => gate.wait(rt, micros),
+        None => {
+            nap(rt, micros);
+            false
         }
     }
 }

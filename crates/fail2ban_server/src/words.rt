@@ -15,6 +15,7 @@ Usage: fail2ban-server --conf DIR [--turns N] [--journal-limit BYTES]
 Follows the logs of the enabled jails, and runs the commands of their actions
 where an address fails too often and where its ban ends. What it has taken is
 kept in two files beside its socket, and taken up again at the next start.
+At the socket it replies to fail2ban-client, by which it is also stopped.
 
   --conf DIR     read the configuration in DIR: each file in it, or in a
                  directory in it, whose name ends in .conf or .local
@@ -28,13 +29,14 @@ kept in two files beside its socket, and taken up again at the next start.
 What the server says goes to standard output, line by line.
 
 Exit status:
-   0  made its N turns
+   0  was stopped by a client, or made its N turns
    2  the words are none of those above
    3  the configuration cannot be read
    4  the configuration is refused
    5  the journal cannot be read or written, or another server has it
    6  the journal is none
    7  the journal is full
+   8  clients cannot be let in at the socket
    9  standard output cannot be written
   10  the configuration has too many files, or too many bytes
   11  a pattern is refused

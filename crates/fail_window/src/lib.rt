@@ -17,8 +17,6 @@
 
 mod kept;
 mod runs;
-#[cfg(test)]
-mod tests;
 mod window;
 
 pub use window::Window;

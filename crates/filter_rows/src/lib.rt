@@ -9,4 +9,8 @@
 #![tactic(auto)]
 
 #[cfg(test)]
+mod expansions;
+#[cfg(test)]
 mod found;
+#[cfg(test)]
+mod patterns;

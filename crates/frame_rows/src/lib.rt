@@ -13,3 +13,5 @@
 mod replies;
 #[cfg(test)]
 mod requests;
+#[cfg(test)]
+mod seen;

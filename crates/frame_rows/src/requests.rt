@@ -1,7 +1,8 @@
 //! Requests that are sent and come.
 
+use crate::seen::same;
 use client_frames::{Conn, FrameError, are_request, request_frame};
-use f2b_base::{Bytes, Seq, Text};
+use f2b_base::{Bytes, NoMemory, Seq, Text};
 use std::alloc::Global;
 use std::process::Abort;
 use std::test::Fail;
@@ -48,7 +49,7 @@ const REFUSED: [(&[u8], FrameError); 9] = [
     ),
 ];
 
-fn seq_of(alloc: Global, words: &[&str]) -> Result<Seq<Text>, Fail> {
+fn seq_of(alloc: Global, words: &[&str]) -> Result<Seq<Text>, NoMemory> {
     let mut seq = Seq::new(alloc);
     for word in words {
         seq.push(Text::from_str(alloc, word)?)?;
@@ -56,18 +57,22 @@ fn seq_of(alloc: Global, words: &[&str]) -> Result<Seq<Text>, Fail> {
     Ok(seq)
 }
 
-/// What a connection makes of the next bytes, at most so many of them and never more than it wants, and how many it took.
+/// How many requests of these words a connection makes of the next bytes, at most so many of them and never more than it wants, and how
+/// many it took.
 fn fed(
     conn: &mut Conn,
     bytes: &[u8],
     piece: usize,
-) -> Result<(Option<Seq<Text>>, usize), FrameError> {
+    words: &Seq<Text>,
+) -> Result<(u32, usize), FrameError> {
     let count = piece.min(conn.want() as usize).min(bytes.len());
     if count == 0 {
-        return Ok((None, 0));
+        return Ok((0, 0));
     }
-    let words = conn.feed(&bytes[..count])?;
-    Ok((words, count))
+    match conn.feed(&bytes[..count])? {
+        Some(found) => Ok((u32::from(found == *words), count)),
+        None => Ok((0, count)),
+    }
 }
 
 /// How many requests of these words come in bytes that are cut into pieces, over one connection.
@@ -80,30 +85,48 @@ fn heard(
     let mut rest = bytes;
     let mut count: u32 = 0;
     for _ in 0..bytes.len() {
-        let (found, taken) = fed(conn, rest, piece)?;
+        let (found, taken) = fed(conn, rest, piece, words)?;
         rest = rest.get(taken..).unwrap_or(&[]);
-        if let Some(found) = found {
-            count = count.saturating_add(u32::from(found == *words));
-        }
+        count = count.saturating_add(found);
     }
     Ok(count)
 }
 
-/// A frame comes twice over one connection, cut into pieces of each size.
-fn is_heard_however_cut(rt: &impl Abort, alloc: Global, row: &Row) -> Result<(), Fail> {
-    let words = seq_of(alloc, row.words)?;
-    let mut twice = Bytes::from_slice(alloc, row.frame)?;
-    twice.push_slice(row.frame)?;
+/// What comes of bytes over one connection, and how many bytes it wants then.
+fn heard_by_one(
+    alloc: Global,
+    bytes: &[u8],
+    piece: usize,
+    words: &Seq<Text>,
+) -> (Result<u32, FrameError>, u32) {
+    let mut conn = Conn::new(alloc);
+    let count = heard(&mut conn, bytes, piece, words);
+    (count, conn.want())
+}
+
+fn twice(alloc: Global, frame: &[u8]) -> Result<Bytes, NoMemory> {
+    let mut twice = Bytes::from_slice(alloc, frame)?;
+    twice.push_slice(frame)?;
+    Ok(twice)
+}
+
+/// Two requests of these words come in these bytes, cut into pieces of each size.
+fn come_however_cut(rt: &impl Abort, alloc: Global, bytes: &[u8], words: &Seq<Text>) {
     for piece in 1..20 {
-        let mut conn = Conn::new(alloc);
-        let count = heard(&mut conn, twice.as_slice(), piece, &words);
-        assert_eq!(rt; count, Ok(2), "in pieces of {piece}");
-        assert_eq!(rt; conn.want(), 4);
+        let saw = heard_by_one(alloc, bytes, piece, words);
+        same(rt, piece, saw, (Ok(2), 4));
     }
+}
+
+/// A frame comes twice over one connection, cut into pieces of each size.
+fn is_heard_however_cut(rt: &impl Abort, alloc: Global, row: &Row) -> Result<(), NoMemory> {
+    let words = seq_of(alloc, row.words)?;
+    let twice = twice(alloc, row.frame)?;
+    come_however_cut(rt, alloc, twice.as_slice(), &words);
     Ok(())
 }
 
-fn are_heard(rt: &impl Abort, alloc: Global, rows: &[Row]) -> Result<(), Fail> {
+fn are_heard(rt: &impl Abort, alloc: Global, rows: &[Row]) -> Result<(), NoMemory> {
     for row in rows {
         is_heard_however_cut(rt, alloc, row)?;
     }
@@ -112,53 +135,71 @@ fn are_heard(rt: &impl Abort, alloc: Global, rows: &[Row]) -> Result<(), Fail> {
 
 #[test]
 fn a_request_comes_whole_however_it_is_cut(rt: HostRuntime) -> Result<(), Fail> {
-    are_heard(&rt, rt.alloc(), &REQUESTS)
+    are_heard(&rt, rt.alloc(), &REQUESTS)?;
+    Ok(())
 }
 
-fn are_framed(rt: &impl Abort, alloc: Global, rows: &[Row]) -> Result<(), Fail> {
+/// The frame of a request of these words, or nothing where they are none.
+fn frame_of(alloc: Global, words: Result<Seq<Text>, NoMemory>) -> Result<Bytes, NoMemory> {
+    let words = words?;
+    if are_request(&words) {
+        return request_frame(alloc, &words);
+    }
+    Ok(Bytes::new(alloc))
+}
+
+fn is_framed(rt: &impl Abort, alloc: Global, row: &Row) -> Result<(), NoMemory> {
+    let frame = frame_of(alloc, seq_of(alloc, row.words))?;
+    same(rt, row.words, frame.as_slice(), row.frame);
+    Ok(())
+}
+
+fn are_framed(rt: &impl Abort, alloc: Global, rows: &[Row]) -> Result<(), NoMemory> {
     for row in rows {
-        let words = seq_of(alloc, row.words)?;
-        if are_request(&words) {
-            let frame = request_frame(alloc, &words)?;
-            assert_eq!(rt; frame.as_slice(), row.frame);
-        } else {
-            assert!(rt; false, "{:?} is a request", row.words);
-        }
+        is_framed(rt, alloc, row)?;
     }
     Ok(())
 }
 
 #[test]
 fn words_are_framed(rt: HostRuntime) -> Result<(), Fail> {
-    are_framed(&rt, rt.alloc(), &REQUESTS)
+    are_framed(&rt, rt.alloc(), &REQUESTS)?;
+    Ok(())
 }
 
-/// Whether a word of so many bytes is a request by itself.
-fn is_request_of(alloc: Global, len: usize) -> Result<bool, Fail> {
+fn long_word(alloc: Global, len: usize) -> Result<Text, NoMemory> {
     let mut word = Text::new(alloc);
     for _ in 0..len {
         word.push_str("x")?;
     }
+    Ok(word)
+}
+
+/// Whether a word of so many bytes is a request by itself.
+fn is_request_of(alloc: Global, len: usize) -> Result<bool, NoMemory> {
     let mut words = Seq::new(alloc);
-    words.push(word)?;
+    words.push(long_word(alloc, len)?)?;
     Ok(are_request(&words))
+}
+
+fn is_request_of_none(alloc: Global) -> bool {
+    are_request(&Seq::new(alloc))
 }
 
 #[test]
 fn a_request_has_a_word_and_at_most_65_536_bytes(rt: HostRuntime) -> Result<(), Fail> {
-    assert!(rt; !are_request(&Seq::new(rt.alloc())));
-    assert!(rt; is_request_of(rt.alloc(), 65_534)?);
-    assert!(rt; !is_request_of(rt.alloc(), 65_535)?);
+    same(&rt, "no word", is_request_of_none(rt.alloc()), false);
+    same(&rt, 65_534, is_request_of(rt.alloc(), 65_534)?, true);
+    same(&rt, 65_535, is_request_of(rt.alloc(), 65_535)?, false);
     Ok(())
 }
 
 /// A frame that comes byte by byte is refused at its last byte, and after it nothing more is wanted.
 fn are_refused(rt: &impl Abort, alloc: Global, rows: &[(&[u8], FrameError)]) {
+    let none = Seq::new(alloc);
     for &(frame, error) in rows {
-        let none = Seq::new(alloc);
-        let mut conn = Conn::new(alloc);
-        assert_eq!(rt; heard(&mut conn, frame, 1, &none), Err(error), "{frame:?}");
-        assert_eq!(rt; conn.want(), 0);
+        let saw = heard_by_one(alloc, frame, 1, &none);
+        same(rt, frame, saw, (Err(error), 0));
     }
 }
 
@@ -167,12 +208,19 @@ fn frames_that_are_no_request_are_refused(rt: HostRuntime) {
     are_refused(&rt, rt.alloc(), &REFUSED);
 }
 
+const REFUSALS: [(FrameError, &str); 3] = [
+    (FrameError::TooLong(65_537), "Frame too long"),
+    (FrameError::Empty, "Empty frame"),
+    (FrameError::BadWord(0), "Bad word"),
+];
+
+fn have_words(rt: &impl Abort, rows: &[(FrameError, &str)]) {
+    for (error, words) in rows {
+        same(rt, *words, error.refusal(), Some(*words));
+    }
+}
+
 #[test]
 fn a_refusal_has_its_words(rt: HostRuntime) {
-    assert_eq!(rt;
-        FrameError::TooLong(65_537).refusal(),
-        Some("Frame too long")
-    );
-    assert_eq!(rt; FrameError::Empty.refusal(), Some("Empty frame"));
-    assert_eq!(rt; FrameError::BadWord(0).refusal(), Some("Bad word"));
+    have_words(&rt, &REFUSALS);
 }

@@ -1,16 +1,26 @@
 //! Worked values of addresses and masks, from the RFCs.
 use f2b_base::{Addr, Cidr};
+use std::fmt::Debug;
 use std::process::Abort;
 use std::str;
 use std::test::Fail;
 
+/// Fails at this text unless what was seen is what is wanted.
+fn same<T: PartialEq + Debug>(rt: &impl Abort, at: &str, saw: &T, want: &T) {
+    assert_eq!(rt; saw, want, "at {at}");
+}
+
+fn is_printed(rt: &impl Abort, addr: Addr, want: &str) {
+    let mut out = [0; 45];
+    let len = addr.print(&mut out);
+    same(rt, want, &&out[..len], &want.as_bytes());
+}
+
 /// Rows of a text and how the address that it spells is printed.
 fn are_printed(rt: &impl Abort, rows: &[(&str, &str)]) -> Result<(), Fail> {
     for (text, want) in rows {
-        let addr = Addr::read(text.as_bytes()).ok_or("no address")?;
-        let mut out = [0; 45];
-        let len = addr.print(&mut out);
-        assert_eq!(rt; &out[..len], want.as_bytes(), "at {text}");
+        let addr = Addr::read(text.as_bytes()).ok_or(*text)?;
+        is_printed(rt, addr, want);
     }
     Ok(())
 }
@@ -47,7 +57,7 @@ fn reads_and_prints_addresses(rt: HostRuntime) -> Result<(), Fail> {
 
 fn are_refused(rt: &impl Abort, texts: &[&str]) {
     for text in texts {
-        assert_eq!(rt; Addr::read(text.as_bytes()), None, "at {text}");
+        same(rt, text, &Addr::read(text.as_bytes()), &None);
     }
 }
 
@@ -74,7 +84,7 @@ fn refuses_other_texts(rt: HostRuntime) {
 /// Rows of a text and its mask.
 fn are_masks(rt: &impl Abort, rows: &[(&str, Option<Cidr>)]) {
     for (text, want) in rows {
-        assert_eq!(rt; Cidr::read(text.as_bytes()), *want, "at {text}");
+        same(rt, text, &Cidr::read(text.as_bytes()), want);
     }
 }
 
@@ -131,8 +141,11 @@ fn reads_masks(rt: HostRuntime) {
 #[test]
 fn holds_addresses(rt: HostRuntime) {
     let ten = Cidr { base: TEN, bits: 8 };
-    assert!(rt; ten.holds(Addr::V4(0x0aff_ffff)));
-    assert!(rt; !ten.holds(Addr::V4(0x09ff_ffff)));
-    assert!(rt; !ten.holds(Addr::V4(0x0b00_0000)));
-    assert!(rt; !ten.holds(Addr::V6(0x0a00_0000)));
+    let held = (
+        ten.holds(Addr::V4(0x0aff_ffff)),
+        ten.holds(Addr::V4(0x09ff_ffff)),
+        ten.holds(Addr::V4(0x0b00_0000)),
+        ten.holds(Addr::V6(0x0a00_0000)),
+    );
+    same(&rt, "10.0.0.0/8", &held, &(true, false, false, false));
 }

@@ -5,6 +5,7 @@ use f2b_base::{
     Tree, TreeAnswer, TreeFile, Until, UpLane, View, WatchDef, WatchView, What,
 };
 use std::alloc::Global;
+use std::fmt::Debug;
 use std::process::Abort;
 use std::test::Fail;
 
@@ -14,60 +15,112 @@ fn text(alloc: Global, text: &str) -> Result<Text, NoMemory> {
     Text::from_str(alloc, text)
 }
 
-fn one<T: Drop>(alloc: Global, item: T) -> Result<Seq<T>, NoMemory> {
+/// A sequence of one item, where there was memory for that.
+fn one<T: Drop>(alloc: Global, item: Result<T, NoMemory>) -> Result<Seq<T>, NoMemory> {
     let mut items = Seq::new(alloc);
-    items.push(item)?;
+    items.push(item?)?;
     Ok(items)
 }
 
-fn action(alloc: Global) -> Result<ActionDef, NoMemory> {
-    Ok(ActionDef {
-        name: text(alloc, "nft")?,
-        family: Family::Inet6,
-        start: text(alloc, "start")?,
-        stop: text(alloc, "stop")?,
-        ban: text(alloc, "ban <ip>")?,
-        unban: text(alloc, "unban <ip>")?,
-        check: text(alloc, "check")?,
-        timeout: 60,
-    })
+/// Puts an item behind others, where there was memory for that.
+fn put<T: Drop>(items: &mut Seq<T>, item: Result<T, NoMemory>) -> Result<(), NoMemory> {
+    items.push(item?)
 }
 
-fn rule(alloc: Global) -> Result<BanRule, NoMemory> {
-    Ok(BanRule {
+/// What is made empty first.
+trait Filled: Drop {
+    fn fill(&mut self, alloc: Global) -> Result<(), NoMemory>;
+}
+
+fn fill_up<T: Filled>(alloc: Global, mut item: T) -> Result<T, NoMemory> {
+    item.fill(alloc)?;
+    Ok(item)
+}
+
+impl Filled for ActionDef {
+    fn fill(&mut self, _alloc: Global) -> Result<(), NoMemory> {
+        self.name.push_str("nft")?;
+        self.start.push_str("start")?;
+        self.stop.push_str("stop")?;
+        self.ban.push_str("ban <ip>")?;
+        self.unban.push_str("unban <ip>")?;
+        self.check.push_str("check")
+    }
+}
+
+fn action(alloc: Global) -> Result<ActionDef, NoMemory> {
+    let action = ActionDef {
+        name: Text::new(alloc),
+        family: Family::Inet6,
+        start: Text::new(alloc),
+        stop: Text::new(alloc),
+        ban: Text::new(alloc),
+        unban: Text::new(alloc),
+        check: Text::new(alloc),
+        timeout: 60,
+    };
+    fill_up(alloc, action)
+}
+
+fn rule(alloc: Global) -> BanRule {
+    BanRule {
         base: -1,
         increment: true,
         factor: 1000,
-        multipliers: one(alloc, 5u64)?,
+        multipliers: Seq::new(alloc),
         maxtime: 600,
         rndtime: 7,
-    })
+    }
 }
 
-fn jail(alloc: Global) -> Result<JailDef, NoMemory> {
-    let watch = WatchDef {
-        path: text(alloc, "/var/log/auth.log")?,
-        tail: true,
-    };
-    let mask = Cidr {
-        base: Addr::V6(1),
-        bits: 128,
-    };
-    Ok(JailDef {
-        name: text(alloc, "sshd")?,
-        watches: one(alloc, watch)?,
+fn watch(alloc: Global) -> Result<WatchDef, NoMemory> {
+    let path = text(alloc, "/var/log/auth.log")?;
+    Ok(WatchDef { path, tail: true })
+}
+
+const MASK: Cidr = Cidr {
+    base: Addr::V6(1),
+    bits: 128,
+};
+
+fn date(alloc: Global) -> Result<DateSpec, NoMemory> {
+    Ok(DateSpec::Pattern(text(alloc, "%Y")?))
+}
+
+impl Filled for JailDef {
+    fn fill(&mut self, alloc: Global) -> Result<(), NoMemory> {
+        self.name.push_str("sshd")?;
+        put(&mut self.watches, watch(alloc))?;
+        put(&mut self.fail, text(alloc, "from <HOST>"))?;
+        put(&mut self.ignore, Ok(MASK))?;
+        put(&mut self.rule.multipliers, Ok(5))?;
+        put(&mut self.actions, action(alloc))
+    }
+}
+
+/// A jail of this form of dates, with no name, sequences or prefix yet.
+fn dated(alloc: Global, date: DateSpec, pref: Text) -> JailDef {
+    JailDef {
+        name: Text::new(alloc),
+        watches: Seq::new(alloc),
         zone: -3600,
-        date: DateSpec::Pattern(text(alloc, "%Y")?),
-        pref: Some(text(alloc, "^sshd")?),
-        fail: one(alloc, text(alloc, "from <HOST>")?)?,
+        date,
+        pref: Some(pref),
+        fail: Seq::new(alloc),
         ignore_lines: Seq::new(alloc),
-        ignore: one(alloc, mask)?,
+        ignore: Seq::new(alloc),
         findtime: 600,
         maxretry: 5,
         maxmatches: 5,
-        rule: rule(alloc)?,
-        actions: one(alloc, action(alloc)?)?,
-    })
+        rule: rule(alloc),
+        actions: Seq::new(alloc),
+    }
+}
+
+fn jail(alloc: Global) -> Result<JailDef, NoMemory> {
+    let pref = text(alloc, "^sshd")?;
+    let date = date(alloc)?;
+    fill_up(alloc, dated(alloc, date, pref))
 }
 
 fn failure(alloc: Global) -> Result<Failure, NoMemory> {
@@ -85,94 +138,144 @@ fn place(alloc: Global) -> Result<Place, NoMemory> {
     })
 }
 
+const BAN: Ban = Ban {
+    serial: 4,
+    addr: HOST,
+    begin: 1_000,
+    until: Until::At(1_600),
+    count: 1,
+    failures: 5,
+};
+
+const PAST: Past = Past {
+    addr: HOST,
+    end: 900,
+};
+
+fn watch_view(alloc: Global) -> Result<WatchView, NoMemory> {
+    let path = text(alloc, "/var/log/auth.log")?;
+    let place = place(alloc)?;
+    Ok(WatchView { path, place })
+}
+
+impl Filled for JailView {
+    fn fill(&mut self, alloc: Global) -> Result<(), NoMemory> {
+        self.name.push_str("sshd")?;
+        put(&mut self.failures, failure(alloc))?;
+        put(&mut self.bans, Ok(BAN))?;
+        put(&mut self.past, Ok(PAST))?;
+        put(&mut self.watches, watch_view(alloc))
+    }
+}
+
 fn jail_view(alloc: Global) -> Result<JailView, NoMemory> {
-    let ban = Ban {
-        serial: 4,
-        addr: HOST,
-        begin: 1_000,
-        until: Until::At(1_600),
-        count: 1,
-        failures: 5,
-    };
-    let past = Past {
-        addr: HOST,
-        end: 900,
-    };
-    let watch = WatchView {
-        path: text(alloc, "/var/log/auth.log")?,
-        place: place(alloc)?,
-    };
-    Ok(JailView {
-        name: text(alloc, "sshd")?,
+    let view = JailView {
+        name: Text::new(alloc),
         idle: true,
         total_failed: 9,
         total_banned: 2,
         moment: 1_000,
-        failures: one(alloc, failure(alloc)?)?,
-        bans: one(alloc, ban)?,
-        past: one(alloc, past)?,
-        watches: one(alloc, watch)?,
-    })
+        failures: Seq::new(alloc),
+        bans: Seq::new(alloc),
+        past: Seq::new(alloc),
+        watches: Seq::new(alloc),
+    };
+    fill_up(alloc, view)
+}
+
+impl Filled for Job {
+    fn fill(&mut self, _alloc: Global) -> Result<(), NoMemory> {
+        self.lane.jail.push_str("sshd")?;
+        self.lane.action.push_str("nft")?;
+        self.text.push_str("ban 192.0.2.7")
+    }
 }
 
 fn job(alloc: Global) -> Result<Job, NoMemory> {
     let lane = LaneId {
-        jail: text(alloc, "sshd")?,
-        action: text(alloc, "nft")?,
+        jail: Text::new(alloc),
+        action: Text::new(alloc),
         family: Family::Inet6,
     };
-    Ok(Job {
+    let job = Job {
         id: 8,
         lane,
         kind: JobKind::Reban,
         addr: Some(HOST),
-        text: text(alloc, "ban 192.0.2.7")?,
+        text: Text::new(alloc),
         timeout: 60,
         tries: 1,
         due: 1_002,
-    })
+    };
+    fill_up(alloc, job)
 }
 
 fn defs(alloc: Global) -> Result<Defs, NoMemory> {
+    let jails = one(alloc, jail(alloc))?;
     Ok(Defs {
         purge: 86_400,
-        jails: one(alloc, jail(alloc)?)?,
+        jails,
     })
 }
 
+fn up(alloc: Global) -> Result<UpLane, NoMemory> {
+    let jail = text(alloc, "sshd")?;
+    let action = action(alloc)?;
+    Ok(UpLane { jail, action })
+}
+
+impl Filled for View {
+    fn fill(&mut self, alloc: Global) -> Result<(), NoMemory> {
+        put(&mut self.defs.jails, jail(alloc))?;
+        put(&mut self.up, up(alloc))?;
+        put(&mut self.jails, jail_view(alloc))?;
+        put(&mut self.jobs, job(alloc))
+    }
+}
+
 fn view(alloc: Global) -> Result<View, NoMemory> {
-    let up = UpLane {
-        jail: text(alloc, "sshd")?,
-        action: action(alloc)?,
+    let defs = Defs {
+        purge: 86_400,
+        jails: Seq::new(alloc),
     };
-    Ok(View {
+    let view = View {
         at: 1_000,
-        defs: defs(alloc)?,
+        defs,
         stopping: true,
-        up: one(alloc, up)?,
-        jails: one(alloc, jail_view(alloc)?)?,
-        jobs: one(alloc, job(alloc)?)?,
+        up: Seq::new(alloc),
+        jails: Seq::new(alloc),
+        jobs: Seq::new(alloc),
         next_job: 9,
         next_ban: 5,
-    })
+    };
+    fill_up(alloc, view)
+}
+
+/// The item copies, where there was memory for it.
+fn copies<T: Plain + PartialEq + Debug + Drop>(
+    rt: &impl Abort,
+    item: Result<T, NoMemory>,
+) -> Result<(), NoMemory> {
+    let item = item?;
+    let copy = item.copy()?;
+    assert_eq!(rt; &copy, &item);
+    Ok(())
 }
 
 #[test]
 fn a_view_copies_with_all_that_it_has(rt: HostRuntime) -> Result<(), Fail> {
-    let view = view(rt.alloc())?;
-    assert_eq!(rt; view.copy()?, view);
+    copies(&rt, view(rt.alloc()))?;
     Ok(())
 }
 
 /// The input copies.
-fn copies(rt: &impl Abort, what: What) -> Result<(), NoMemory> {
+fn input_copies(rt: &impl Abort, what: What) -> Result<(), NoMemory> {
     let input = Input {
         secs: 1_000,
         word: 7,
         what,
     };
-    assert_eq!(rt; input.copy()?, input);
-    Ok(())
+    copies(rt, Ok(input))
 }
 
 /// What is asked of a jail, or found there.
@@ -194,12 +297,12 @@ fn read(alloc: Global, jail: Text) -> Result<What, NoMemory> {
         jail,
         path: text(alloc, "/var/log/auth.log")?,
         place: place(alloc)?,
-        found: one(alloc, failure(alloc)?)?,
+        found: one(alloc, failure(alloc))?,
     })
 }
 
 fn ban(alloc: Global, jail: Text) -> Result<What, NoMemory> {
-    let addrs = one(alloc, HOST)?;
+    let addrs = one(alloc, Ok(HOST))?;
     Ok(What::Ban { jail, addrs })
 }
 
@@ -235,7 +338,7 @@ fn of_jail(alloc: Global, kind: OfJail) -> Result<What, NoMemory> {
 
 fn copy_each(rt: &impl Abort, alloc: Global, kinds: &[OfJail]) -> Result<(), NoMemory> {
     for kind in kinds {
-        copies(rt, of_jail(alloc, *kind)?)?;
+        input_copies(rt, of_jail(alloc, *kind)?)?;
     }
     Ok(())
 }
@@ -272,26 +375,27 @@ fn settings_of_a_jail_copy(rt: HostRuntime) -> Result<(), Fail> {
 
 #[test]
 fn inputs_of_the_whole_server_copy(rt: HostRuntime) -> Result<(), Fail> {
-    copies(&rt, What::Tick)?;
-    copies(&rt, What::Stop)?;
+    input_copies(&rt, What::Tick)?;
+    input_copies(&rt, What::Stop)?;
     let job = 8;
     let outcome = Outcome::Status(1);
-    copies(&rt, What::Ended { job, outcome })?;
+    input_copies(&rt, What::Ended { job, outcome })?;
     let outcome = Outcome::TimedOut;
-    copies(&rt, What::CheckFailed { job, outcome })?;
+    input_copies(&rt, What::CheckFailed { job, outcome })?;
     let defs = defs(rt.alloc())?;
-    copies(&rt, What::Config { defs })?;
+    input_copies(&rt, What::Config { defs })?;
     Ok(())
 }
 
+fn file(alloc: Global) -> Result<TreeFile, NoMemory> {
+    let path = text(alloc, "jail.conf")?;
+    let content = Bytes::from_slice(alloc, b"[]")?;
+    Ok(TreeFile { path, content })
+}
+
 fn answer(alloc: Global) -> Result<TreeAnswer, NoMemory> {
-    let file = TreeFile {
-        path: text(alloc, "jail.conf")?,
-        content: Bytes::from_slice(alloc, b"[]")?,
-    };
-    Ok(TreeAnswer::Tree(Tree {
-        files: one(alloc, file)?,
-    }))
+    let files = one(alloc, file(alloc))?;
+    Ok(TreeAnswer::Tree(Tree { files }))
 }
 
 fn look(alloc: Global) -> Result<FileLook, NoMemory> {
@@ -304,9 +408,7 @@ fn look(alloc: Global) -> Result<FileLook, NoMemory> {
 
 #[test]
 fn what_the_outside_brings_copies(rt: HostRuntime) -> Result<(), Fail> {
-    let answer = answer(rt.alloc())?;
-    assert_eq!(rt; answer.copy()?, answer);
-    let look = look(rt.alloc())?;
-    assert_eq!(rt; look.copy()?, look);
+    copies(&rt, answer(rt.alloc()))?;
+    copies(&rt, look(rt.alloc()))?;
     Ok(())
 }

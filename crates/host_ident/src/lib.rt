@@ -16,6 +16,3 @@ mod tag;
 
 pub use host::{HostGroups, host_of};
 pub use pattern::{expand, hosts};
-
-#[cfg(test)]
-mod tests;

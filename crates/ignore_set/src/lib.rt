@@ -12,7 +12,5 @@
 
 mod ignore_set;
 mod prefix_table;
-#[cfg(test)]
-mod tests;
 
 pub use crate::ignore_set::IgnoreSet;

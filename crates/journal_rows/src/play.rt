@@ -24,7 +24,12 @@ fn script(alloc: Global, image: Image, fails: &[u64]) -> Result<Script, NoMemory
 }
 
 /// A disk whose slots hold these bytes, and whose calls at these places fail.
-pub fn disk(alloc: Global, slot0: &[u8], slot1: &[u8], fails: &[u64]) -> Result<MemWorld, Fail> {
+pub(crate) fn disk(
+    alloc: Global,
+    slot0: &[u8],
+    slot1: &[u8],
+    fails: &[u64],
+) -> Result<MemWorld, Fail> {
     let image = Image {
         slot0: Bytes::from_slice(alloc, slot0)?,
         slot1: Bytes::from_slice(alloc, slot1)?,
@@ -34,7 +39,7 @@ pub fn disk(alloc: Global, slot0: &[u8], slot1: &[u8], fails: &[u64]) -> Result<
 
 /// What a journal has stored, as a row has it.
 #[derive(Clone, Copy, Debug, PartialEq, Eq)]
-pub struct Stored {
+pub(crate) struct Stored {
     pub generation: u64,
     /// The next id of the view, by which rows tell views apart.
     pub next_job: u64,
@@ -45,7 +50,7 @@ pub struct Stored {
 }
 
 /// No slot is open.
-pub const NOTHING: Stored = Stored {
+pub(crate) const NOTHING: Stored = Stored {
     generation: 0,
     next_job: 0,
     inputs: 0,
@@ -62,7 +67,7 @@ fn and_input(stored: Stored, input: &Input) -> Stored {
 }
 
 /// What a disk has stored.
-pub fn all_stored<D: Disk>(alloc: Global, disk: &mut D) -> Result<Stored, LoadError> {
+pub(crate) fn all_stored<D: Disk>(alloc: Global, disk: &mut D) -> Result<Stored, LoadError> {
     let Loaded {
         journal,
         view,
@@ -84,7 +89,7 @@ pub fn all_stored<D: Disk>(alloc: Global, disk: &mut D) -> Result<Stored, LoadEr
 }
 
 /// What two slots have stored.
-pub fn stored_in(
+pub(crate) fn stored_in(
     alloc: Global,
     slot0: &[u8],
     slot1: &[u8],
@@ -96,7 +101,7 @@ pub fn stored_in(
 /// How a stop tears what was not synced: how many of its bytes were kept, what the others are, and whether the file is as long as it
 /// was before the last write.
 #[derive(Clone, Copy, Debug)]
-pub struct Tear {
+pub(crate) struct Tear {
     pub keep: u32,
     pub fill: u8,
     pub short: bool,
@@ -119,7 +124,12 @@ fn cut(image: Image, was: &Image) -> Image {
 }
 
 /// The disk as a stop leaves it that comes once so many calls were made.
-pub fn after_stop(alloc: Global, world: &MemWorld, at: u64, tear: Tear) -> Result<MemWorld, Fail> {
+pub(crate) fn after_stop(
+    alloc: Global,
+    world: &MemWorld,
+    at: u64,
+    tear: Tear,
+) -> Result<MemWorld, Fail> {
     let mut image = torn(world, at, tear.keep, tear.fill)?;
     if tear.short {
         image = cut(image, &torn(world, at.saturating_sub(1), 0, 0)?);

@@ -36,7 +36,7 @@ fn view(alloc: Global) -> View {
 }
 
 /// Loads a journal and writes the input: how many calls loaded it, and what came of the input.
-pub fn write(
+pub(crate) fn write(
     alloc: Global,
     world: &mut MemWorld,
     limit: u64,

@@ -12,4 +12,10 @@
 #[cfg(test)]
 mod checks;
 #[cfg(test)]
+mod children;
+#[cfg(test)]
 mod orders;
+#[cfg(test)]
+mod queues;
+#[cfg(test)]
+mod rows;

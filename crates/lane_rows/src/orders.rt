@@ -1,8 +1,9 @@
 //! What bans, configurations and stops order, as the jobs with their commands, by the rules for actions.
 
+use crate::rows::same;
 use f2b_base::{
-    ActionDef, Addr, Ban, BanRule, DateSpec, Defs, Family, JailDef, NoMemory, Outcome, Seq, Text,
-    Until,
+    ActionDef, Addr, Ban, BanRule, DateSpec, Defs, Family, JailDef, Job, NoMemory, Outcome, Seq,
+    Text, Until,
 };
 use f2b_model::{Happening, JailBans, LaneHappening};
 use lane_moves::LaneBook;
@@ -35,33 +36,49 @@ fn command(alloc: Global, word: &str, rest: &str) -> Result<Text, NoMemory> {
     Ok(Text::from(format!(in alloc; "{word} {rest}")?))
 }
 
-/// An action whose commands begin with a word.
-fn action(alloc: Global, family: Family, word: &str) -> Result<ActionDef, NoMemory> {
+/// An action that starts and stops, and has no other command.
+fn bare(alloc: Global, family: Family, word: &str) -> Result<ActionDef, NoMemory> {
     Ok(ActionDef {
         name: Text::from_str(alloc, "nft")?,
         family,
         start: command(alloc, word, "start <family>")?,
         stop: command(alloc, word, "stop <family>")?,
-        ban: command(
-            alloc,
-            word,
-            "ban <ip> <family> <failures> <time> <bantime> <bancount>:<matches>",
-        )?,
-        unban: command(alloc, word, "unban <ip>")?,
-        check: Text::from_str(alloc, "test -e /x <family>")?,
+        ban: Text::new(alloc),
+        unban: Text::new(alloc),
+        check: Text::new(alloc),
         timeout: 60,
     })
 }
 
-/// One jail `sshd` with those actions.
-fn defs_of(alloc: Global, families: &[Family], word: &str) -> Result<Defs, NoMemory> {
+const BAN: &str = "ban <ip> <family> <failures> <time> <bantime> <bancount>:<matches>";
+
+/// An action whose commands begin with a word.
+fn action(alloc: Global, family: Family, word: &str) -> Result<ActionDef, NoMemory> {
+    let ban = command(alloc, word, BAN)?;
+    let unban = command(alloc, word, "unban <ip>")?;
+    let check = Text::from_str(alloc, "test -e /x <family>")?;
+    let bare = bare(alloc, family, word)?;
+    Ok(ActionDef {
+        ban,
+        unban,
+        check,
+        ..bare
+    })
+}
+
+/// Actions whose commands begin with a word.
+fn actions(alloc: Global, families: &[Family], word: &str) -> Result<Seq<ActionDef>, NoMemory> {
     let mut actions = Seq::new(alloc);
     for &family in families {
         actions.push(action(alloc, family, word)?)?;
     }
-    let mut jails = Seq::new(alloc);
-    jails.push(JailDef {
-        name: Text::from_str(alloc, "sshd")?,
+    Ok(actions)
+}
+
+/// A jail with those actions.
+fn jail_of(alloc: Global, name: Text, actions: Seq<ActionDef>) -> JailDef {
+    JailDef {
+        name,
         watches: Seq::new(alloc),
         zone: 0,
         date: DateSpec::Default,
@@ -81,18 +98,30 @@ fn defs_of(alloc: Global, families: &[Family], word: &str) -> Result<Defs, NoMem
             rndtime: 0,
         },
         actions,
-    })?;
+    }
+}
+
+/// One jail `sshd` with those actions.
+fn defs_of(alloc: Global, families: &[Family], word: &str) -> Result<Defs, NoMemory> {
+    let name = Text::from_str(alloc, "sshd")?;
+    let actions = actions(alloc, families, word)?;
+    let mut jails = Seq::new(alloc);
+    jails.push(jail_of(alloc, name, actions))?;
     Ok(Defs { purge: 0, jails })
+}
+
+fn jail_bans(alloc: Global, jail: &str, bans: &[Ban]) -> Result<JailBans, NoMemory> {
+    Ok(JailBans {
+        jail: Text::from_str(alloc, jail)?,
+        bans: Seq::from(bans.to_vec(alloc)?),
+    })
 }
 
 /// The bans that are active, jail by jail.
 fn held_of(alloc: Global, held: &[(&str, &[Ban])]) -> Result<Seq<JailBans>, NoMemory> {
     let mut jails = Seq::new(alloc);
     for (jail, bans) in held {
-        jails.push(JailBans {
-            jail: Text::from_str(alloc, jail)?,
-            bans: Seq::from(bans.to_vec(alloc)?),
-        })?;
+        jails.push(jail_bans(alloc, jail, bans)?)?;
     }
     Ok(jails)
 }
@@ -126,16 +155,20 @@ fn happenings(alloc: Global, tellings: &[Telling]) -> Result<Seq<Happening>, NoM
     Ok(told)
 }
 
-/// The jobs, one a line: id, kind, failed tries, command.
-fn shown(alloc: Global, book: &LaneBook) -> Result<String, NoMemory> {
-    let jobs = book.jobs().jobs(alloc)?;
+/// A job: id, kind, failed tries, command.
+fn job_line(alloc: Global, job: &Job) -> Result<String, NoMemory> {
+    let id = job.id;
+    let kind = job.kind;
+    let tries = job.tries;
+    let text = job.text.as_str();
+    Ok(format!(in alloc; "{id} {kind:?} {tries} {text}\n")?)
+}
+
+/// The jobs, one a line.
+fn shown(alloc: Global, jobs: &[Job]) -> Result<String, NoMemory> {
     let mut out = String::new(alloc);
-    for job in jobs.as_slice() {
-        let id = job.id;
-        let kind = job.kind;
-        let tries = job.tries;
-        let text = job.text.as_str();
-        let line = format!(in alloc; "{id} {kind:?} {tries} {text}\n")?;
+    for job in jobs {
+        let line = job_line(alloc, job)?;
         out.push_str(line.as_str())?;
     }
     Ok(out)
@@ -143,26 +176,33 @@ fn shown(alloc: Global, book: &LaneBook) -> Result<String, NoMemory> {
 
 /// The jobs are these, one a line.
 fn expect_jobs(rt: &impl Abort, alloc: Global, book: &LaneBook, want: &str) -> Result<(), Fail> {
-    let jobs = shown(alloc, book)?;
-    assert_eq!(rt; jobs.as_str(), want);
+    let jobs = book.jobs().jobs(alloc)?;
+    let lines = shown(alloc, jobs.as_slice())?;
+    same(rt, "jobs", lines.as_str(), want);
     Ok(())
 }
 
-/// What was told, one thing a line: the kind of a job whose try failed, how, and whether that was the last; `check` and how it
-/// failed; `anew`.
-fn lines_of(alloc: Global, told: &Seq<LaneHappening>) -> Result<String, NoMemory> {
+/// What was told: the kind of a job whose try failed, how, and whether that was the last; `check` and how it failed; `anew`.
+fn line_of(alloc: Global, happening: &LaneHappening) -> Result<String, NoMemory> {
+    match happening {
+        LaneHappening::TryFails {
+            kind,
+            outcome,
+            last,
+            ..
+        } => Ok(format!(in alloc; "{kind:?} {outcome:?} {last}\n")?),
+        LaneHappening::CheckFails { outcome, .. } => {
+            Ok(format!(in alloc; "check {outcome:?}\n")?)
+        }
+        LaneHappening::Restarts { .. } => Ok(String::from_str(alloc, "anew\n")?),
+    }
+}
+
+/// What was told, one thing a line.
+fn lines_of(alloc: Global, told: &[LaneHappening]) -> Result<String, NoMemory> {
     let mut out = String::new(alloc);
-    for happening in told.as_slice() {
-        let line = match happening {
-            LaneHappening::TryFails {
-                kind,
-                outcome,
-                last,
-                ..
-            } => format!(in alloc; "{kind:?} {outcome:?} {last}\n")?,
-            LaneHappening::CheckFails { outcome, .. } => format!(in alloc; "check {outcome:?}\n")?,
-            LaneHappening::Restarts { .. } => String::from_str(alloc, "anew\n")?,
-        };
+    for happening in told {
+        let line = line_of(alloc, happening)?;
         out.push_str(line.as_str())?;
     }
     Ok(out)
@@ -175,8 +215,8 @@ fn expect_said(
     told: &Seq<LaneHappening>,
     want: &str,
 ) -> Result<(), Fail> {
-    let lines = lines_of(alloc, told)?;
-    assert_eq!(rt; lines.as_str(), want);
+    let lines = lines_of(alloc, told.as_slice())?;
+    same(rt, "told", lines.as_str(), want);
     Ok(())
 }
 
@@ -230,59 +270,92 @@ impl Scene {
         self.book.missing_up(held.as_slice(), &defs, at)
     }
 
+    fn tell(&mut self, tellings: &[Telling], at: u64) -> Result<(), NoMemory> {
+        let told = happenings(self.alloc, tellings)?;
+        self.book.issue(told.as_slice(), at)
+    }
+
+    fn check_failed(
+        &mut self,
+        held: Held,
+        job: u64,
+        outcome: Outcome,
+        at: u64,
+    ) -> Result<(), NoMemory> {
+        let held = held_of(self.alloc, held)?;
+        self.book
+            .check_failed(&mut self.said, held.as_slice(), job, outcome, at)
+    }
+
+    fn stop(&mut self, held: Held, at: u64) -> Result<(), NoMemory> {
+        let held = held_of(self.alloc, held)?;
+        self.book.stop(held.as_slice(), at)
+    }
+
     /// Takes what is no expectation.
     fn take(&mut self, step: &Step) -> Result<(), NoMemory> {
         match *step {
-            Step::Tell(tellings, at) => {
-                let told = happenings(self.alloc, tellings)?;
-                self.book.issue(told.as_slice(), at)
-            }
+            Step::Tell(tellings, at) => self.tell(tellings, at),
             Step::Configure(lanes, held, at) => self.configure(lanes, held, at),
             Step::Ended(job, outcome, at) => {
                 self.book.ended(&mut self.said, job, outcome, u64::from(at))
             }
-            Step::CheckFailed(held, job, outcome, at) => {
-                let held = held_of(self.alloc, held)?;
-                self.book
-                    .check_failed(&mut self.said, held.as_slice(), job, outcome, at)
-            }
-            Step::Stop(held, at) => {
-                let held = held_of(self.alloc, held)?;
-                self.book.stop(held.as_slice(), at)
-            }
+            Step::CheckFailed(held, job, outcome, at) => self.check_failed(held, job, outcome, at),
+            Step::Stop(held, at) => self.stop(held, at),
             _ => Ok(()),
         }
     }
 
+    /// The check that is run before a try of a job.
+    fn check_of(&self, job: u64) -> Option<&str> {
+        let lane = self.book.check_of(job)?;
+        Some(lane.action.check.as_str())
+    }
+
     fn expect_check_text(&self, rt: &impl Abort, job: u64, want: Option<&str>) -> Result<(), Fail> {
         let text = self.book.check_text(job)?;
-        assert_eq!(rt;
-            text.as_ref().map(|text| text.as_str()),
-            want,
-            "of job {job}"
-        );
+        same(rt, job, text_of(&text), want);
         Ok(())
+    }
+
+    fn expect_just(
+        &self,
+        rt: &impl Abort,
+        families: &[Family],
+        word: &str,
+        want: bool,
+    ) -> Result<(), Fail> {
+        let defs = defs_of(self.alloc, families, word)?;
+        same(rt, word, self.book.are_just(&defs), want);
+        Ok(())
+    }
+
+    fn is_stopped(&self) -> bool {
+        self.book.is_stopping() && self.book.up().is_empty()
     }
 
     /// Asserts what is expected.
     fn expect(&self, rt: &impl Abort, step: &Step) -> Result<(), Fail> {
         match *step {
             Step::AreJust((families, word), want) => {
-                let defs = defs_of(self.alloc, families, word)?;
-                assert_eq!(rt; self.book.are_just(&defs), want);
+                return self.expect_just(rt, families, word, want);
             }
-            Step::NextJob(want) => assert_eq!(rt; self.book.next_job(), want),
-            Step::Stopped => assert!(rt; self.book.is_stopping() && self.book.up().is_empty()),
-            Step::CheckOf(job, want) => {
-                let check = self.book.check_of(job);
-                assert_eq!(rt; check.map(|lane| lane.action.check.as_str()), want);
-            }
-            Step::CheckText(job, want) => self.expect_check_text(rt, job, want)?,
-            Step::Jobs(want) => expect_jobs(rt, self.alloc, &self.book, want)?,
-            Step::Said(want) => expect_said(rt, self.alloc, &self.said, want)?,
+            Step::NextJob(want) => same(rt, "next job", self.book.next_job(), want),
+            Step::Stopped => same(rt, "stopped", self.is_stopped(), true),
+            Step::CheckOf(job, want) => same(rt, job, self.check_of(job), want),
+            Step::CheckText(job, want) => return self.expect_check_text(rt, job, want),
+            Step::Jobs(want) => return expect_jobs(rt, self.alloc, &self.book, want),
+            Step::Said(want) => return expect_said(rt, self.alloc, &self.said, want),
             _ => (),
         }
         Ok(())
+    }
+}
+
+fn text_of(text: &Option<Text>) -> Option<&str> {
+    match text {
+        Some(text) => Some(text.as_str()),
+        None => None,
     }
 }
 

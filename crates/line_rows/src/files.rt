@@ -1,10 +1,34 @@
 //! Small files, with what they mean by the rules.
 
+use crate::rows::same;
 use f2b_base::NoMemory;
 use ini_interp::{IniError, Sections, read_file};
 use std::alloc::Global;
 use std::process::Abort;
 use std::test::Fail;
+
+/// A value with `/` behind each line.
+fn write_value(out: &mut String, value: &str) -> Result<(), NoMemory> {
+    for part in value.split('\n') {
+        out.push_str(part)?;
+        out.push_str("/")?;
+    }
+    Ok(())
+}
+
+/// The items of a section.
+fn write_items(out: &mut String, sections: &Sections, section: &str) -> Result<(), NoMemory> {
+    for index in 0..9 {
+        let Some(name) = sections.item(section, index) else {
+            break;
+        };
+        out.push_str(name)?;
+        out.push_str("=")?;
+        write_value(out, sections.raw(section, name).unwrap_or("?"))?;
+        out.push_str("|")?;
+    }
+    Ok(())
+}
 
 /// Sections as one text: `[NAME]`, and `NAME=VALUE` for each item, where `|` stands behind each and `/` for LF.
 fn shown(alloc: Global, sections: &Sections) -> Result<String, NoMemory> {
@@ -16,32 +40,24 @@ fn shown(alloc: Global, sections: &Sections) -> Result<String, NoMemory> {
         out.push_str("[")?;
         out.push_str(section)?;
         out.push_str("]|")?;
-        for index in 0..9 {
-            let Some(name) = sections.item(section, index) else {
-                break;
-            };
-            out.push_str(name)?;
-            out.push_str("=")?;
-            for part in sections.raw(section, name).unwrap_or("?").split('\n') {
-                out.push_str(part)?;
-                out.push_str("/")?;
-            }
-            out.push_str("|")?;
-        }
+        write_items(&mut out, sections, section)?;
     }
     Ok(out)
 }
 
+/// What a file means.
+fn meaning(alloc: Global, file: &str) -> Result<String, NoMemory> {
+    match read_file(alloc, file.as_bytes()) {
+        Ok(sections) => shown(alloc, &sections),
+        Err(error) => Ok(format!(in alloc; "{error:?}")?),
+    }
+}
+
 /// Rows of a file and what it means.
 fn are_read(rt: &impl Abort, alloc: Global, rows: &[(&str, &str)]) -> Result<(), Fail> {
-    for (file, want) in rows {
-        match read_file(alloc, file.as_bytes()) {
-            Ok(sections) => {
-                let seen = shown(alloc, &sections)?;
-                assert_eq!(rt; seen.as_str(), *want, "at {file:?}");
-            }
-            Err(error) => assert_eq!(rt; Some(error), None, "at {file:?}"),
-        }
+    for &(file, want) in rows {
+        let seen = meaning(alloc, file)?;
+        same(rt, file, seen.as_str(), want);
     }
     Ok(())
 }
@@ -107,11 +123,8 @@ fn reads_files(rt: HostRuntime) -> Result<(), Fail> {
 
 /// Rows of a file and its fault.
 fn are_faults(rt: &impl Abort, alloc: Global, rows: &[(&[u8], IniError)]) {
-    for (file, want) in rows {
-        match read_file(alloc, file) {
-            Ok(sections) => assert_eq!(rt; sections.section(0), Some("a fault"), "at {file:?}"),
-            Err(error) => assert_eq!(rt; error, *want, "at {file:?}"),
-        }
+    for &(file, want) in rows {
+        same(rt, file, read_file(alloc, file).err(), Some(want));
     }
 }
 
@@ -165,19 +178,31 @@ enum Step {
     Find(&'static str, &'static str, Option<&'static str>),
 }
 
+fn are_shown(rt: &impl Abort, alloc: Global, sections: &Sections, want: &str) -> Result<(), Fail> {
+    let seen = shown(alloc, sections)?;
+    same(rt, "shown", seen.as_str(), want);
+    Ok(())
+}
+
 fn take(rt: &impl Abort, alloc: Global, sections: &mut Sections, step: &Step) -> Result<(), Fail> {
     match *step {
         Step::Put(section, name, value) => sections.put(section, name, value)?,
         Step::Clear(section) => sections.clear(section),
-        Step::Shown(want) => {
-            let seen = shown(alloc, sections)?;
-            assert_eq!(rt; seen.as_str(), want);
+        Step::Shown(want) => return are_shown(rt, alloc, sections, want),
+        Step::Section(place, want) => same(rt, place, sections.section(place), want),
+        Step::Item(section, place, want) => {
+            same(rt, (section, place), sections.item(section, place), want);
         }
-        Step::Section(place, want) => assert_eq!(rt; sections.section(place), want),
-        Step::Item(section, place, want) => assert_eq!(rt; sections.item(section, place), want),
-        Step::Raw(section, name, want) => assert_eq!(rt; sections.raw(section, name), want),
+        Step::Raw(section, name, want) => {
+            same(rt, (section, name), sections.raw(section, name), want);
+        }
         Step::Find(section, name, want) => {
-            assert_eq!(rt; sections.find(alloc, section, name)?, want);
+            same(
+                rt,
+                (section, name),
+                sections.find(alloc, section, name)?,
+                want,
+            );
         }
     }
     Ok(())

@@ -12,4 +12,6 @@ mod files;
 #[cfg(test)]
 mod merges;
 #[cfg(test)]
+mod rows;
+#[cfg(test)]
 mod values;

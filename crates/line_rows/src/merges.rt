@@ -1,10 +1,25 @@
 //! Trees, with what they come to by the rules of the order of files, of includes and of known values.
 
+use crate::rows::same;
 use f2b_base::{Bytes, NoMemory, Seq, Text, Tree, TreeFile};
 use ini_interp::{MergeError, Sections, merge};
 use std::alloc::Global;
 use std::process::Abort;
 use std::test::Fail;
+
+/// The items of a section.
+fn write_items(out: &mut String, sections: &Sections, section: &str) -> Result<(), NoMemory> {
+    for index in 0..9 {
+        let Some(name) = sections.item(section, index) else {
+            break;
+        };
+        out.push_str(name)?;
+        out.push_str("=")?;
+        out.push_str(sections.raw(section, name).unwrap_or("?"))?;
+        out.push_str(" ")?;
+    }
+    Ok(())
+}
 
 /// Sections as one text: `[NAME]`, and `NAME=VALUE` for each item, with a blank behind each.
 fn sections_text(alloc: Global, sections: &Sections) -> Result<String, NoMemory> {
@@ -16,15 +31,7 @@ fn sections_text(alloc: Global, sections: &Sections) -> Result<String, NoMemory>
         out.push_str("[")?;
         out.push_str(section)?;
         out.push_str("] ")?;
-        for index in 0..9 {
-            let Some(name) = sections.item(section, index) else {
-                break;
-            };
-            out.push_str(name)?;
-            out.push_str("=")?;
-            out.push_str(sections.raw(section, name).unwrap_or("?"))?;
-            out.push_str(" ")?;
-        }
+        write_items(&mut out, sections, section)?;
     }
     Ok(out)
 }
@@ -50,13 +57,17 @@ fn shown(alloc: Global, answer: Result<Sections, MergeError>) -> Result<String, 
     }
 }
 
+fn file_of(alloc: Global, path: &str, content: &str) -> Result<TreeFile, NoMemory> {
+    Ok(TreeFile {
+        path: Text::from_str(alloc, path)?,
+        content: Bytes::from_slice(alloc, content.as_bytes())?,
+    })
+}
+
 fn tree_of(alloc: Global, files: &[(&str, &str)]) -> Result<Tree, NoMemory> {
     let mut tree = Seq::new(alloc);
     for (path, content) in files {
-        tree.push(TreeFile {
-            path: Text::from_str(alloc, path)?,
-            content: Bytes::from_slice(alloc, content.as_bytes())?,
-        })?;
+        tree.push(file_of(alloc, path, content)?)?;
     }
     Ok(Tree { files: tree })
 }
@@ -84,10 +95,10 @@ fn are_in_order(
     files: &[(&str, &str)],
     rows: &[(usize, &str)],
 ) -> Result<(), Fail> {
-    for (count, want) in rows {
-        let some = files.get(..*count).unwrap_or(&[]);
+    for &(count, want) in rows {
+        let some = files.get(..count).unwrap_or(&[]);
         let got = merged(alloc, some, "jail")?;
-        assert_eq!(rt; got.as_str(), *want);
+        same(rt, count, got.as_str(), want);
     }
     Ok(())
 }
@@ -105,9 +116,8 @@ const WITHOUT_LOCAL_OF_D: [(&str, &str); 3] = [CONF, CONF_OF_D, LOCAL];
 #[test]
 fn orders_files(rt: HostRuntime) -> Result<(), Fail> {
     are_in_order(&rt, rt.alloc(), &JAIL, &ORDERS)?;
-    let got = merged(rt.alloc(), &WITHOUT_LOCAL_OF_D, "jail")?;
-    assert_eq!(rt; got.as_str(), "[DEFAULT] bantime=3m ");
-    Ok(())
+    let want = [(3, "[DEFAULT] bantime=3m ")];
+    are_in_order(&rt, rt.alloc(), &WITHOUT_LOCAL_OF_D, &want)
 }
 
 /// Rows of files, a base, and what the files come to for it.
@@ -116,9 +126,9 @@ fn are_merged(
     alloc: Global,
     rows: &[(&[(&str, &str)], &str, &str)],
 ) -> Result<(), Fail> {
-    for (files, base, want) in rows {
+    for &(files, base, want) in rows {
         let got = merged(alloc, files, base)?;
-        assert_eq!(rt; got.as_str(), *want);
+        same(rt, files, got.as_str(), want);
     }
     Ok(())
 }

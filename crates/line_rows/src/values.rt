@@ -1,5 +1,6 @@
 //! Values, with what they come to by the rules of references.
 
+use crate::rows::same;
 use f2b_base::{NoMemory, Seq, Text};
 use ini_interp::{InterpError, Sections, read_file, value};
 use std::alloc::Global;
@@ -35,12 +36,17 @@ fn jail_value(alloc: Global, sections: &Sections, name: &str) -> Result<String, 
     shown(alloc, value(alloc, sections, &scope, name))
 }
 
+/// What `x` is in a file.
+fn x_of(alloc: Global, file: &[u8]) -> Result<String, Fail> {
+    let sections = read_file(alloc, file)?;
+    Ok(jail_value(alloc, &sections, "x")?)
+}
+
 /// Rows of a file and what `x` is in it.
 fn are_values(rt: &impl Abort, alloc: Global, rows: &[(&[u8], &str)]) -> Result<(), Fail> {
-    for (file, want) in rows {
-        let sections = read_file(alloc, file)?;
-        let got = jail_value(alloc, &sections, "x")?;
-        assert_eq!(rt; got.as_str(), *want);
+    for &(file, want) in rows {
+        let got = x_of(alloc, file)?;
+        same(rt, file, got.as_str(), want);
     }
     Ok(())
 }
@@ -107,10 +113,10 @@ fn are_values_then(
     sections: &mut Sections,
     rows: &[(&str, &str, &str, &str)],
 ) -> Result<(), Fail> {
-    for (section, name, value, want) in rows {
+    for &(section, name, value, want) in rows {
         sections.put(section, name, value)?;
         let got = jail_value(alloc, sections, "x0")?;
-        assert_eq!(rt; got.as_str(), *want);
+        same(rt, (name, value), got.as_str(), want);
     }
     Ok(())
 }
@@ -147,12 +153,22 @@ fn put_value(alloc: Global, sections: &Sections, name: &str) -> Result<String, N
     shown(alloc, value(alloc, sections, &scope, name))
 }
 
+/// Rows of a name and its value in the scope of `]name`.
+fn are_put(
+    rt: &impl Abort,
+    alloc: Global,
+    sections: &Sections,
+    rows: &[(&str, &str)],
+) -> Result<(), Fail> {
+    for &(name, want) in rows {
+        let got = put_value(alloc, sections, name)?;
+        same(rt, name, got.as_str(), want);
+    }
+    Ok(())
+}
+
 #[test]
 fn reads_what_was_put(rt: HostRuntime) -> Result<(), Fail> {
     let sections = put_sections(rt.alloc())?;
-    let put = put_value(rt.alloc(), &sections, "x0")?;
-    assert_eq!(rt; put.as_str(), "= a");
-    let known = put_value(rt.alloc(), &sections, "z")?;
-    assert_eq!(rt; known.as_str(), "= a");
-    Ok(())
+    are_put(&rt, rt.alloc(), &sections, &[("x0", "= a"), ("z", "= a")])
 }

@@ -23,10 +23,6 @@ mod glob;
 mod laws;
 mod line;
 mod step;
-#[cfg(test)]
-mod tests;
-#[cfg(test)]
-mod tests_names;
 
 pub use carry::Carry;
 pub use expand::expand_path;

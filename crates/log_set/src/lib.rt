@@ -25,8 +25,6 @@ mod searches;
 mod set;
 mod shown;
 mod taken;
-#[cfg(test)]
-mod tests;
 
 pub use log::Log;
 pub use set::LogSet;

@@ -17,6 +17,8 @@ use Rattle.f2b_world.specs.Slots.{Permits, Slot}
 use Rattle.f2b_world.specs.Told.{History, grown}
 use Rattle.f2b_world.specs.declared.answer.Len.{Len}
 use Rattle.f2b_world.specs.declared.answer.Len.TheVariants.{Bytes as LenIs, Failed as LenFailed}
+use Rattle.f2b_world.specs.declared.answer.Listen.{Listen}
+use Rattle.f2b_world.specs.declared.answer.Listen.TheVariants.{Listening, Failed as ListenFailed}
 use Rattle.f2b_world.specs.declared.answer.Look.{Look}
 use Rattle.f2b_world.specs.declared.answer.Look.TheVariants.{File, Absent, Failed as LookFailed, NoMemory as LookNoMemory}
 use Rattle.f2b_world.specs.declared.answer.MakeAnswer.{MakeAnswer}
@@ -33,7 +35,7 @@ use Rattle.f2b_world.specs.declared.answer.Synced.TheVariants.{Done as SyncDone,
 use Rattle.f2b_world.specs.declared.answer.Wrote.{Wrote}
 use Rattle.f2b_world.specs.declared.answer.Wrote.TheVariants.{Done as WroteDone, Failed as WroteFailed, NoMemory as WroteNoMemory}
 use Rattle.f2b_world.specs.declared.event.Event.{Event}
-use Rattle.f2b_world.specs.declared.event.Event.TheVariants.{Say, DiskLen, DiskRead, DiskWrite, DiskSync, Make, Clock, Config, StoreAt, Names, Look as LookAt, ChildStart, ChildPoll, ChildKill, Pause}
+use Rattle.f2b_world.specs.declared.event.Event.TheVariants.{Say, DiskLen, DiskRead, DiskWrite, DiskSync, Make, Clock, Config, StoreAt, Names, Look as LookAt, ChildStart, ChildPoll, ChildKill, GateListen, GateAccept, GateRead, GateWrite, GateClose, Pause}
 use Rattle.filter_regex.specs.declared.error.BuildKind.TheVariants.{Syntax, TooBig}
 use Rattle.ban_journal.specs.Positions.{top_in}
 use Rattle.child_table.specs.Late.{is_late}
@@ -53,19 +55,20 @@ use Rattle.run_law.specs.News.{News, brings, brings_by, entered, entering, goes_
 use Rattle.run_law.specs.Paths.{Naming, Path, first_naming, named, with_paths}
 use Rattle.run_law.specs.Patterns.{Pattern, patterns_of}
 use Rattle.run_law.specs.Pause.{turned}
-use Rattle.run_law.specs.Points.{Place, AtClock, AtLook, AtPoll, AtKill, AtStart, AtPause, Point, AtTree, AtMakes, AtStore, AtFirst, AtNames, AtTurn, Over, Run}
+use Rattle.run_law.specs.Points.{Place, AtClock, AtLook, AtPoll, AtKill, AtAccept, AtClient, AtClose, AtStart, AtPause, Point, AtTree, AtMakes, AtStore, AtListen, AtFirst, AtNames, AtTurn, Over, Run}
 use Rattle.run_law.specs.Polls.{end_news, ended_as, gone, gone_passed, has_succeeded, killed_at, polled_at, still_point}
 use Rattle.run_law.specs.Server.{Server, begun, entry_in, input_at, is_spent, read_at, taken}
-use Rattle.run_law.specs.Start.{defined, first_turn, loads, made, makes_on, names_in, start_news, to_makes, to_names, tree_read, unread_by}
+use Rattle.run_law.specs.Serving.{Service, closes, lets_in, point_on, reads, serves, with_clients, writes}
+use Rattle.run_law.specs.Start.{defined, first_turn, listened, loads, made, makes_on, names_in, start_news, to_makes, to_names, tree_read, unread_by}
 use Rattle.run_law.specs.Starts.{child_started, with_child, without_child}
 use Rattle.run_law.specs.Stops.{ComesInOrder, ComesTo, IsKept, IsOverAt, IsWrite}
 use Rattle.run_law.specs.Turn.{to_logs, to_looks, to_polls, to_starts}
 use Rattle.run_law.specs.declared.status.Status.{Status}
-use Rattle.run_law.specs.declared.status.Status.TheVariants.{TurnsSpent, ConfFault, ConfRefused, NotAJournal, JournalFull, ConfTooLarge, PatternRefused, NumbersSpent}
+use Rattle.run_law.specs.declared.status.Status.TheVariants.{Stopped, TurnsSpent, ConfFault, ConfRefused, NotAJournal, JournalFull, GateFault, ConfTooLarge, PatternRefused, NumbersSpent}
 use Rattle.run_law.proofs.FieldLemmas.{feed_slots}
 use Rattle.run_law.proofs.KeptLemmas.{steps_more}
 use Rattle.run_law.proofs.RestLemmas.{entry_is, slot_still}
-use Rattle.run_law.proofs.TurnLemmas.{IsOfTurn, logs_of_turn, looks_of_turn, polls_of_turn, starts_of_turn, still_of_turn}
+use Rattle.run_law.proofs.TurnLemmas.{IsOfTurn, logs_of_turn, looks_of_turn, onward_of_turn, polls_of_turn, starts_of_turn, still_of_turn, turn_by}
 use Rattle.slot_writes.specs.Entries.{Entry, Written, Full, Spent, body, entry, entry_of, fresh_slot, fresh_start, turn_calls}
 use Rattle.journal_slots.specs.declared.head.Head.{Head}
 use Rattle.journal_slots.specs.declared.head.Head.TheVariants.{Short, Ajar, Shut}
@@ -130,6 +133,7 @@ module _ (v : View) (slots : ℕ → List ℕ) (comes : ComesTo v slots) where
   Knows s AtTree = back v ≡ s
   Knows s (AtMakes settings left) = back v ≡ s
   Knows s (AtStore settings) = back v ≡ s
+  Knows s (AtListen settings l) = l.state ≡ s
   Knows s (AtFirst settings l) = l.state ≡ s
   Knows s (AtNames settings naming t) = t.state ≡ s
   Knows s (AtTurn place t) = t.state ≡ s
@@ -157,7 +161,7 @@ module _ (v : View) (slots : ℕ → List ℕ) (comes : ComesTo v slots) where
     Passes next = (s : State) (t : Server) → t.state ≡ s → Knows s (next t)
 
     turn_passes : (next : Server → Point) → ((t : Server) → IsOfTurn (next t) t) → Passes next
-    turn_passes next turn s t has = let P : Point → Type 0 = λ q. Knows s q in subst P (sym (turn t).is) has
+    turn_passes next turn s t has = turn_by (λ q. Knows s q) (next t) t (turn t) (λ place. has) tt
 
     stays_on : Knows (state_of r) r.point → Follows r
     stays_on knows = record { closed = refl; knows = knows }
@@ -219,13 +223,17 @@ module _ (v : View) (slots : ℕ → List ℕ) (comes : ComesTo v slots) where
     made_on WasTooBig settings p ps knows = refused_on 0 (PatternRefused p.jail p.place TooBig)
 
     loads_on : (settings : Settings) → back v ≡ state_of r → (o : Result Loaded (ℕ × ℕ)) → loaded r.plan.limit slots ≡ o → Follows (loads o settings r)
-    loads_on settings knows (Ok l) is = plain_on (AtFirst settings l) (loads_state r.plan.limit slots (top_in slots) comes.stored l comes.means is ∙ ap back comes.comes ∙ knows)
+    loads_on settings knows (Ok l) is = plain_on (AtListen settings l) (loads_state r.plan.limit slots (top_in slots) comes.stored l comes.means is ∙ ap back comes.comes ∙ knows)
     loads_on settings knows (Err place) is = refused_on 0 (NotAJournal place.0 place.1)
 
     stored_on : (settings : Settings) → back v ≡ state_of r → Follows (loads (loaded r.plan.limit r.slots) settings r)
     stored_on settings knows =
         let P : (ℕ → List ℕ) → Type 0 = λ held. Follows (loads (loaded r.plan.limit held) settings r) in
         subst P (sym from) (loads_on settings knows (loaded r.plan.limit slots) refl)
+
+    listened_on : (answer : Listen) (settings : Settings) (l : Loaded) → l.state ≡ state_of r → Follows (listened answer settings l r)
+    listened_on Listening settings l knows = plain_on (AtFirst settings l) knows
+    listened_on ListenFailed settings l knows = refused_on 0 GateFault
 
     names_on : (before : List (List ℕ)) (settings : Settings) (naming : Naming) (left : List Path) (t : Server) → Has t → Follows (to_names before settings naming left t r)
     names_on before settings naming [] t has = brings_on (start_news before (with_paths settings.defs naming.found) t) first_turn (λ s u h. h) t has
@@ -234,7 +242,7 @@ module _ (v : View) (slots : ℕ → List ℕ) (comes : ComesTo v slots) where
     -- ---- a turn
 
     of_turn_on : (p : Point) (u : Server) → IsOfTurn p u → Has u → Follows (goes_to p r)
-    of_turn_on p u turn has = let P : Point → Type 0 = λ q. Follows (goes_to q r) in subst P (sym turn.is) (plain_on (AtTurn turn.place u) has)
+    of_turn_on p u turn has = turn_by (λ q. Follows (goes_to q r)) p u turn (λ place. plain_on (AtTurn place u) has) (plain_on (Over Stopped) tt)
 
     module _ (same : Knows (state_of r) r.point) where
       tree_on : (answer : TreeAnswer) → back v ≡ state_of r → Follows (tree_read answer r)
@@ -276,6 +284,10 @@ module _ (v : View) (slots : ℕ → List ℕ) (comes : ComesTo v slots) where
       started_on StartFailed child t has = brings_on (end_news child NotStarted) to_starts (turn_passes to_starts starts_of_turn) (without_child child t) has
       started_on StartNoMemory child t has = stays_on same
 
+      -- a call on a client
+      serves_on : (x : Service) (t : Server) → Has t → Follows (serves x t r)
+      serves_on x t has = brings_on x.news (point_on x.onward) (turn_passes (point_on x.onward) (onward_of_turn x.onward)) (with_clients x.clients t) has
+
       turned_on : (n : ℕ) (t : Server) → Has t → Follows (goes_to (turned n t) r)
       turned_on zero t has = plain_on (Over TurnsSpent) tt
       turned_on (suc n) t has = plain_on (AtTurn AtClock (record t { left = suc n })) has
@@ -285,6 +297,10 @@ module _ (v : View) (slots : ℕ → List ℕ) (comes : ComesTo v slots) where
       turns_on (AtLook i) (LookAt path head from max answer) t has = looked_at_on (slice_get t.logs i) answer i t has
       turns_on (AtPoll i) (ChildPoll job answer) t has = polled_on (slice_get t.children.running i) answer i t has
       turns_on (AtKill i) (ChildKill job) t has = killed_on (slice_get t.children.running i) i t has
+      turns_on AtAccept (GateAccept answer) t has = serves_on (lets_in answer t) t has
+      turns_on (AtClient i) (GateRead conn max answer) t has = serves_on (reads answer i t) t has
+      turns_on (AtClient i) (GateWrite conn bytes answer) t has = serves_on (writes answer i t) t has
+      turns_on (AtClose i) (GateClose conn) t has = serves_on (closes i t) t has
       turns_on (AtStart child text) (ChildStart job command answer) t has = started_on answer child t has
       turns_on AtPause (Pause ms) t has = turned_on (t.left - 1) t has
       turns_on _ _ t has = stays_on same
@@ -293,6 +309,7 @@ module _ (v : View) (slots : ℕ → List ℕ) (comes : ComesTo v slots) where
       moved_on AtTree (Config root answer) knows = tree_on answer knows
       moved_on (AtMakes settings left) (Make text answer) knows = makes_are_on left answer settings knows
       moved_on (AtStore settings) (StoreAt socket answer) knows = stored_on settings knows
+      moved_on (AtListen settings k) (GateListen socket answer) knows = listened_on answer settings k knows
       moved_on (AtFirst settings k) (Clock answer) knows =
           names_on [] settings (first_naming settings.defs) (first_naming settings.defs).left (begun r.plan.turns k answer) knows
       moved_on (AtNames settings naming t) (Names dir answer) knows =

@@ -15,9 +15,10 @@ use Rattle.f2b_world.specs.Bounds.{FitsFile}
 use Rattle.f2b_world.specs.Slots.{IsOutside, Permits, Slot, settled}
 use Rattle.f2b_world.specs.Told.{History, grown, slot_of}
 use Rattle.f2b_world.specs.Walks.{Along, Comes}
+use Rattle.f2b_world.specs.declared.answer.Listen.TheVariants.{Listening}
 use Rattle.f2b_world.specs.declared.answer.StoreAnswer.TheVariants.{Kept}
 use Rattle.f2b_world.specs.declared.event.Event.{Event}
-use Rattle.f2b_world.specs.declared.event.Event.TheVariants.{Clock, Config, StoreAt}
+use Rattle.f2b_world.specs.declared.event.Event.TheVariants.{Clock, Config, GateListen, StoreAt}
 use Rattle.ini_interp.specs.Files.{file_of, meaning_of}
 use Rattle.ini_interp.specs.Joins.{joined}
 use Rattle.ini_interp.specs.Known.{known_replaced}
@@ -61,9 +62,12 @@ tree = record { files = record { path = codes "fail2ban.conf"; content = codes "
 abbrev configured : ℕ → Input
 configured secs = record { secs = secs; word = 0; what = Configured (record { purge = 600; jails = [] }) }
 
+abbrev socket : List ℕ
+socket = codes "/var/run/fail2ban/fail2ban.sock"
+
 -- a run up to its first reading of the clock
 abbrev started_at : ℕ → List Event
-started_at secs = Config (codes "/c") (TreeGiven tree) ∷ StoreAt (codes "/var/run/fail2ban/fail2ban.sock") Kept ∷ Clock (record { secs = secs; word = 0 }) ∷ []
+started_at secs = Config (codes "/c") (TreeGiven tree) ∷ StoreAt socket Kept ∷ GateListen socket Listening ∷ Clock (record { secs = secs; word = 0 }) ∷ []
 
 -- a run that begins on these slots and is stopped behind these calls
 abbrev session : (ℕ → List ℕ) → List Event → Session
@@ -188,7 +192,8 @@ storable = record { secs = omega arith; word = omega arith; what = record { purg
 
 -- the history behind the first reading of the clock
 abbrev begun_at : (ℕ → List ℕ) → ℕ → History
-begun_at slots secs = grown (grown (grown (record { first = slots; events = [] }) (take 1 (started_at secs))) (take 1 (drop 1 (started_at secs)))) (drop 2 (started_at secs))
+begun_at slots secs =
+    grown (grown (grown (grown (record { first = slots; events = [] }) (take 1 (started_at secs))) (take 1 (drop 1 (started_at secs)))) (take 1 (drop 2 (started_at secs)))) (drop 3 (started_at secs))
 
 first_obeys : Obeys (begin words (slots_of first)) first.before first.events
 unfolding settings_in own text_in files_of file_of meaning_of read_with all_read merged_in joined known_replaced items_of raw opened with_raw replaced referred percent_piece piece_at pieces_from time_word trimmed_start trimmed_end opened_by item_of content_form form_of is_utf8 chars encode_utf8 brings config_changes parse_slot input what defs_codec list_of view_codec start generation version eight number_digits digits
@@ -197,8 +202,11 @@ first_obeys = (
   (
     record { holds = tt; allowed = refl; honest = tt; bounded = tt },
     (
-      record { holds = tt; allowed = tt; honest = tt; bounded = record { secs = omega arith; word = omega arith } },
-      write_along nine_calls (Sync 0 ∷ []) (run_at first 3) (begun_at no_slots 1000) refl storable,
+      record { holds = tt; allowed = refl; honest = tt; bounded = tt },
+      (
+        record { holds = tt; allowed = tt; honest = tt; bounded = record { secs = omega arith; word = omega arith } },
+        write_along nine_calls (Sync 0 ∷ []) (run_at first 4) (begun_at no_slots 1000) refl storable,
+      ),
     ),
   ),
 )
@@ -212,7 +220,10 @@ second_obeys = (
   record { holds = tt; allowed = refl; honest = tt; bounded = file_fits },
   (
     record { holds = tt; allowed = refl; honest = tt; bounded = tt },
-    (record { holds = tt; allowed = tt; honest = tt; bounded = record { secs = omega arith; word = omega arith } }, tt),
+    (
+      record { holds = tt; allowed = refl; honest = tt; bounded = tt },
+      (record { holds = tt; allowed = tt; honest = tt; bounded = record { secs = omega arith; word = omega arith } }, tt),
+    ),
   ),
 )
 

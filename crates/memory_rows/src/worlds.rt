@@ -8,8 +8,45 @@ use f2b_world::{
     Piece, PollAnswer, Said, Sink, StartAnswer, Store, StoreAnswer, Synced, Time, Wrote,
 };
 use std::alloc::Global;
+use std::fmt::Debug;
 use std::process::Abort;
 use std::test::Fail;
+
+/// Fails at this call unless what was seen is what is wanted.
+fn same<T: PartialEq + Debug + Drop>(rt: &impl Abort, at: &str, saw: T, want: T) {
+    assert!(rt; saw == want, "at {at}: {saw:?}, not {want:?}");
+}
+
+/// A call on an outside in memory, and what it answers.
+trait Move<W> {
+    fn play<R: Abort>(&self, rt: &R, outside: &mut W);
+}
+
+fn play_each<W, M: Move<W>>(rt: &impl Abort, outside: &mut W, moves: &[M]) {
+    for each in moves {
+        each.play(rt, outside);
+    }
+}
+
+/// The outside once all these were played on it, where there was memory for it.
+fn played<W: Drop, M: Move<W>>(
+    rt: &impl Abort,
+    outside: Result<W, NoMemory>,
+    moves: &[M],
+) -> Result<W, NoMemory> {
+    let mut outside = outside?;
+    play_each(rt, &mut outside, moves);
+    Ok(outside)
+}
+
+fn play_all<W: Drop, M: Move<W>>(
+    rt: &impl Abort,
+    outside: Result<W, NoMemory>,
+    moves: &[M],
+) -> Result<(), NoMemory> {
+    let _ = played(rt, outside, moves)?;
+    Ok(())
+}
 
 fn image(alloc: Global) -> Image {
     Image {
@@ -23,6 +60,24 @@ fn readings(alloc: Global) -> Result<Seq<Reading>, NoMemory> {
     Ok(Seq::from(readings.to_vec(alloc)?))
 }
 
+fn change(
+    alloc: Global,
+    pauses: u64,
+    path: &str,
+    content: Option<&[u8]>,
+) -> Result<FileChange, NoMemory> {
+    let content = match content {
+        Some(content) => Some(Bytes::from_slice(alloc, content)?),
+        None => None,
+    };
+    let path = Text::from_str(alloc, path)?;
+    Ok(FileChange {
+        pauses,
+        path,
+        content,
+    })
+}
+
 /// Rows of after how many pauses a file changes, its path, and its content, or none where it goes.
 fn changes_of(
     alloc: Global,
@@ -30,16 +85,7 @@ fn changes_of(
 ) -> Result<Seq<FileChange>, NoMemory> {
     let mut changes = Seq::new(alloc);
     for &(pauses, path, content) in rows {
-        let path = Text::from_str(alloc, path)?;
-        let content = match content {
-            Some(content) => Some(Bytes::from_slice(alloc, content)?),
-            None => None,
-        };
-        changes.push(FileChange {
-            pauses,
-            path,
-            content,
-        })?;
+        changes.push(change(alloc, pauses, path, content)?)?;
     }
     Ok(changes)
 }
@@ -83,6 +129,8 @@ enum Call {
     Clock(u64),
     /// The store is kept.
     Store,
+    /// So many events are told.
+    Told(usize),
 }
 
 fn looks(world: &mut MemWorld) -> bool {
@@ -112,30 +160,28 @@ fn configures(world: &mut MemWorld) -> Option<bool> {
     }
 }
 
-fn make_call(rt: &impl Abort, world: &mut MemWorld, call: &Call) {
-    match *call {
-        Call::Say(bytes, want) => assert_eq!(rt; world.say(bytes), want),
-        Call::Make(want) => assert_eq!(rt; makes(world), Some(want)),
-        Call::Config(want) => assert_eq!(rt; configures(world), Some(want)),
-        Call::LookAbsent => assert_eq!(rt; world.look("/log", 2, 0, 4), Look::Absent),
-        Call::LookFile => assert!(rt; looks(world)),
-        Call::Pause => world.pause(250),
-        Call::Clock(want) => assert_eq!(rt; world.clock().secs, want),
-        Call::Store => assert_eq!(rt; world.store_at("/s"), StoreAnswer::Kept),
-    }
-}
-
-fn make_calls(rt: &impl Abort, world: &mut MemWorld, calls: &[Call]) {
-    for call in calls {
-        make_call(rt, world, call);
+impl Move<MemWorld> for Call {
+    fn play<R: Abort>(&self, rt: &R, world: &mut MemWorld) {
+        match *self {
+            Call::Say(bytes, want) => same(rt, "say", world.say(bytes), want),
+            Call::Make(want) => same(rt, "make", makes(world), Some(want)),
+            Call::Config(want) => same(rt, "config", configures(world), Some(want)),
+            Call::LookAbsent => same(rt, "look", world.look("/log", 2, 0, 4), Look::Absent),
+            Call::LookFile => same(rt, "look", looks(world), true),
+            Call::Pause => world.pause(250),
+            Call::Clock(want) => same(rt, "clock", world.clock().secs, want),
+            Call::Store => same(rt, "store", world.store_at("/s"), StoreAnswer::Kept),
+            Call::Told(want) => same(rt, "events", told(world), Some(want)),
+        }
     }
 }
 
 /// A world in which the calls at these places fail.
 fn world_of(alloc: Global, fails: &[u64]) -> Result<MemWorld, NoMemory> {
     let fails = Seq::from(fails.to_vec(alloc)?);
-    let script = script(alloc, readings(alloc)?, changes_of(alloc, &LOG)?, fails);
-    MemWorld::new(alloc, script)
+    let readings = readings(alloc)?;
+    let changes = changes_of(alloc, &LOG)?;
+    MemWorld::new(alloc, script(alloc, readings, changes, fails))
 }
 
 /// How many events a world tells of, or none where it does not tell them.
@@ -146,7 +192,7 @@ fn told(world: &MemWorld) -> Option<usize> {
     Some(world.events().len())
 }
 
-const PLAYS: [Call; 13] = [
+const PLAYS: [Call; 14] = [
     // Of two calls of each kind the second fails.
     Call::Say(b"a", Said::Done),
     Call::Say(b"b", Said::Failed),
@@ -162,13 +208,12 @@ const PLAYS: [Call; 13] = [
     Call::Clock(9),
     Call::Clock(9),
     Call::Store,
+    Call::Told(13),
 ];
 
 #[test]
 fn plays_its_script_and_tells_it(rt: HostRuntime) -> Result<(), Fail> {
-    let mut world = world_of(rt.alloc(), &[1, 3, 5])?;
-    make_calls(&rt, &mut world, &PLAYS);
-    assert_eq!(rt; told(&world), Some(13));
+    play_all(&rt, world_of(rt.alloc(), &[1, 3, 5]), &PLAYS)?;
     Ok(())
 }
 
@@ -188,17 +233,13 @@ fn reads_none(world: &mut MemWorld) -> bool {
     }
 }
 
-fn call_disk(rt: &impl Abort, world: &mut MemWorld, call: &DiskCall) {
-    match *call {
-        DiskCall::Write(bytes, want) => assert_eq!(rt; world.disk_write(0, 0, bytes), want),
-        DiskCall::Sync(want) => assert_eq!(rt; world.disk_sync(0), want),
-        DiskCall::ReadNone => assert!(rt; reads_none(world)),
-    }
-}
-
-fn call_disk_each(rt: &impl Abort, world: &mut MemWorld, calls: &[DiskCall]) {
-    for call in calls {
-        call_disk(rt, world, call);
+impl Move<MemWorld> for DiskCall {
+    fn play<R: Abort>(&self, rt: &R, world: &mut MemWorld) {
+        match *self {
+            DiskCall::Write(bytes, want) => same(rt, "write", world.disk_write(0, 0, bytes), want),
+            DiskCall::Sync(want) => same(rt, "sync", world.disk_sync(0), want),
+            DiskCall::ReadNone => same(rt, "read", reads_none(world), true),
+        }
     }
 }
 
@@ -218,6 +259,11 @@ fn torn(world: &MemWorld) -> Result<Option<Image>, NoMemory> {
     Ok(Some(world.torn(count as u64, 1, 0)?))
 }
 
+fn torn_of(world: Result<MemWorld, NoMemory>) -> Result<Option<Image>, NoMemory> {
+    let world = world?;
+    torn(&world)
+}
+
 /// A world in which the third call fails.
 fn failing_third(alloc: Global) -> Result<MemWorld, NoMemory> {
     let fails = Seq::from([2].to_vec(alloc)?);
@@ -232,13 +278,17 @@ fn len_on(alloc: Global, image: Image) -> Result<Len, NoMemory> {
     Ok(world.disk_len(0))
 }
 
+fn reopens(rt: &impl Abort, alloc: Global, image: Image) -> Result<(), NoMemory> {
+    same(rt, "slot", image.slot0.as_slice(), b"x\0cd".as_slice());
+    same(rt, "length", len_on(alloc, image)?, Len::Bytes(4));
+    Ok(())
+}
+
 #[test]
 fn tears_a_slot_and_reopens_it(rt: HostRuntime) -> Result<(), Fail> {
-    let mut world = failing_third(rt.alloc())?;
-    call_disk_each(&rt, &mut world, &WRITES);
-    let image = torn(&world)?.ok_or("not told")?;
-    assert_eq!(rt; image.slot0.as_slice(), b"x\0cd".as_slice());
-    assert_eq!(rt; len_on(rt.alloc(), image)?, Len::Bytes(4));
+    let world = played(&rt, failing_third(rt.alloc()), &WRITES);
+    let image = torn_of(world)?.ok_or("not told")?;
+    reopens(&rt, rt.alloc(), image)?;
     Ok(())
 }
 
@@ -264,32 +314,14 @@ enum ClientCall {
     Kill,
     /// `/` has one name.
     Names,
+    /// `/d` has two names, in byte order.
+    Lists(&'static str, &'static str),
 }
 
 fn has_one_name(world: &mut MemWorld) -> bool {
     match world.names("/") {
         NamesAnswer::Names(names) => names.len() == 1,
         _ => false,
-    }
-}
-
-fn call_client(rt: &impl Abort, world: &mut MemWorld, call: &ClientCall) {
-    match *call {
-        ClientCall::Accept(want) => assert_eq!(rt; world.gate_accept(), want),
-        ClientCall::Pause => world.pause(250),
-        ClientCall::Give(want) => assert!(rt; gives(world, want)),
-        ClientCall::Take(want) => assert_eq!(rt; world.gate_write(0, b"hi"), want),
-        ClientCall::Close => world.gate_close(0),
-        ClientCall::Start(want) => assert_eq!(rt; world.child_start(7, "true"), want),
-        ClientCall::Poll(want) => assert_eq!(rt; world.child_poll(7), want),
-        ClientCall::Kill => world.child_kill(7),
-        ClientCall::Names => assert!(rt; has_one_name(world)),
-    }
-}
-
-fn call_client_each(rt: &impl Abort, world: &mut MemWorld, calls: &[ClientCall]) {
-    for call in calls {
-        call_client(rt, world, call);
     }
 }
 
@@ -304,6 +336,25 @@ fn lists(world: &mut MemWorld, first: &str, second: &str) -> bool {
     }
 }
 
+impl Move<MemWorld> for ClientCall {
+    fn play<R: Abort>(&self, rt: &R, world: &mut MemWorld) {
+        match *self {
+            ClientCall::Accept(want) => same(rt, "accept", world.gate_accept(), want),
+            ClientCall::Pause => world.pause(250),
+            ClientCall::Give(want) => same(rt, "read", gives(world, want), true),
+            ClientCall::Take(want) => same(rt, "write", world.gate_write(0, b"hi"), want),
+            ClientCall::Close => world.gate_close(0),
+            ClientCall::Start(want) => same(rt, "start", world.child_start(7, "true"), want),
+            ClientCall::Poll(want) => same(rt, "poll", world.child_poll(7), want),
+            ClientCall::Kill => world.child_kill(7),
+            ClientCall::Names => same(rt, "names", has_one_name(world), true),
+            ClientCall::Lists(first, second) => {
+                same(rt, "list", lists(world, first, second), true);
+            }
+        }
+    }
+}
+
 // The file `a` changes and stays, `c` is gone with the first pause, and `s/e` is not directly there.
 const LISTED: [(u64, &str, Option<&[u8]>); 6] = [
     (0, "/d/c", Some(b"")),
@@ -314,21 +365,17 @@ const LISTED: [(u64, &str, Option<&[u8]>); 6] = [
     (1, "/d/c", None),
 ];
 
-fn lists_names(alloc: Global) -> Result<bool, NoMemory> {
-    let script = script(
-        alloc,
-        Seq::new(alloc),
-        changes_of(alloc, &LISTED)?,
-        Seq::new(alloc),
-    );
-    let mut world = MemWorld::new(alloc, script)?;
-    world.pause(250);
-    Ok(lists(&mut world, "a", "b"))
+const LISTINGS: [ClientCall; 2] = [ClientCall::Pause, ClientCall::Lists("a", "b")];
+
+fn listed_world(alloc: Global) -> Result<MemWorld, NoMemory> {
+    let changes = changes_of(alloc, &LISTED)?;
+    let script = script(alloc, Seq::new(alloc), changes, Seq::new(alloc));
+    MemWorld::new(alloc, script)
 }
 
 #[test]
 fn lists_names_once_and_in_order(rt: HostRuntime) -> Result<(), Fail> {
-    assert!(rt; lists_names(rt.alloc())?);
+    play_all(&rt, listed_world(rt.alloc()), &LISTINGS)?;
     Ok(())
 }
 
@@ -354,12 +401,15 @@ fn children(alloc: Global) -> Result<Seq<ChildPlan>, NoMemory> {
 }
 
 fn world_with_a_client(alloc: Global) -> Result<MemWorld, NoMemory> {
+    let changes = changes_of(alloc, &LOG)?;
+    let children = children(alloc)?;
+    let clients = clients(alloc)?;
     let script = Script {
         readings: Seq::new(alloc),
         trees: Seq::new(alloc),
-        changes: changes_of(alloc, &LOG)?,
-        children: children(alloc)?,
-        clients: clients(alloc)?,
+        changes,
+        children,
+        clients,
         fails: Seq::new(alloc),
         image: image(alloc),
     };
@@ -387,8 +437,7 @@ const CLIENTS_AND_COMMANDS: [ClientCall; 14] = [
 
 #[test]
 fn plays_clients_and_commands(rt: HostRuntime) -> Result<(), Fail> {
-    let mut world = world_with_a_client(rt.alloc())?;
-    call_client_each(&rt, &mut world, &CLIENTS_AND_COMMANDS);
+    play_all(&rt, world_with_a_client(rt.alloc()), &CLIENTS_AND_COMMANDS)?;
     Ok(())
 }
 
@@ -400,9 +449,29 @@ fn receives(link: &mut MemLink, want: &[u8]) -> bool {
     }
 }
 
-fn receives_each(rt: &impl Abort, link: &mut MemLink, wants: &[&[u8]]) {
-    for want in wants {
-        assert!(rt; receives(link, want));
+/// A call on a link, and what it answers.
+enum LinkCall {
+    Connect,
+    /// `hi` is sent.
+    Send,
+    Receive(&'static [u8]),
+    Fails,
+    /// All that was sent.
+    Sent(&'static [u8]),
+    /// All that the server says.
+    Bytes(&'static [u8]),
+}
+
+impl Move<MemLink> for LinkCall {
+    fn play<R: Abort>(&self, rt: &R, link: &mut MemLink) {
+        match *self {
+            LinkCall::Connect => same(rt, "connect", link.connect("/s"), Linked::Connected),
+            LinkCall::Send => same(rt, "send", link.send(b"hi"), Linked::Connected),
+            LinkCall::Receive(want) => same(rt, "receive", receives(link, want), true),
+            LinkCall::Fails => same(rt, "fault", link.receive(9), LinkRead::Failed),
+            LinkCall::Sent(want) => same(rt, "sent", link.sent(), want),
+            LinkCall::Bytes(want) => same(rt, "bytes", link.bytes(), want),
+        }
     }
 }
 
@@ -411,88 +480,141 @@ fn link_of(alloc: Global, bytes: &[u8]) -> Result<MemLink, NoMemory> {
     MemLink::new(alloc, bytes, 2, Seq::new(alloc))
 }
 
-const PIECES: [&[u8]; 3] = [b"ab", b"c", b""];
+const PIECES: [LinkCall; 7] = [
+    LinkCall::Connect,
+    LinkCall::Send,
+    LinkCall::Receive(b"ab"),
+    LinkCall::Receive(b"c"),
+    LinkCall::Receive(b""),
+    LinkCall::Sent(b"hi"),
+    LinkCall::Bytes(b"abc"),
+];
 
 #[test]
 fn gives_a_link_in_pieces(rt: HostRuntime) -> Result<(), Fail> {
-    let mut link = link_of(rt.alloc(), b"abc")?;
-    assert_eq!(rt; link.connect("/s"), Linked::Connected);
-    assert_eq!(rt; link.send(b"hi"), Linked::Connected);
-    receives_each(&rt, &mut link, &PIECES);
-    assert_eq!(rt; link.sent(), b"hi".as_slice());
-    assert_eq!(rt; link.bytes(), b"abc".as_slice());
+    play_all(&rt, link_of(rt.alloc(), b"abc"), &PIECES)?;
     Ok(())
 }
 
 fn failing_second(alloc: Global) -> Result<Seq<u64>, NoMemory> {
-    let mut fails = Seq::new(alloc);
-    fails.push(1)?;
-    Ok(fails)
+    Ok(Seq::from([1].to_vec(alloc)?))
+}
+
+fn failing_link(alloc: Global) -> Result<MemLink, NoMemory> {
+    let fails = failing_second(alloc)?;
+    let bytes = Bytes::from_slice(alloc, b"ab")?;
+    MemLink::new(alloc, bytes, 1, fails)
 }
 
 // The second call fails, and nothing is lost by it.
-fn receives_after_a_fault(alloc: Global) -> Result<bool, NoMemory> {
-    let bytes = Bytes::from_slice(alloc, b"ab")?;
-    let mut link = MemLink::new(alloc, bytes, 1, failing_second(alloc)?)?;
-    let first = receives(&mut link, b"a");
-    let second = link.receive(9) == LinkRead::Failed;
-    let third = receives(&mut link, b"b");
-    Ok(first && second && third)
-}
+const AFTER_A_FAULT: [LinkCall; 3] = [
+    LinkCall::Receive(b"a"),
+    LinkCall::Fails,
+    LinkCall::Receive(b"b"),
+];
 
 #[test]
 fn goes_on_after_a_fault_of_a_link(rt: HostRuntime) -> Result<(), Fail> {
-    assert!(rt; receives_after_a_fault(rt.alloc())?);
+    play_all(&rt, failing_link(rt.alloc()), &AFTER_A_FAULT)?;
     Ok(())
 }
 
-fn reads(files: &mut MemFiles, path: &str) -> bool {
-    let whole = match files.read(path) {
+fn reads_whole(files: &mut MemFiles, path: &str) -> bool {
+    match files.read(path) {
         FileAnswer::Bytes(bytes) => bytes.as_slice() == b"abc".as_slice(),
         _ => false,
-    };
-    let piece = match files.piece(path, 2, 2) {
+    }
+}
+
+fn reads_end(files: &mut MemFiles, path: &str) -> bool {
+    match files.piece(path, 2, 2) {
         FilePiece::Bytes(bytes) => bytes.as_slice() == b"c".as_slice(),
         _ => false,
-    };
-    let listed = match files.tree("/c") {
+    }
+}
+
+fn has_one_file(files: &mut MemFiles) -> bool {
+    match files.tree("/c") {
         TreeAnswer::Tree(tree) => tree.files.len() == 1,
         _ => false,
-    };
-    whole && piece && listed
+    }
+}
+
+/// A call on files, and what it answers.
+enum FileCall {
+    /// The file has three bytes.
+    Whole(&'static str),
+    /// The last of three bytes.
+    End(&'static str),
+    /// `/c` has one file.
+    OneFile,
+    Absent(&'static str),
+    Fails(&'static str),
+    /// A directory has two files.
+    Tree(&'static str),
+}
+
+impl Move<MemFiles> for FileCall {
+    fn play<R: Abort>(&self, rt: &R, files: &mut MemFiles) {
+        match *self {
+            FileCall::Whole(path) => same(rt, "whole", reads_whole(files, path), true),
+            FileCall::End(path) => same(rt, "piece", reads_end(files, path), true),
+            FileCall::OneFile => same(rt, "tree", has_one_file(files), true),
+            FileCall::Absent(path) => same(rt, "absent", files.read(path), FileAnswer::Absent),
+            FileCall::Fails(path) => same(rt, "fault", files.read(path), FileAnswer::Failed),
+            FileCall::Tree(dir) => same(rt, dir, gives_tree(files, dir), true),
+        }
+    }
+}
+
+const READS: [FileCall; 3] = [
+    FileCall::Whole("/c/jail.d/a.conf"),
+    FileCall::End("/c/jail.d/a.conf"),
+    FileCall::OneFile,
+];
+
+fn three_bytes(alloc: Global) -> Result<MemFiles, NoMemory> {
+    let files = files_of(alloc, &[("/c/jail.d/a.conf", b"abc")])?;
+    MemFiles::new(alloc, files, Seq::new(alloc))
 }
 
 #[test]
 fn gives_files_in_pieces(rt: HostRuntime) -> Result<(), Fail> {
-    let alloc = rt.alloc();
-    let list = files_of(alloc, &[("/c/jail.d/a.conf", b"abc")])?;
-    let mut files = MemFiles::new(alloc, list, Seq::new(alloc))?;
-    assert!(rt; reads(&mut files, "/c/jail.d/a.conf"));
+    play_all(&rt, three_bytes(rt.alloc()), &READS)?;
     Ok(())
 }
 
 // The second call fails, and the next is answered as ever.
-fn reads_after_a_fault(alloc: Global) -> Result<bool, NoMemory> {
-    let list = files_of(alloc, &[("/c/a.conf", b"abc")])?;
-    let mut files = MemFiles::new(alloc, list, failing_second(alloc)?)?;
-    let first = files.read("/c/none") == FileAnswer::Absent;
-    let second = files.read("/c/a.conf") == FileAnswer::Failed;
-    Ok(first && second && reads(&mut files, "/c/a.conf"))
+const READS_AFTER_A_FAULT: [FileCall; 5] = [
+    FileCall::Absent("/c/none"),
+    FileCall::Fails("/c/a.conf"),
+    FileCall::Whole("/c/a.conf"),
+    FileCall::End("/c/a.conf"),
+    FileCall::OneFile,
+];
+
+fn failing_files(alloc: Global) -> Result<MemFiles, NoMemory> {
+    let fails = failing_second(alloc)?;
+    let files = files_of(alloc, &[("/c/a.conf", b"abc")])?;
+    MemFiles::new(alloc, files, fails)
 }
 
 #[test]
 fn goes_on_after_a_fault_of_files(rt: HostRuntime) -> Result<(), Fail> {
-    assert!(rt; reads_after_a_fault(rt.alloc())?);
+    play_all(&rt, failing_files(rt.alloc()), &READS_AFTER_A_FAULT)?;
     Ok(())
+}
+
+fn file_of(alloc: Global, path: &str, content: &[u8]) -> Result<TreeFile, NoMemory> {
+    let path = Text::from_str(alloc, path)?;
+    let content = Bytes::from_slice(alloc, content)?;
+    Ok(TreeFile { path, content })
 }
 
 fn files_of(alloc: Global, rows: &[(&str, &[u8])]) -> Result<Seq<TreeFile>, NoMemory> {
     let mut files = Seq::new(alloc);
     for (path, content) in rows {
-        files.push(TreeFile {
-            path: Text::from_str(alloc, path)?,
-            content: Bytes::from_slice(alloc, content)?,
-        })?;
+        files.push(file_of(alloc, path, content)?)?;
     }
     Ok(files)
 }
@@ -511,20 +633,32 @@ fn is_file(file: &TreeFile, path: &str, content: &[u8]) -> bool {
     file.path.as_str() == path && file.content.as_slice() == content
 }
 
-fn gives_tree(alloc: Global, dir: &str) -> Result<bool, NoMemory> {
-    let mut files = MemFiles::new(alloc, files_of(alloc, &TREE_FILES)?, Seq::new(alloc))?;
-    let TreeAnswer::Tree(tree) = files.tree(dir) else {
-        return Ok(false);
-    };
-    match tree.files.as_slice() {
-        [one, other] => Ok(is_file(one, "a.conf", b"first") && is_file(other, "s/b.local", b"b")),
-        _ => Ok(false),
+fn is_tree(files: &[TreeFile]) -> bool {
+    match files {
+        [one, other] => is_file(one, "a.conf", b"first") && is_file(other, "s/b.local", b"b"),
+        _ => false,
     }
+}
+
+fn gives_tree(files: &mut MemFiles, dir: &str) -> bool {
+    match files.tree(dir) {
+        TreeAnswer::Tree(tree) => is_tree(tree.files.as_slice()),
+        _ => false,
+    }
+}
+
+const TREE: [FileCall; 1] = [FileCall::Tree("/c")];
+
+const TREE_BY_ITS_OTHER_PATH: [FileCall; 1] = [FileCall::Tree("/c/")];
+
+fn files_of_a_tree(alloc: Global) -> Result<MemFiles, NoMemory> {
+    let files = files_of(alloc, &TREE_FILES)?;
+    MemFiles::new(alloc, files, Seq::new(alloc))
 }
 
 #[test]
 fn gives_a_tree_of_the_first_files(rt: HostRuntime) -> Result<(), Fail> {
-    assert!(rt; gives_tree(rt.alloc(), "/c")?);
-    assert!(rt; gives_tree(rt.alloc(), "/c/")?);
+    play_all(&rt, files_of_a_tree(rt.alloc()), &TREE)?;
+    play_all(&rt, files_of_a_tree(rt.alloc()), &TREE_BY_ITS_OTHER_PATH)?;
     Ok(())
 }

@@ -10,6 +10,8 @@
 #[cfg(test)]
 mod inputs;
 #[cfg(test)]
+mod read;
+#[cfg(test)]
 mod spellings;
 #[cfg(test)]
 mod views;

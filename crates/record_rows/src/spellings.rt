@@ -1,6 +1,9 @@
 //! Spellings that the tests read, made by the grammar in docs/journal.md and not by `record_codec`: a view with something of each type,
 //! and an input that a look makes; and where their fields begin.
 
+use f2b_base::{Bytes, NoMemory};
+use std::alloc::Global;
+
 /// A view of one jail, with a log, two failures, two bans, two past bans, a lane that is up, and a job.
 pub(crate) const VIEW: [u8; 290] = [
     0xe8, 7, 0x80, 0xa3, 5, 1, 4, 0x73, 0x73, 0x68, 0x64, 1, 2, 0x2f, 0x61, 1, 0x9f, 0x38, 5, 2,
@@ -48,4 +51,15 @@ pub(crate) fn cut_place(starts: &[u64], len: u64) -> u64 {
         }
     }
     place
+}
+
+/// The bytes with one of them turned.
+pub(crate) fn turned(alloc: Global, bytes: &[u8], at: usize, turn: u8) -> Result<Bytes, NoMemory> {
+    let (front, rest) = bytes.split_at_checked(at).unwrap_or((bytes, &[]));
+    let mut turned = Bytes::from_slice(alloc, front)?;
+    if let Some((first, behind)) = rest.split_first() {
+        turned.push(*first ^ turn)?;
+        turned.push_slice(behind)?;
+    }
+    Ok(turned)
 }

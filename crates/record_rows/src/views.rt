@@ -1,97 +1,102 @@
 //! Views that are read, cut, turned and broken.
 
-use crate::spellings::{VIEW, VIEW_STARTS, cut_place};
-use f2b_base::{Bytes, View};
-use record_codec::{ReadError, read_view, read_view_v1, view_len, write_view};
+use crate::read::{counts, fault, has_one_spelling, same, spelling};
+use crate::spellings::{VIEW, VIEW_STARTS, cut_place, turned};
+use f2b_base::{Bytes, NoMemory, View};
+use record_codec::{ReadError, read_view, read_view_v1};
 use std::alloc::Global;
 use std::process::Abort;
 use std::test::Fail;
 
-// The place at which a view is bad.
-fn view_fault(rt: &impl Abort, alloc: Global, bytes: &[u8]) -> Option<u64> {
-    match read_view(alloc, bytes) {
-        Ok(_) => None,
-        Err(ReadError::Bad(at)) => Some(at),
-        Err(ReadError::NoMemory) => {
-            assert!(rt; false, "no memory");
-            None
-        }
+fn whole_view() -> &'static [u8] {
+    &VIEW
+}
+
+fn next_ban(read: Result<(View, u64), ReadError>) -> Option<u64> {
+    match read {
+        Ok((view, _)) => Some(view.next_ban),
+        Err(_) => None,
     }
 }
 
-// What a view is spelt as is what was read of it.
-fn is_spelt_as(alloc: Global, view: &View, bytes: &[u8]) -> Result<bool, Fail> {
-    let mut out = Bytes::new(alloc);
-    write_view(alloc, view, &mut out)?;
-    Ok(out.as_slice() == bytes && view_len(view) == bytes.len() as u64)
-}
-
-fn is_read(rt: &impl Abort, alloc: Global, bytes: &[u8]) -> Result<(), Fail> {
-    let (view, len) = read_view(alloc, bytes).or(Err("not read"))?;
-    assert_eq!(rt; len, 290);
-    assert_eq!(rt; view.next_ban, 4);
-    assert!(rt; is_spelt_as(alloc, &view, bytes)?);
-    Ok(())
+fn is_read(rt: &impl Abort, alloc: Global, bytes: &[u8]) {
+    let saw = spelling(alloc, bytes, read_view(alloc, bytes));
+    same(rt, "a view", saw, Ok((290, true)));
+    let saw = next_ban(read_view(alloc, bytes));
+    same(rt, "the next ban", saw, Some(4));
 }
 
 #[test]
-fn a_view_with_each_type_is_read_and_written_again(rt: HostRuntime) -> Result<(), Fail> {
-    is_read(&rt, rt.alloc(), &VIEW)
+fn a_view_with_each_type_is_read_and_written_again(rt: HostRuntime) {
+    is_read(&rt, rt.alloc(), whole_view());
+}
+
+// Bytes are no view, and bad at this place.
+fn is_bad(rt: &impl Abort, alloc: Global, what: &str, bytes: &[u8], place: u64) {
+    let saw = fault(read_view(alloc, bytes));
+    same(rt, (what, bytes.len()), saw, Some(ReadError::Bad(place)));
 }
 
 // A view that is cut anywhere is bad where the field begins that is cut.
 fn are_cut(rt: &impl Abort, alloc: Global, bytes: &[u8], starts: &[u64]) {
     for len in 0..bytes.len() {
-        let place = view_fault(rt, alloc, &bytes[..len]);
-        assert_eq!(rt; place, Some(cut_place(starts, len as u64)), "cut at {len}");
+        let place = cut_place(starts, len as u64);
+        is_bad(rt, alloc, "cut", &bytes[..len], place);
     }
 }
 
 #[test]
 fn a_view_that_is_cut_is_bad_at_the_field_that_is_cut(rt: HostRuntime) {
-    are_cut(&rt, rt.alloc(), &VIEW, &VIEW_STARTS);
+    are_cut(&rt, rt.alloc(), whole_view(), &VIEW_STARTS);
 }
 
 // A view with one byte turned is bad somewhere, or is another view, spelt just so.
-fn turned(rt: &impl Abort, alloc: Global, bytes: &[u8], at: usize, turn: u8) -> Result<(), Fail> {
-    let mut turned = Bytes::new(alloc);
-    let (front, rest) = bytes.split_at_checked(at).ok_or("past the end")?;
-    let (first, behind) = rest.split_first().ok_or("past the end")?;
-    turned.push_slice(front)?;
-    turned.push(*first ^ turn)?;
-    turned.push_slice(behind)?;
-    match read_view(alloc, turned.as_slice()) {
-        Ok((view, len)) => {
-            let front = turned.as_slice().get(..len as usize).ok_or("too long")?;
-            assert!(rt; is_spelt_as(alloc, &view, front)?, "byte {at}");
-        }
-        Err(error) => assert!(rt; error != ReadError::NoMemory),
-    }
+fn is_turned(
+    rt: &impl Abort,
+    alloc: Global,
+    bytes: &[u8],
+    at: usize,
+    turn: u8,
+) -> Result<(), NoMemory> {
+    let bytes = turned(alloc, bytes, at, turn)?;
+    let bytes = bytes.as_slice();
+    let saw = has_one_spelling(alloc, bytes, read_view(alloc, bytes));
+    same(rt, (at, turn), saw, true);
     Ok(())
 }
 
+fn is_turned_at(rt: &impl Abort, alloc: Global, bytes: &[u8], at: usize) -> Result<(), NoMemory> {
+    is_turned(rt, alloc, bytes, at, 0x80)?;
+    is_turned(rt, alloc, bytes, at, 1)?;
+    is_turned(rt, alloc, bytes, at, 0xff)
+}
+
 // The same for each of its bytes.
-fn each_byte_turned(rt: &impl Abort, alloc: Global, bytes: &[u8]) -> Result<(), Fail> {
+fn each_byte_turned(rt: &impl Abort, alloc: Global, bytes: &[u8]) -> Result<(), NoMemory> {
     for at in 0..bytes.len() {
-        turned(rt, alloc, bytes, at, 0x80)?;
-        turned(rt, alloc, bytes, at, 1)?;
-        turned(rt, alloc, bytes, at, 0xff)?;
+        is_turned_at(rt, alloc, bytes, at)?;
     }
     Ok(())
 }
 
 #[test]
 fn a_view_with_a_turned_byte_has_no_second_spelling(rt: HostRuntime) -> Result<(), Fail> {
-    each_byte_turned(&rt, rt.alloc(), &VIEW)
+    each_byte_turned(&rt, rt.alloc(), whole_view())?;
+    Ok(())
 }
 
 // The bytes with others in place of some.
-fn spliced(alloc: Global, bytes: &[u8], at: usize, gone: usize, new: &[u8]) -> Result<Bytes, Fail> {
-    let mut out = Bytes::new(alloc);
-    let (front, rest) = bytes.split_at_checked(at).ok_or("past the end")?;
-    out.push_slice(front)?;
+fn spliced(
+    alloc: Global,
+    bytes: &[u8],
+    at: usize,
+    gone: usize,
+    new: &[u8],
+) -> Result<Bytes, NoMemory> {
+    let (front, rest) = bytes.split_at_checked(at).unwrap_or((bytes, &[]));
+    let mut out = Bytes::from_slice(alloc, front)?;
     out.push_slice(new)?;
-    out.push_slice(rest.get(gone..).ok_or("past the end")?)?;
+    out.push_slice(rest.get(gone..).unwrap_or(&[]))?;
     Ok(out)
 }
 
@@ -233,40 +238,37 @@ fn are_broken(
     alloc: Global,
     view: &[u8],
     rows: &[(&str, usize, usize, &[u8], u64)],
-) -> Result<(), Fail> {
+) -> Result<(), NoMemory> {
     for &(what, at, gone, new, place) in rows {
         let bytes = spliced(alloc, view, at, gone, new)?;
-        assert_eq!(rt;
-            view_fault(rt, alloc, bytes.as_slice()),
-            Some(place),
-            "{what}"
-        );
+        is_bad(rt, alloc, what, bytes.as_slice(), place);
     }
     Ok(())
 }
 
 #[test]
 fn a_view_that_is_broken_is_bad_at_the_first_field_at_fault(rt: HostRuntime) -> Result<(), Fail> {
-    are_broken(&rt, rt.alloc(), &VIEW, &BROKEN)
+    are_broken(&rt, rt.alloc(), whole_view(), &BROKEN)?;
+    Ok(())
 }
 
 // The view without the lines of its two failures.
-fn without_lines(alloc: Global, view: &[u8]) -> Result<Bytes, Fail> {
+fn without_lines(alloc: Global, view: &[u8]) -> Result<Bytes, NoMemory> {
     let half = spliced(alloc, view, 185, 3, &[])?;
     spliced(alloc, half.as_slice(), 164, 2, &[])
 }
 
-fn has_no_lines(rt: &impl Abort, alloc: Global, view: &[u8]) -> Result<(), Fail> {
-    let with = read_view_v1(alloc, view).err().ok_or("read")?;
-    assert_eq!(rt; with, ReadError::Bad(164));
-    let without = without_lines(alloc, view)?;
-    let (view, len) = read_view_v1(alloc, without.as_slice()).or(Err("not read"))?;
-    assert_eq!(rt; len, 285);
-    assert_eq!(rt; view_len(&view), 287);
+fn has_no_lines(rt: &impl Abort, alloc: Global, view: &[u8]) -> Result<(), NoMemory> {
+    let with = fault(read_view_v1(alloc, view));
+    same(rt, "with lines", with, Some(ReadError::Bad(164)));
+    let bytes = without_lines(alloc, view)?;
+    let without = counts(read_view_v1(alloc, bytes.as_slice()));
+    same(rt, "without lines", without, Ok((285, 287)));
     Ok(())
 }
 
 #[test]
 fn version_one_has_no_lines(rt: HostRuntime) -> Result<(), Fail> {
-    has_no_lines(&rt, rt.alloc(), &VIEW)
+    has_no_lines(&rt, rt.alloc(), whole_view())?;
+    Ok(())
 }

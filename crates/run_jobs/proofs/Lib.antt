@@ -5,4 +5,5 @@ mod StepLemmas
 mod Rows
 mod LoadedLemmas
 mod ServerLemmas
+mod ServedLemmas
 pub mod RunLemmas

@@ -21,6 +21,8 @@ use Rattle.f2b_model.specs.Steps.{is_ban_due, moves}
 use Rattle.f2b_model.specs.Whole.{step}
 use Rattle.f2b_world.specs.Told.{History}
 use Rattle.f2b_world.specs.Walks.{after}
+use Rattle.f2b_world.specs.declared.answer.Listen.{Listen}
+use Rattle.f2b_world.specs.declared.answer.Listen.TheVariants.{Listening, Failed as ListenFailed}
 use Rattle.f2b_world.specs.declared.answer.Look.{Look}
 use Rattle.f2b_world.specs.declared.answer.Look.TheVariants.{File, Absent, Failed as LookFailed, NoMemory as LookNoMemory}
 use Rattle.f2b_world.specs.declared.answer.MakeAnswer.{MakeAnswer}
@@ -31,7 +33,7 @@ use Rattle.f2b_world.specs.declared.answer.Said.TheVariants.{Done, Failed as Say
 use Rattle.f2b_world.specs.declared.answer.StartAnswer.{StartAnswer}
 use Rattle.f2b_world.specs.declared.answer.StartAnswer.TheVariants.{Started, Failed as StartFailed, NoMemory as StartNoMemory}
 use Rattle.f2b_world.specs.declared.event.Event.{Event}
-use Rattle.f2b_world.specs.declared.event.Event.TheVariants.{Say, DiskLen, DiskRead, DiskWrite, DiskSync, Make, Clock, Config, StoreAt, Names, Look as LookAt, ChildStart, ChildPoll, ChildKill, Pause}
+use Rattle.f2b_world.specs.declared.event.Event.TheVariants.{Say, DiskLen, DiskRead, DiskWrite, DiskSync, Make, Clock, Config, StoreAt, Names, Look as LookAt, ChildStart, ChildPoll, ChildKill, GateListen, GateAccept, GateRead, GateWrite, GateClose, Pause}
 use Rattle.child_table.specs.Children.{has, jobs_of, most_children}
 use Rattle.child_table.specs.Late.{is_late}
 use Rattle.child_table.specs.declared.child.Child.{Child}
@@ -55,22 +57,26 @@ use Rattle.run_law.specs.News.{News, after_news, brings, nothing, only}
 use Rattle.run_law.specs.Paths.{Path, Naming, first_naming, named, with_paths}
 use Rattle.run_law.specs.Patterns.{Pattern, patterns_of}
 use Rattle.run_law.specs.Pause.{turned}
-use Rattle.run_law.specs.Points.{Place, AtClock, AtLook, AtPoll, AtKill, AtStart, AtPause, Point, AtTree, AtMakes, AtStore, AtFirst, AtNames, AtTurn, Over, Run}
+use Rattle.run_law.specs.Points.{Place, AtClock, AtLook, AtPoll, AtKill, AtAccept, AtClient, AtClose, AtStart, AtPause, Point, AtTree, AtMakes, AtStore, AtListen, AtFirst, AtNames, AtTurn, Over, Run}
 use Rattle.run_law.specs.Polls.{end_news, end_of, ended_as, gone, gone_passed, has_succeeded, killed_at, polled_at, still_point}
 use Rattle.run_law.specs.Served.{IsStartFor, Obeys, StartsAt, StartsInTurn, run_after}
 use Rattle.run_law.specs.Server.{Server, begun, is_stopping, jobs, lanes_up, log_jails, read_at}
 use Rattle.run_law.specs.Said.{ready_line}
-use Rattle.run_law.specs.Start.{config_news, defined, first_turn, loads, made, makes_on, names_in, start_news, to_makes, to_names, tree_read, unread_by}
+use Rattle.run_law.specs.Serving.{Onward, Service, closes, lets_in, point_on, reads as reads_client, serves, with_clients, writes}
+use Rattle.run_law.specs.Start.{config_news, defined, first_turn, listened, loads, made, makes_on, names_in, start_news, to_makes, to_names, tree_read, unread_by}
 use Rattle.run_law.specs.Starts.{child_started, with_child, without_child}
-use Rattle.run_law.specs.Turn.{look_point, start_place, start_point, to_accept, to_children, to_end, to_logs, to_looks, to_polls, to_starts}
+use Rattle.run_law.specs.Turn.{at_pause, is_drained, look_point, start_place, start_point, to_accept, to_children, to_end, to_logs, to_looks, to_polls, to_starts}
 use Rattle.run_law.specs.Words.{plan_of}
 use Rattle.run_law.specs.declared.plan.Plan.{Plan}
+use Rattle.run_law.specs.declared.status.Status.TheVariants.{Stopped}
 use Rattle.run_law.proofs.FieldLemmas.{feed_slots}
 use Rattle.run_law.proofs.NewsLemmas.{brings_point, measured_point, piece_point, synced_point, wrote_point}
+use Rattle.run_law.proofs.ServingLemmas.{accept_point, onward_point}
 use Rattle.run_law.proofs.StartedLemmas.{starts_in_turn}
 use Rattle.run_jobs.specs.Runs.{HoldBytes, TriesJobsInOrder, start_of, starts_in}
 use Rattle.run_jobs.proofs.OnceLemmas.{has_append, has_last}
 use Rattle.run_jobs.proofs.LoadedLemmas.{loaded_fine}
+use Rattle.run_jobs.proofs.ServedLemmas.{lets_in_fine, reads_fine}
 use Rattle.run_jobs.proofs.StepLemmas.{IsStarted, StandsInOrder}
 use Rattle.run_jobs.proofs.LedgerLemmas.{fine_in_order, started_fine}
 use Rattle.run_jobs.proofs.ServerLemmas.{BringsStarted, IsServerInOrder, after_right, begun_right, gone_right, has_at, passed_right, with_right, without_right}
@@ -82,6 +88,7 @@ module _ (started : List ℕ) where
   IsPointInOrder (AtTurn place s) = IsServerInOrder started s
   IsPointInOrder (AtNames settings naming s) = IsServerInOrder started s
   IsPointInOrder (Over status) = Unit {0}
+  IsPointInOrder (AtListen settings l) = (started ≡ []) × StandsInOrder [] l.state.lanes
   IsPointInOrder (AtFirst settings l) = (started ≡ []) × StandsInOrder [] l.state.lanes
   IsPointInOrder _ = started ≡ []
 
@@ -91,7 +98,7 @@ module _ (started : List ℕ) where
 
   right_end : (s : Server) → IsServerInOrder started s → IsPointInOrder (to_end s)
   unfolding to_end
-  right_end s right = right
+  right_end s right = right_if (is_drained s) (Over Stopped) (at_pause s) tt right
 
   right_start : (o : Option Job) (s : Server) → IsServerInOrder started s → IsPointInOrder (start_point o s)
   right_start None s right = right_end s right
@@ -101,9 +108,11 @@ module _ (started : List ℕ) where
   unfolding to_starts
   right_starts s right = right_start (startable s.now s.children (jobs s)) s right
 
+  right_onward : (o : Onward) (s : Server) → IsServerInOrder started s → IsPointInOrder (point_on o s)
+  right_onward o s right = onward_point IsPointInOrder s (λ i. right) (λ i. right) (right_starts s right) o
+
   right_accept : (s : Server) → IsServerInOrder started s → IsPointInOrder (to_accept s)
-  unfolding to_accept
-  right_accept s right = right_starts s right
+  right_accept s right = accept_point IsPointInOrder s (λ i. right) (λ i. right) (right_starts s right) right
 
   right_polls : (i : ℕ) (s : Server) → IsServerInOrder started s → IsPointInOrder (to_polls i s)
   right_polls i s right = right_if (nat_lt i (length s.children.running)) (AtTurn (AtPoll i) s) (to_accept s) right (right_accept s right)
@@ -189,6 +198,10 @@ module _ (started : List ℕ) where
   right_loads (Ok l) settings r fine none = (none, fine l refl)
   right_loads (Err place) settings r fine none = tt
 
+  right_listened : (answer : Listen) (settings : Settings) (l : Loaded) (r : Run) → (started ≡ []) × StandsInOrder [] l.state.lanes → IsPointInOrder (listened answer settings l r).point
+  right_listened Listening settings l r right = right
+  right_listened ListenFailed settings l r right = tt
+
   right_names : (before : List (List ℕ)) (settings : Settings) (naming : Naming) (left : List Path) (s : Server) (r : Run) → IsServerInOrder started s → IsPointInOrder (to_names before settings naming left s r).point
   right_names before settings naming [] s r right =
       let defs : Defs = with_paths settings.defs naming.found in
@@ -235,6 +248,11 @@ module _ (started : List ℕ) where
       right_brings (end_news c NotStarted) to_starts right_starts (without_child c s) r (without_right started c s right) (ends c.task c.job NotStarted is)
   right_child StartNoMemory c s r is right same = same
 
+  -- a call on a client
+  right_serves : (x : Service) (s : Server) (r : Run) → BringsStarted started x.news.what → IsServerInOrder started s → IsPointInOrder (serves x s r).point
+  right_serves x s r is right =
+      right_brings x.news (point_on x.onward) (right_onward x.onward) (with_clients x.clients s) r (record { lanes = right.lanes; children = right.children }) is
+
   -- ---- an event that starts nothing
 
   abbrev IsNoStart : Event → Type 0
@@ -247,6 +265,10 @@ module _ (started : List ℕ) where
   right_turns (AtLook i) (LookAt path head from max answer) s r none right same = right_looked_at (slice_get s.logs i) answer i s r right same
   right_turns (AtPoll i) (ChildPoll job answer) s r none right same = right_polled (slice_get s.children.running i) answer i s r refl right same
   right_turns (AtKill i) (ChildKill job) s r none right same = right_killed (slice_get s.children.running i) i s r refl right same
+  right_turns AtAccept (GateAccept answer) s r none right same = right_serves (lets_in answer s) s r (lets_in_fine started answer s) right
+  right_turns (AtClient i) (GateRead conn max answer) s r none right same = right_serves (reads_client answer i s) s r (reads_fine started answer i s) right
+  right_turns (AtClient i) (GateWrite conn bytes answer) s r none right same = right_serves (writes answer i s) s r tt right
+  right_turns (AtClose i) (GateClose conn) s r none right same = right_serves (closes i s) s r tt right
   right_turns (AtStart c text) (ChildStart job command answer) s r none right same = absurd none
   right_turns AtPause (Pause ms) s r none right same = right_turned (s.left - 1) s right
   right_turns _ _ s r none right same = same
@@ -256,6 +278,7 @@ module _ (started : List ℕ) where
   right_moved (AtMakes settings left) (Make text answer) r bytes none right same = right_makes_on left answer settings r right same
   right_moved (AtStore settings) (StoreAt socket answer) r bytes none right same =
       right_loads (loaded r.plan.limit r.slots) settings r (λ l is. loaded_fine r.plan.limit r.slots l bytes is) right
+  right_moved (AtListen settings l) (GateListen socket answer) r bytes none right same = right_listened answer settings l r right
   right_moved (AtFirst settings l) (Clock answer) r bytes none right same =
       let P : List ℕ → Type 0 = λ js. IsServerInOrder js (begun r.plan.turns l answer) in
       right_names [] settings (first_naming settings.defs) (first_naming settings.defs).left (begun r.plan.turns l answer) r (subst P (sym right.0) (begun_right r.plan.turns l answer right.1))

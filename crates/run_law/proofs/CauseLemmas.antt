@@ -1,7 +1,7 @@
 -- Counts of faults, and causes, over several calls.
 use Rattle.std.proofs.Common.{ℕ, ◌≡◌, ◌≤◌, List, [], ◌∷◌, inl, inr, refl, sym, ◌∙◌, subst, arith}
 use Rattle.std.proofs.lemmas.Bool.{cases_lt}
-use Rattle.f2b_world.specs.Faults.{OfSink, OfDisk, OfConfiguration, OfPatterns, Rose}
+use Rattle.f2b_world.specs.Faults.{OfSink, OfDisk, OfConfiguration, OfGate, OfPatterns, Rose}
 use Rattle.f2b_world.specs.Told.{Called, History, IsHonest, Standing}
 use Rattle.f2b_world.specs.declared.event.Event.{Event}
 use Rattle.slot_writes.specs.declared.position.Position.{Position}
@@ -49,7 +49,7 @@ cause_later old mid new (ConfRefused error) steady cause = cause
 cause_later old mid new DiskFault steady cause = rose_later _ _ _ (steady.counts OfDisk) cause
 cause_later old mid new (NotAJournal slot at) steady cause = tt
 cause_later old mid new (JournalFull need limit) steady cause = tt
-cause_later old mid new GateFault steady cause = tt
+cause_later old mid new GateFault steady cause = rose_later _ _ _ (steady.counts OfGate) cause
 cause_later old mid new SinkFault steady cause = rose_later _ _ _ (steady.counts OfSink) cause
 cause_later old mid new ConfTooLarge steady cause = tt
 cause_later old mid new (PatternRefused jail place Syntax) steady cause = cause
@@ -72,7 +72,7 @@ cause_by_then old mid new (ConfRefused error) before after cause = cause
 cause_by_then old mid new DiskFault before after cause = rose_by_then _ _ _ (before.counts OfDisk) (after.counts OfDisk) cause
 cause_by_then old mid new (NotAJournal slot at) before after cause = tt
 cause_by_then old mid new (JournalFull need limit) before after cause = tt
-cause_by_then old mid new GateFault before after cause = tt
+cause_by_then old mid new GateFault before after cause = rose_by_then _ _ _ (before.counts OfGate) (after.counts OfGate) cause
 cause_by_then old mid new SinkFault before after cause = rose_by_then _ _ _ (before.counts OfSink) (after.counts OfSink) cause
 cause_by_then old mid new ConfTooLarge before after cause = tt
 cause_by_then old mid new (PatternRefused jail place Syntax) before after cause = cause

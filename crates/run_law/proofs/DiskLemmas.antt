@@ -4,16 +4,18 @@ use Rattle.std.specs.Prelude.{IfSome, option_map, slice_get}
 use Rattle.f2b_world.specs.declared.event.Event.{Event}
 use Rattle.f2b_world.specs.declared.event.Event.TheVariants.{DiskLen, DiskRead, DiskWrite, DiskSync}
 use Rattle.child_table.specs.declared.child.Child.{Child}
+use Rattle.client_table.specs.Clients.{asks_at, conn_at}
 use Rattle.run_law.specs.Calls.{Call, AskKill, AskPoll, AskWrite, IsNext, Makes}
 use Rattle.run_law.specs.Law.{MayCome, call_behind, call_of, next_call, point_call, turn_call}
 use Rattle.run_law.specs.Looks.{log_call}
 use Rattle.run_law.specs.News.{writing}
 use Rattle.run_law.specs.Paths.{Path}
 use Rattle.run_law.specs.Patterns.{Pattern}
-use Rattle.run_law.specs.Points.{Place, AtClock, AtLook, AtPoll, AtKill, AtStart, AtPause, Point, AtTree, AtMakes, AtStore, AtFirst, AtNames, AtTurn, Over, Run}
+use Rattle.run_law.specs.Points.{Place, AtClock, AtLook, AtPoll, AtKill, AtAccept, AtClient, AtClose, AtStart, AtPause, Point, AtTree, AtMakes, AtStore, AtListen, AtFirst, AtNames, AtTurn, Over, Run}
 use Rattle.run_law.specs.Server.{Server}
 use Rattle.run_law.specs.Start.{make_call, names_call}
 use Rattle.run_law.specs.declared.plan.Plan.{Plan}
+use Rattle.run_law.proofs.ServingLemmas.{asked_is}
 use Rattle.run_law.specs.declared.status.Status.TheVariants.{SinkFault}
 use Rattle.slot_writes.specs.Writes.{Write, Put, Sync}
 
@@ -63,6 +65,9 @@ turn_no_write AtClock s = tt
 turn_no_write (AtLook i) s = mapped_no_write (slice_get s.logs i) log_call (λ l. tt)
 turn_no_write (AtPoll i) s = mapped_no_write (slice_get s.children.running i) (λ (c : Child). AskPoll c.job) (λ c. tt)
 turn_no_write (AtKill i) s = mapped_no_write (slice_get s.children.running i) (λ (c : Child). AskKill c.job) (λ c. tt)
+turn_no_write AtAccept s = tt
+turn_no_write (AtClient i) s = asked_is IsNoWrite (conn_at i s.clients) (asks_at i s.clients) (λ bytes. tt) (λ most. tt)
+turn_no_write (AtClose i) s = tt
 turn_no_write (AtStart c text) s = tt
 turn_no_write AtPause s = tt
 
@@ -70,6 +75,7 @@ pub point_no_write : (plan : Plan) (point : Point) → IfSome (point_call plan p
 point_no_write plan AtTree = tt
 point_no_write plan (AtMakes settings left) = makes_no_write left
 point_no_write plan (AtStore settings) = tt
+point_no_write plan (AtListen settings l) = tt
 point_no_write plan (AtFirst settings l) = tt
 point_no_write plan (AtNames settings naming s) = names_no_write naming.left
 point_no_write plan (AtTurn place s) = turn_no_write place s

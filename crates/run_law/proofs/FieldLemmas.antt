@@ -9,6 +9,8 @@ use Rattle.f2b_base.specs.declared.outside.TreeAnswer.{TreeAnswer}
 use Rattle.f2b_base.specs.declared.outside.TreeAnswer.TheVariants.{Tree, Failed as TreeFailed, TooLarge as TreeTooLarge, NoMemory as TreeNoMemory}
 use Rattle.f2b_world.specs.declared.answer.Len.{Len}
 use Rattle.f2b_world.specs.declared.answer.Len.TheVariants.{Bytes as LenIs, Failed as LenFailed}
+use Rattle.f2b_world.specs.declared.answer.Listen.{Listen}
+use Rattle.f2b_world.specs.declared.answer.Listen.TheVariants.{Listening, Failed as ListenFailed}
 use Rattle.f2b_world.specs.declared.answer.Look.{Look}
 use Rattle.f2b_world.specs.declared.answer.Look.TheVariants.{File, Absent, Failed as LookFailed, NoMemory as LookNoMemory}
 use Rattle.f2b_world.specs.declared.answer.MakeAnswer.{MakeAnswer}
@@ -25,7 +27,7 @@ use Rattle.f2b_world.specs.declared.answer.Wrote.TheVariants.{Done as WroteDone,
 use Rattle.f2b_world.specs.declared.answer.StartAnswer.{StartAnswer}
 use Rattle.f2b_world.specs.declared.answer.StartAnswer.TheVariants.{Started, Failed as StartFailed, NoMemory as StartNoMemory}
 use Rattle.f2b_world.specs.declared.event.Event.{Event}
-use Rattle.f2b_world.specs.declared.event.Event.TheVariants.{Say, DiskLen, DiskRead, DiskWrite, DiskSync, Make, Clock, Config, StoreAt, Names, Look as LookAt, ChildStart, ChildPoll, ChildKill, Pause}
+use Rattle.f2b_world.specs.declared.event.Event.TheVariants.{Say, DiskLen, DiskRead, DiskWrite, DiskSync, Make, Clock, Config, StoreAt, Names, Look as LookAt, ChildStart, ChildPoll, ChildKill, GateListen, GateAccept, GateRead, GateWrite, GateClose, Pause}
 use Rattle.jail_conf.specs.Conf.{conf}
 use Rattle.jail_conf.specs.declared.conf_error.ConfError.{ConfError}
 use Rattle.jail_conf.specs.declared.settings.Settings.{Settings}
@@ -39,18 +41,19 @@ use Rattle.run_law.specs.Looks.{look_news, look_taken, looked, looked_at, now_is
 use Rattle.run_law.specs.News.{News, brings, brings_by, entered, entering, goes_to, owing, refused, taking, writing}
 use Rattle.run_law.specs.Paths.{Path, Naming, first_naming, named, with_paths}
 use Rattle.run_law.specs.Patterns.{Pattern}
-use Rattle.run_law.specs.Points.{Place, AtClock, AtLook, AtPoll, AtKill, AtStart, AtPause, Point, AtTree, AtMakes, AtStore, AtFirst, AtNames, AtTurn, Over, Run}
+use Rattle.run_law.specs.Points.{Place, AtClock, AtLook, AtPoll, AtKill, AtAccept, AtClient, AtClose, AtStart, AtPause, Point, AtTree, AtMakes, AtStore, AtListen, AtFirst, AtNames, AtTurn, Over, Run}
 use Rattle.run_law.specs.Polls.{end_news, ended_as, gone, has_succeeded, killed_at, polled_at}
 use Rattle.run_law.specs.Refusals.{status_lines}
 use Rattle.run_law.specs.Server.{Server, begun, entry_in, input_at, read_at}
-use Rattle.run_law.specs.Start.{defined, first_turn, loads, made, makes_on, names_in, start_news, to_names, tree_read, unread_by}
+use Rattle.run_law.specs.Serving.{Service, closes, lets_in, point_on, reads, serves, with_clients, writes as writes_to}
+use Rattle.run_law.specs.Start.{defined, first_turn, listened, loads, made, makes_on, names_in, start_news, to_names, tree_read, unread_by}
 use Rattle.run_law.specs.Starts.{child_started, without_child}
 use Rattle.run_law.specs.Turn.{to_logs, to_looks, to_polls, to_starts}
 use Rattle.run_law.proofs.DiskLemmas.{writing_says}
 use Rattle.slot_writes.specs.Entries.{Entry, Written, Full, Spent}
 use Rattle.slot_writes.specs.Writes.{Write}
 use Rattle.run_law.specs.declared.status.Status.{Status}
-use Rattle.run_law.specs.declared.status.Status.TheVariants.{ConfFault, ConfRefused, ConfTooLarge}
+use Rattle.run_law.specs.declared.status.Status.TheVariants.{ConfFault, ConfRefused, ConfTooLarge, GateFault}
 
 -- an event that says nothing
 abbrev pub IsNoSay : Event → Type 0
@@ -102,6 +105,10 @@ module _ {A : Type 0} (field : Run → A) (goes : (point : Point) (r : Run) → 
   loads_stay (Ok l) settings r = goes _ r
   loads_stay (Err place) settings r = refused_stays 0 _ r
 
+  listened_stays : (answer : Listen) (settings : Settings) (l : Loaded) (r : Run) → field (listened answer settings l r) ≡ field r
+  listened_stays Listening settings l r = goes _ r
+  listened_stays ListenFailed settings l r = refused_stays 0 GateFault r
+
   names_stay : (before : List (List ℕ)) (settings : Settings) (naming : Naming) (left : List Path) (s : Server) (r : Run) → field (to_names before settings naming left s r) ≡ field r
   names_stay before settings naming [] s r = brings_stays (start_news before (with_paths settings.defs naming.found) s) first_turn s r
   names_stay before settings naming (p ∷ ps) s r = brings_stays (record { before = before; what = None; behind = [] }) (AtNames settings naming) s r
@@ -135,11 +142,18 @@ module _ {A : Type 0} (field : Run → A) (goes : (point : Point) (r : Run) → 
   started_stays StartFailed c s r = brings_stays (end_news c NotStarted) to_starts (without_child c s) r
   started_stays StartNoMemory c s r = refl
 
+  serves_stay : (x : Service) (s : Server) (r : Run) → field (serves x s r) ≡ field r
+  serves_stay x s r = brings_stays x.news (point_on x.onward) (with_clients x.clients s) r
+
   turns_stay : (place : Place) (event : Event) (s : Server) (r : Run) → field (turns place event s r) ≡ field r
   turns_stay AtClock (Clock answer) s r = brings_stays (tick_news (read_at answer s)) to_logs (read_at answer s) r
   turns_stay (AtLook i) (LookAt path head from max answer) s r = looked_at_stays (slice_get s.logs i) answer i s r
   turns_stay (AtPoll i) (ChildPoll job answer) s r = polled_stays (slice_get s.children.running i) answer i s r
   turns_stay (AtKill i) (ChildKill job) s r = killed_stays (slice_get s.children.running i) i s r
+  turns_stay AtAccept (GateAccept answer) s r = serves_stay (lets_in answer s) s r
+  turns_stay (AtClient i) (GateRead conn max answer) s r = serves_stay (reads answer i s) s r
+  turns_stay (AtClient i) (GateWrite conn bytes answer) s r = serves_stay (writes_to answer i s) s r
+  turns_stay (AtClose i) (GateClose conn) s r = serves_stay (closes i s) s r
   turns_stay (AtStart c text) (ChildStart job command answer) s r = started_stays answer c s r
   turns_stay AtPause (Pause ms) s r = goes _ r
   turns_stay _ _ s r = refl
@@ -148,6 +162,7 @@ module _ {A : Type 0} (field : Run → A) (goes : (point : Point) (r : Run) → 
   moved_stays AtTree (Config root answer) r = tree_stays answer r
   moved_stays (AtMakes settings left) (Make text answer) r = makes_stay left answer settings r
   moved_stays (AtStore settings) (StoreAt socket answer) r = loads_stay (loaded r.plan.limit r.slots) settings r
+  moved_stays (AtListen settings l) (GateListen socket answer) r = listened_stays answer settings l r
   moved_stays (AtFirst settings l) (Clock answer) r = names_stay [] settings (first_naming settings.defs) (first_naming settings.defs).left (begun r.plan.turns l answer) r
   moved_stays (AtNames settings naming s) (Names dir answer) r = let next = named (names_in answer) naming in names_stay (unread_by answer s.now naming.left) settings next next.left s r
   moved_stays (AtTurn place s) event r = turns_stay place event s r

@@ -1,20 +1,21 @@
 -- An input that reads a log, a tick, and the end of a try or of a check leave the jails as the set of the logs has them: each jail's definition, and whether it is idle.
-use Rattle.std.proofs.Common.{◌≡◌, ℕ, List, [], ◌∷◌, map, refl, ◌∙◌, ap, ap₂}
+use Rattle.std.proofs.Common.{◌≡◌, ℕ, cond, Option, List, [], ◌∷◌, map, refl, ◌∙◌, ap, ap₂}
 use Rattle.std.specs.Prelude.{bytes_eq}
 use Rattle.std.specs.List.{filter}
+use Rattle.f2b_base.specs.declared.addr.Addr.{Addr}
 use Rattle.f2b_base.specs.declared.ban.Ban.{Ban}
 use Rattle.f2b_base.specs.declared.ban.Failure.{Failure}
 use Rattle.f2b_base.specs.declared.input.Input.{Input}
 use Rattle.f2b_base.specs.declared.input.What.{What}
-use Rattle.f2b_base.specs.declared.input.What.TheVariants.{Read, Tick, Ended, CheckFailed}
+use Rattle.f2b_base.specs.declared.input.What.TheVariants.{Ban as BanThese, Unban, Attempt, Read, Tick, Ended, CheckFailed}
 use Rattle.f2b_base.specs.declared.jail.Place.{Place}
 use Rattle.f2b_base.specs.declared.job.Outcome.{Outcome}
 use Rattle.f2b_model.specs.Full.{is_full}
 use Rattle.f2b_model.specs.Lanes.{books}
 use Rattle.f2b_model.specs.Lists.{in_order}
-use Rattle.f2b_model.specs.Moves.{JailAndSerial, counts, counted, dropped, ended, followed, found, is_banned}
+use Rattle.f2b_model.specs.Moves.{JailAndSerial, banned, counts, counted, dropped, ended, followed, found, is_banned}
 use Rattle.f2b_model.specs.State.{Jail, JailsState, active_of, open_of}
-use Rattle.f2b_model.specs.Steps.{at_reading, done, end_all, ended_by_time, ends_before, found_in_turn, in_jail, is_due, is_spent, moves, own_end, raised, read_in_jail, step_by}
+use Rattle.f2b_model.specs.Steps.{at_reading, banned_in_turn, done, end_all, ended_by_time, ends_before, found_in_turn, in_jail, is_due, is_meant, is_meant_jail, is_spent, moves, own_end, raised, read_in_jail, step_by, unbanned}
 use Rattle.f2b_model.specs.Watches.{is_watched}
 use Rattle.f2b_model.specs.Whole.{State, is_whole_spent, step}
 use Rattle.f2b_model.proofs.ListLemmas.{by_test}
@@ -22,7 +23,7 @@ use Rattle.log_set.specs.Logs.{LogJail}
 use Rattle.run_law.specs.Logs.{log_jail}
 use Rattle.run_law.specs.Server.{Server, input_at, log_jails, taken}
 
-abbrev logged : List Jail → List LogJail
+abbrev pub logged : List Jail → List LogJail
 logged js = map log_jail js
 
 -- ---- one jail
@@ -45,12 +46,12 @@ read_same at word path place fs n j = by_test (is_watched path j.watches) _
 ended_same : (b : Ban) (moment : ℕ) (j : Jail) → log_jail (ended b.addr moment j) ≡ log_jail j
 ended_same b moment j = by_test (is_banned b.addr (active_of j.bans)) _ (λ e. rw e refl) (λ e. rw e refl)
 
-end_all_same : (bs : List Ban) (j : Jail) → log_jail (end_all moves own_end bs j) ≡ log_jail j
-end_all_same [] j = refl
-end_all_same (b ∷ bs) j = end_all_same bs (ended b.addr (own_end b) j) ∙ ended_same b (own_end b) j
+end_all_same : (moment : Ban → ℕ) (bs : List Ban) (j : Jail) → log_jail (end_all moves moment bs j) ≡ log_jail j
+end_all_same moment [] j = refl
+end_all_same moment (b ∷ bs) j = end_all_same moment bs (ended b.addr (moment b) j) ∙ ended_same b (moment b) j
 
 by_time_same : (at : ℕ) (j : Jail) → log_jail (ended_by_time moves at j) ≡ log_jail j
-by_time_same at j = end_all_same (in_order ends_before (filter (is_due at) (active_of j.bans))) j
+by_time_same at j = end_all_same own_end (in_order ends_before (filter (is_due at) (active_of j.bans))) j
 
 -- ---- all jails
 
@@ -65,7 +66,7 @@ in_jail_same name f e n (j ∷ js) = by_test (bytes_eq j.definition.name name) _
     (λ t. rw t (ap (λ l. l ∷ logged js) (e n j)))
     (λ t. rw t (ap (λ ls. log_jail j ∷ ls) (in_jail_same name f e n js)))
 
-reading_same : (secs : ℕ) (w : JailsState) → logged (at_reading moves secs w).jails ≡ logged w.jails
+pub reading_same : (secs : ℕ) (w : JailsState) → logged (at_reading moves secs w).jails ≡ logged w.jails
 reading_same secs w = each_same (ended_by_time moves (raised moves secs w).at) (by_time_same (raised moves secs w).at) w.jails
 
 -- what happened leaves the jails so
@@ -78,6 +79,33 @@ read_leaves jail path place fs word w = in_jail_same jail (read_in_jail moves w.
 tick_leaves : Leaves Tick
 tick_leaves word w = refl
 
+pub banned_same : (jail : List ℕ) (addrs : List Addr) → Leaves (BanThese jail addrs)
+banned_same jail addrs word w = in_jail_same jail (banned_in_turn moves w.at word addrs) (in_turn addrs) w.next_ban w.jails
+  where
+    one : (addr : Addr) (n : ℕ) (j : Jail) → log_jail (banned w.at word n addr j).jail ≡ log_jail j
+    one addr n j = by_test (is_banned addr (active_of j.bans)) _ (λ e. rw e refl) (λ e. rw e refl)
+
+    in_turn : (addrs : List Addr) (n : ℕ) (j : Jail) → log_jail (banned_in_turn moves w.at word addrs n j).jail ≡ log_jail j
+    in_turn [] n j = refl
+    in_turn (addr ∷ addrs) n j = let o = banned w.at word n addr j in in_turn addrs o.next o.jail ∙ one addr n j
+
+pub unbanned_same : (jail : Option (List ℕ)) (addrs : Option (List Addr)) → Leaves (Unban jail addrs)
+unbanned_same jail addrs word w = each_same (λ (j : Jail). cond (is_meant_jail jail j.definition) (unbanned moves w.at addrs j) j) one w.jails
+  where
+    one : (j : Jail) → log_jail (cond (is_meant_jail jail j.definition) (unbanned moves w.at addrs j) j) ≡ log_jail j
+    one j = by_test (is_meant_jail jail j.definition) _
+        (λ e. rw e (end_all_same (λ (b : Ban). w.at) (filter (is_meant addrs) (active_of j.bans)) j))
+        (λ e. rw e refl)
+
+pub attempt_same : (jail : List ℕ) (addr : Addr) → Leaves (Attempt jail addr)
+attempt_same jail addr word w =
+    let f : Failure = record { addr = addr; time = w.at; line = [] } in
+    in_jail_same jail (found_in_turn moves w.at word (f ∷ [])) (found_in_turn_same w.at word (f ∷ [])) w.next_ban w.jails
+
+-- what is over for long is dropped
+pub dropped_same : (at purge : ℕ) (js : List Jail) → logged (map (dropped at purge) js) ≡ logged js
+dropped_same at purge js = each_same (dropped at purge) (λ j. refl) js
+
 ended_leaves : (job : ℕ) (outcome : Outcome) → Leaves (Ended job outcome)
 ended_leaves job outcome word w = refl
 
@@ -88,7 +116,7 @@ jails_step_same : (w : JailsState) (input : Input) → Leaves input.what → log
 jails_step_same w input leaves =
     let after = done moves input.word input.what (at_reading moves input.secs w) in
     by_test (is_spent w) _ (λ e. rw e refl)
-    (λ e. rw e (each_same (dropped after.at after.purge) (λ j. refl) after.jails ∙ leaves input.word (at_reading moves input.secs w) ∙ reading_same input.secs w))
+    (λ e. rw e (dropped_same after.at after.purge after.jails ∙ leaves input.word (at_reading moves input.secs w) ∙ reading_same input.secs w))
 
 step_same : (s : State) (input : Input) → Leaves input.what → logged (step s input).jails.jails ≡ logged s.jails.jails
 step_same s input leaves = by_test (is_whole_spent moves books s) _ (λ e. rw e refl) (λ e. rw e (jails_step_same s.jails input leaves))

@@ -1,11 +1,4 @@
-mod RowJails
-mod StartRows
-mod ChildRows
-mod TreeRows
-mod TurnRows
-mod JournalRows
-mod BeginRows
-mod WordRows
+pub mod ServingLemmas
 pub mod DiskLemmas
 pub mod PointLemmas
 pub mod NewsLemmas
@@ -26,3 +19,4 @@ pub mod WordLemmas
 pub mod StopLemmas
 pub mod ServeLemmas
 pub mod JailLemmas
+pub mod ChangeLemmas

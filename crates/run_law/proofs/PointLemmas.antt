@@ -8,7 +8,7 @@ use Rattle.f2b_world.proofs.WalkLemmas.{walks_refl, walks_trans, walks_call}
 use Rattle.run_law.specs.Calls.{Call, AskSay, IsNext}
 use Rattle.run_law.specs.Law.{Free, Goes, Halts, Ends, IsOver, MayCome, call_of, feed, moved, next_call, point_call, turn_call, turns}
 use Rattle.run_law.specs.News.{refused}
-use Rattle.run_law.specs.Points.{Place, Point, AtTree, AtMakes, AtStore, AtFirst, AtNames, AtTurn, Over, Run}
+use Rattle.run_law.specs.Points.{Place, Point, AtTree, AtMakes, AtStore, AtListen, AtFirst, AtNames, AtTurn, Over, Run}
 use Rattle.run_law.specs.Refusals.{status_lines}
 use Rattle.run_law.specs.Said.{joined}
 use Rattle.run_law.specs.Server.{Server}
@@ -47,6 +47,7 @@ pub paid_call : (plan : Plan) (point : Point) → call_of plan point [] ≡ poin
 paid_call plan AtTree = refl
 paid_call plan (AtMakes settings left) = refl
 paid_call plan (AtStore settings) = refl
+paid_call plan (AtListen settings l) = refl
 paid_call plan (AtFirst settings l) = refl
 paid_call plan (AtNames settings naming s) = refl
 paid_call plan (AtTurn place s) = refl
@@ -91,6 +92,7 @@ pub saying_call : (plan : Plan) (point : Point) (line : List ℕ) (lines : List 
 saying_call plan AtTree line lines saying = refl
 saying_call plan (AtMakes settings left) line lines saying = refl
 saying_call plan (AtStore settings) line lines saying = refl
+saying_call plan (AtListen settings l) line lines saying = refl
 saying_call plan (AtFirst settings l) line lines saying = refl
 saying_call plan (AtNames settings naming s) line lines saying = refl
 saying_call plan (AtTurn place s) line lines saying = refl

@@ -18,28 +18,32 @@ use Rattle.f2b_world.specs.declared.answer.Said.TheVariants.{Done, Failed as Say
 use Rattle.f2b_world.specs.declared.answer.StartAnswer.{StartAnswer}
 use Rattle.f2b_world.specs.declared.answer.StartAnswer.TheVariants.{Started, Failed as StartFailed, NoMemory as StartNoMemory}
 use Rattle.f2b_world.specs.declared.event.Event.{Event}
-use Rattle.f2b_world.specs.declared.event.Event.TheVariants.{Say, DiskLen, DiskRead, DiskWrite, DiskSync, Make, Clock, Config, StoreAt, Names, Look as LookAt, ChildStart, ChildPoll, ChildKill, Pause}
+use Rattle.f2b_world.specs.declared.event.Event.TheVariants.{Say, DiskLen, DiskRead, DiskWrite, DiskSync, Make, Clock, Config, StoreAt, Names, Look as LookAt, ChildStart, ChildPoll, ChildKill, GateListen, GateAccept, GateRead, GateWrite, GateClose, Pause}
 use Rattle.child_table.specs.Children.{Children, jobs_of}
 use Rattle.child_table.specs.Late.{is_late}
 use Rattle.child_table.specs.declared.child.Child.{Child}
 use Rattle.log_set.specs.Logs.{Watching, next_look}
+use Rattle.client_table.specs.Clients.{asks_at, conn_at}
 use Rattle.run_law.specs.Calls.{Call, AskKill, AskPoll, IsNext}
 use Rattle.run_law.specs.Children.{checked_first, startable}
 use Rattle.run_law.specs.Clock.{tick_news}
 use Rattle.run_law.specs.Law.{Free, MayCome, begin, call_of, feed, moved, point_call, turns}
 use Rattle.run_law.specs.Looks.{log_call, look_news, look_taken, looked, looked_at, now_is, unread_news}
 use Rattle.run_law.specs.News.{News, after_news, brings, server_after}
-use Rattle.run_law.specs.Points.{Place, AtClock, AtLook, AtPoll, AtKill, AtStart, AtPause, Point, AtTree, AtMakes, AtStore, AtFirst, AtNames, AtTurn, Over, Run}
+use Rattle.run_law.specs.Points.{Place, AtClock, AtLook, AtPoll, AtKill, AtAccept, AtClient, AtClose, AtStart, AtPause, Point, AtTree, AtMakes, AtStore, AtListen, AtFirst, AtNames, AtTurn, Over, Run}
 use Rattle.run_law.specs.Polls.{end_news, ended_as, gone, gone_passed, has_succeeded, killed_at, polled_at, still_point}
 use Rattle.run_law.specs.Served.{PollsEachOnce, pauses_in, polls_in, run_after}
 use Rattle.run_law.specs.Server.{Server, is_stopping, jobs, lanes_up, log_jails, read_at}
+use Rattle.run_law.specs.Serving.{Onward, Service, closes, lets_in, point_on, reads, serves, with_clients, writes}
 use Rattle.run_law.specs.Starts.{child_started, with_child, without_child}
-use Rattle.run_law.specs.Turn.{look_point, start_place, start_point, to_accept, to_children, to_end, to_logs, to_looks, to_polls, to_starts}
+use Rattle.run_law.specs.Turn.{at_pause, is_drained, look_point, start_place, start_point, to_accept, to_children, to_end, to_logs, to_looks, to_polls, to_starts}
 use Rattle.run_law.specs.declared.plan.Plan.{Plan}
+use Rattle.run_law.specs.declared.status.Status.TheVariants.{Stopped}
 use Rattle.run_law.proofs.DiskLemmas.{next_behind}
 use Rattle.run_law.proofs.NewsLemmas.{brings_point, measured_point, piece_point, synced_point, wrote_point}
 use Rattle.run_law.proofs.PointLemmas.{paid_call}
 use Rattle.run_law.proofs.SaidLemmas.{pause_next, poll_next}
+use Rattle.run_law.proofs.ServingLemmas.{accept_point, asked_none, onward_point}
 
 -- ---- the children from a place on
 
@@ -74,6 +78,9 @@ module _ (ran : List ℕ) where
   IsPolled polled (AtTurn (AtLook i) s) = (polled ≡ []) × (ran_at s ≡ ran)
   IsPolled polled (AtTurn (AtPoll i) s) = polled ++ drop i (ran_at s) ≡ ran
   IsPolled polled (AtTurn (AtKill i) s) = polled ++ drop (suc i) (ran_at s) ≡ ran
+  IsPolled polled (AtTurn AtAccept s) = polled ≡ ran
+  IsPolled polled (AtTurn (AtClient i) s) = polled ≡ ran
+  IsPolled polled (AtTurn (AtClose i) s) = polled ≡ ran
   IsPolled polled (AtTurn (AtStart c text) s) = polled ≡ ran
   IsPolled polled (AtTurn AtPause s) = polled ≡ ran
   IsPolled polled (Over status) = Unit {0}
@@ -92,7 +99,7 @@ module _ (ran : List ℕ) where
 
     polled_end : (s : Server) → polled ≡ ran → IsPolled polled (to_end s)
     unfolding to_end
-    polled_end s all = all
+    polled_end s all = polled_if (is_drained s) (Over Stopped) (at_pause s) tt all
 
     polled_start : (o : Option Job) (s : Server) → polled ≡ ran → IsPolled polled (start_point o s)
     polled_start None s all = polled_end s all
@@ -102,9 +109,11 @@ module _ (ran : List ℕ) where
     unfolding to_starts
     polled_starts s all = polled_start (startable s.now s.children (jobs s)) s all
 
+    polled_onward : (o : Onward) (s : Server) → polled ≡ ran → IsPolled polled (point_on o s)
+    polled_onward o s all = onward_point (IsPolled polled) s (λ i. all) (λ i. all) (polled_starts s all) o
+
     polled_accept : (s : Server) → polled ≡ ran → IsPolled polled (to_accept s)
-    unfolding to_accept
-    polled_accept s all = polled_starts s all
+    polled_accept s all = accept_point (IsPolled polled) s (λ i. all) (λ i. all) (polled_starts s all) all
 
     -- ---- the polls
 
@@ -181,6 +190,9 @@ module _ (ran : List ℕ) where
     polled_child StartFailed c s r all there = polled_brings (end_news c NotStarted) to_starts (without_child c s) r (λ t is. polled_starts t all)
     polled_child StartNoMemory c s r all there = there
 
+    polled_serves : (x : Service) (s : Server) (r : Run) → polled ≡ ran → IsPolled polled (serves x s r).point
+    polled_serves x s r all = polled_brings x.news (point_on x.onward) (with_clients x.clients s) r (λ t is. polled_onward x.onward t all)
+
     -- ---- an event that is no poll, and no pause
 
     abbrev IsOther : Event → Type 0
@@ -194,6 +206,10 @@ module _ (ran : List ℕ) where
     polled_turns (AtLook i) (LookAt path head from max answer) s r other here there = polled_looked_at (slice_get s.logs i) answer i s r here.0 here.1 there
     polled_turns (AtPoll i) (ChildPoll job answer) s r other here there = absurd other
     polled_turns (AtKill i) (ChildKill job) s r other here there = polled_killed (slice_get s.children.running i) i s r here there
+    polled_turns AtAccept (GateAccept answer) s r other here there = polled_serves (lets_in answer s) s r here
+    polled_turns (AtClient i) (GateRead conn max answer) s r other here there = polled_serves (reads answer i s) s r here
+    polled_turns (AtClient i) (GateWrite conn bytes answer) s r other here there = polled_serves (writes answer i s) s r here
+    polled_turns (AtClose i) (GateClose conn) s r other here there = polled_serves (closes i s) s r here
     polled_turns (AtStart c text) (ChildStart job command answer) s r other here there = polled_child answer c s r here there
     polled_turns AtPause (Pause ms) s r other here there = absurd other
     polled_turns _ _ s r other here there = there
@@ -202,6 +218,7 @@ module _ (ran : List ℕ) where
     polled_moved AtTree (Config root answer) r other here there = absurd here
     polled_moved (AtMakes settings left) (Make text answer) r other here there = absurd here
     polled_moved (AtStore settings) (StoreAt socket answer) r other here there = absurd here
+    polled_moved (AtListen settings l) (GateListen socket answer) r other here there = absurd here
     polled_moved (AtFirst settings l) (Clock answer) r other here there = absurd here
     polled_moved (AtNames settings naming s) (Names dir answer) r other here there = absurd here
     polled_moved (AtTurn place s) event r other here there = polled_turns place event s r other here there
@@ -221,6 +238,7 @@ module _ (ran : List ℕ) where
     all_polled plan AtTree ms here next = absurd here
     all_polled plan (AtMakes settings left) ms here next = absurd here
     all_polled plan (AtStore settings) ms here next = absurd here
+    all_polled plan (AtListen settings l) ms here next = absurd here
     all_polled plan (AtFirst settings l) ms here next = absurd here
     all_polled plan (AtNames settings naming s) ms here next = absurd here
     all_polled plan (AtTurn AtClock s) ms here next = absurd next
@@ -239,6 +257,9 @@ module _ (ran : List ℕ) where
         by_child : (o : Option Child) → IsNext (option_map (λ (c : Child). AskKill c.job) o) (Pause ms) → polled ≡ ran
         by_child None next = absurd next
         by_child (Some c) next = absurd next
+    all_polled plan (AtTurn AtAccept s) ms here next = absurd next
+    all_polled plan (AtTurn (AtClient i) s) ms here next = absurd (asked_none (Pause ms) (conn_at i s.clients) (asks_at i s.clients) (λ bytes is. is) (λ most is. is) next)
+    all_polled plan (AtTurn (AtClose i) s) ms here next = absurd next
     all_polled plan (AtTurn (AtStart c text) s) ms here next = absurd next
     all_polled plan (AtTurn AtPause s) ms here next = here
     all_polled plan (Over status) ms here next = absurd next
@@ -266,6 +287,7 @@ module _ (ran : List ℕ) where
     polled_poll plan AtTree next here = absurd here
     polled_poll plan (AtMakes settings left) next here = absurd here
     polled_poll plan (AtStore settings) next here = absurd here
+    polled_poll plan (AtListen settings l) next here = absurd here
     polled_poll plan (AtFirst settings l) next here = absurd here
     polled_poll plan (AtNames settings naming s) next here = absurd here
     polled_poll plan (AtTurn AtClock s) next here = absurd next
@@ -280,6 +302,9 @@ module _ (ran : List ℕ) where
         by_child : (o : Option Child) → IsNext (option_map (λ (c : Child). AskKill c.job) o) (ChildPoll job answer) → ⊥
         by_child None next = next
         by_child (Some c) next = next
+    polled_poll plan (AtTurn AtAccept s) next here = absurd next
+    polled_poll plan (AtTurn (AtClient i) s) next here = absurd (asked_none (ChildPoll job answer) (conn_at i s.clients) (asks_at i s.clients) (λ bytes is. is) (λ most is. is) next)
+    polled_poll plan (AtTurn (AtClose i) s) next here = absurd next
     polled_poll plan (AtTurn (AtStart c text) s) next here = absurd next
     polled_poll plan (AtTurn AtPause s) next here = absurd next
     polled_poll plan (Over status) next here = absurd next

@@ -11,12 +11,13 @@ use Rattle.f2b_world.specs.declared.event.Event.{Event}
 use Rattle.f2b_world.specs.declared.event.Event.TheVariants.{Say, ChildStart, ChildPoll, Pause}
 use Rattle.child_table.specs.declared.child.Child.{Child}
 use Rattle.log_set.specs.Logs.{Watching}
+use Rattle.client_table.specs.Clients.{asks_at, conn_at}
 use Rattle.run_law.specs.Calls.{Call, AskKill, AskPoll, AskSay, IsNext}
 use Rattle.run_law.specs.Law.{Free, Ends, IsOver, MayCome, begin, begin_with, call_of, feed, point_call, turn_call}
 use Rattle.run_law.specs.Looks.{log_call}
 use Rattle.run_law.specs.Paths.{Path}
 use Rattle.run_law.specs.Patterns.{Pattern}
-use Rattle.run_law.specs.Points.{Place, AtClock, AtLook, AtPoll, AtKill, AtStart, AtPause, Point, AtTree, AtMakes, AtStore, AtFirst, AtNames, AtTurn, Over, Run}
+use Rattle.run_law.specs.Points.{Place, AtClock, AtLook, AtPoll, AtKill, AtAccept, AtClient, AtClose, AtStart, AtPause, Point, AtTree, AtMakes, AtStore, AtListen, AtFirst, AtNames, AtTurn, Over, Run}
 use Rattle.run_law.specs.Said.{joined}
 use Rattle.run_law.specs.Served.{SaysAll, SaysInOrder, lines_by, run_after, said_by}
 use Rattle.run_law.specs.Server.{Server}
@@ -24,6 +25,7 @@ use Rattle.run_law.specs.Stages.{IsSaying}
 use Rattle.run_law.specs.Start.{make_call, names_call}
 use Rattle.run_law.specs.Words.{plan_of}
 use Rattle.run_law.proofs.DiskLemmas.{next_behind, none_behind}
+use Rattle.run_law.proofs.ServingLemmas.{asked_none}
 use Rattle.run_law.proofs.PointLemmas.{paid_call, saying_call}
 use Rattle.run_law.specs.declared.plan.Plan.{Plan}
 use Rattle.run_law.specs.declared.status.Status.{Status}
@@ -57,6 +59,9 @@ turn_says_none AtClock s bytes answer next = next
 turn_says_none (AtLook i) s bytes answer next = look_says_none (slice_get s.logs i) bytes answer next
 turn_says_none (AtPoll i) s bytes answer next = poll_says_none (slice_get s.children.running i) bytes answer next
 turn_says_none (AtKill i) s bytes answer next = kill_says_none (slice_get s.children.running i) bytes answer next
+turn_says_none AtAccept s bytes answer next = next
+turn_says_none (AtClient i) s bytes answer next = asked_none (Say bytes answer) (conn_at i s.clients) (asks_at i s.clients) (λ sent is. is) (λ most is. is) next
+turn_says_none (AtClose i) s bytes answer next = next
 turn_says_none (AtStart c text) s bytes answer next = next
 turn_says_none AtPause s bytes answer next = next
 
@@ -65,6 +70,7 @@ point_says_none : (plan : Plan) (point : Point) (bytes : List ℕ) (answer : Sai
 point_says_none plan AtTree bytes answer next = next
 point_says_none plan (AtMakes settings left) bytes answer next = make_says_none left bytes answer next
 point_says_none plan (AtStore settings) bytes answer next = next
+point_says_none plan (AtListen settings l) bytes answer next = next
 point_says_none plan (AtFirst settings l) bytes answer next = next
 point_says_none plan (AtNames settings naming s) bytes answer next = names_say_none naming.left bytes answer next
 point_says_none plan (AtTurn place s) bytes answer next = turn_says_none place s bytes answer next
@@ -75,6 +81,7 @@ owed_call : (plan : Plan) (point : Point) (line : List ℕ) (lines : List (List 
 owed_call plan AtTree line lines = inr refl
 owed_call plan (AtMakes settings left) line lines = inr refl
 owed_call plan (AtStore settings) line lines = inr refl
+owed_call plan (AtListen settings l) line lines = inr refl
 owed_call plan (AtFirst settings l) line lines = inr refl
 owed_call plan (AtNames settings naming s) line lines = inr refl
 owed_call plan (AtTurn place s) line lines = inr refl

@@ -7,7 +7,7 @@ use Rattle.f2b_world.specs.declared.event.Event.{Event}
 use Rattle.f2b_world.proofs.AddsLemmas.{adds_weaker}
 use Rattle.run_law.specs.Law.{Ends, Free, Halts, MayCome, begin, begin_with, feed, opening}
 use Rattle.run_law.specs.Points.{Run}
-use Rattle.run_law.specs.Served.{IsCaused, IsRun, KeepsInputs, PollsEachOnce, SaysInOrder, StartsInTurn}
+use Rattle.run_law.specs.Served.{CountsTurns, IsCaused, IsRun, KeepsInputs, PollsEachOnce, SaysInOrder, StartsInTurn}
 use Rattle.run_law.specs.Stages.{HasCause, IsSteady, Refuses}
 use Rattle.run_law.specs.Stops.{BeginsOn, held_in}
 use Rattle.run_law.specs.Words.{plan_of}
@@ -20,6 +20,8 @@ use Rattle.run_law.proofs.PolledLemmas.{polls_each_once}
 use Rattle.run_law.proofs.SaidLemmas.{says_in_order}
 use Rattle.run_law.proofs.StartedLemmas.{starts_in_turn}
 use Rattle.run_law.proofs.StopLemmas.{keeps_inputs}
+use Rattle.run_law.proofs.TurnLemmas.{counts_turns}
+use Rattle.run_law.proofs.WordLemmas.{plan_turns}
 
 -- the run obeys the law to the end
 abbrev Obeyed : List (List ℕ) → Status → History → List Event → Type 0
@@ -44,12 +46,21 @@ obeyed (Some own) (Some h) words status on halts =
     let begins : begin words (held_in adds.0) ≡ begin words (held_in own) = ap (λ (g : History). begin words (held_in g)) (sym same) in
     (adds.0, adds.1, adds.2, adds.3, halted words status adds.0 (begin words (held_in own)) r.last adds.1 begins r.ends adds.4)
 
+-- a run that was planned makes as many turns as were asked for
+turns_counted : (words : List (List ℕ)) (plan : Plan) (status : Status) (g : History) (es : List Event) → plan_of words ≡ Some plan → Obeyed words status g es → CountsTurns plan.turns status es
+turns_counted words plan status g es is o =
+    let P : Run → Type 0 = λ r. Along feed MayCome Free r g es × Ends status (after feed MayCome Free r es) in
+    let begins : begin words (held_in g) ≡ opening plan (held_in g) = ap (λ (x : Option Plan). begin_with x (held_in g)) is in
+    let opened : P (opening plan (held_in g)) = subst P begins o in
+    counts_turns plan (held_in g) status g es (plan_turns words plan is) opened.0 opened.1
+
 run_is : (old new : Option History) (words : List (List ℕ)) (status : Status) → Adds old new Any → ((g : History) → old ≡ Some g → Halts old new (begin words (held_in g)) status) → IsRun old new words status
 run_is old new words status on halts =
     let P = λ (g : History) (es : List Event). Obeyed words status g es in
     let law = obeyed old new words status on halts in
     record {
       law = law;
+      turns = adds_weaker P (λ g es. (plan : Plan) → plan_of words ≡ Some plan → CountsTurns plan.turns status es) old new law (λ g es o plan is. turns_counted words plan status g es is o);
       lines = adds_weaker P (λ g es. SaysInOrder words (held_in g) status es) old new law (λ g es o. says_in_order words (held_in g) status g es o.0 o.1);
       commands = adds_weaker P (λ g es. StartsInTurn words (held_in g) es) old new law (λ g es o. starts_in_turn words (held_in g) g es o.0);
       polls = adds_weaker P (λ g es. PollsEachOnce words (held_in g) es) old new law (λ g es o. polls_each_once words (held_in g) g es o.0);

@@ -9,6 +9,8 @@ use Rattle.f2b_base.specs.declared.outside.TreeAnswer.{TreeAnswer}
 use Rattle.f2b_base.specs.declared.outside.TreeAnswer.TheVariants.{Tree, Failed as TreeFailed, TooLarge as TreeTooLarge, NoMemory as TreeNoMemory}
 use Rattle.f2b_world.specs.Told.{History}
 use Rattle.f2b_world.specs.Walks.{after, Along}
+use Rattle.f2b_world.specs.declared.answer.Listen.{Listen}
+use Rattle.f2b_world.specs.declared.answer.Listen.TheVariants.{Listening, Failed as ListenFailed}
 use Rattle.f2b_world.specs.declared.answer.Look.{Look}
 use Rattle.f2b_world.specs.declared.answer.Look.TheVariants.{File, Absent, Failed as LookFailed, NoMemory as LookNoMemory}
 use Rattle.f2b_world.specs.declared.answer.MakeAnswer.{MakeAnswer}
@@ -19,13 +21,14 @@ use Rattle.f2b_world.specs.declared.answer.Said.TheVariants.{Done, Failed as Say
 use Rattle.f2b_world.specs.declared.answer.StartAnswer.{StartAnswer}
 use Rattle.f2b_world.specs.declared.answer.StartAnswer.TheVariants.{Started, Failed as StartFailed, NoMemory as StartNoMemory}
 use Rattle.f2b_world.specs.declared.event.Event.{Event}
-use Rattle.f2b_world.specs.declared.event.Event.TheVariants.{Say, DiskLen, DiskRead, DiskWrite, DiskSync, Make, Clock, Config, StoreAt, Names, Look as LookAt, ChildStart, ChildPoll, ChildKill, Pause}
+use Rattle.f2b_world.specs.declared.event.Event.TheVariants.{Say, DiskLen, DiskRead, DiskWrite, DiskSync, Make, Clock, Config, StoreAt, Names, Look as LookAt, ChildStart, ChildPoll, ChildKill, GateListen, GateAccept, GateRead, GateWrite, GateClose, Pause}
 use Rattle.child_table.specs.Late.{is_late}
 use Rattle.child_table.specs.declared.child.Child.{Child}
 use Rattle.jail_conf.specs.Conf.{conf}
 use Rattle.jail_conf.specs.declared.conf_error.ConfError.{ConfError}
 use Rattle.jail_conf.specs.declared.settings.Settings.{Settings}
 use Rattle.log_set.specs.Logs.{Watching, next_look}
+use Rattle.client_table.specs.Clients.{asks_at, conn_at}
 use Rattle.run_law.specs.Calls.{Call, AskKill, AskPoll, IsNext}
 use Rattle.run_law.specs.Children.{checked_first, startable}
 use Rattle.run_law.specs.Clock.{tick_news}
@@ -36,19 +39,22 @@ use Rattle.run_law.specs.News.{News, after_news, brings}
 use Rattle.run_law.specs.Paths.{Path, Naming, first_naming, named, with_paths}
 use Rattle.run_law.specs.Patterns.{Pattern, patterns_of}
 use Rattle.run_law.specs.Pause.{turned}
-use Rattle.run_law.specs.Points.{Place, AtClock, AtLook, AtPoll, AtKill, AtStart, AtPause, Point, AtTree, AtMakes, AtStore, AtFirst, AtNames, AtTurn, Over, Run}
+use Rattle.run_law.specs.Points.{Place, AtClock, AtLook, AtPoll, AtKill, AtAccept, AtClient, AtClose, AtStart, AtPause, Point, AtTree, AtMakes, AtStore, AtListen, AtFirst, AtNames, AtTurn, Over, Run}
 use Rattle.run_law.specs.Polls.{end_news, ended_as, gone, gone_passed, has_succeeded, killed_at, polled_at, still_point}
 use Rattle.run_law.specs.Served.{IsAllStarted, IsStartFor, StartsAt, StartsInTurn, run_after}
 use Rattle.run_law.specs.Server.{Server, begun, is_stopping, jobs, lanes_up, log_jails, read_at}
-use Rattle.run_law.specs.Start.{defined, first_turn, loads, made, makes_on, names_call, names_in, start_news, to_makes, to_names, tree_read, unread_by}
+use Rattle.run_law.specs.Serving.{Onward, Service, closes, lets_in, point_on, reads, serves, with_clients, writes}
+use Rattle.run_law.specs.Start.{defined, first_turn, listened, loads, made, makes_on, names_call, names_in, start_news, to_makes, to_names, tree_read, unread_by}
 use Rattle.run_law.specs.Starts.{child_started, with_child, without_child}
-use Rattle.run_law.specs.Turn.{look_point, start_place, start_point, to_accept, to_children, to_end, to_logs, to_looks, to_polls, to_starts}
+use Rattle.run_law.specs.Turn.{at_pause, is_drained, look_point, start_place, start_point, to_accept, to_children, to_end, to_logs, to_looks, to_polls, to_starts}
 use Rattle.run_law.specs.Words.{plan_of}
 use Rattle.run_law.specs.declared.plan.Plan.{Plan}
+use Rattle.run_law.specs.declared.status.Status.TheVariants.{Stopped}
 use Rattle.run_law.proofs.DiskLemmas.{next_behind}
 use Rattle.run_law.proofs.NewsLemmas.{brings_point, measured_point, piece_point, synced_point, wrote_point}
 use Rattle.run_law.proofs.PointLemmas.{paid_call}
 use Rattle.run_law.proofs.SaidLemmas.{may_at, pause_next, start_next}
+use Rattle.run_law.proofs.ServingLemmas.{accept_point, asked_none, onward_point}
 
 -- ---- points at which a start or a pause is as it should be
 
@@ -68,7 +74,7 @@ due_place (Some lane) job s next is = (job, record { next = next; child = ap (st
 
 due_end : (s : Server) → startable s.now s.children (jobs s) ≡ None → IsDue (to_end s)
 unfolding to_end
-due_end s none = none
+due_end s none = due_if (is_drained s) (Over Stopped) (at_pause s) tt none
 
 due_start : (o : Option Job) (s : Server) → startable s.now s.children (jobs s) ≡ o → IsDue (start_point o s)
 due_start None s is = due_end s is
@@ -78,9 +84,11 @@ due_starts : (s : Server) → IsDue (to_starts s)
 unfolding to_starts
 due_starts s = due_start (startable s.now s.children (jobs s)) s refl
 
+due_onward : (o : Onward) (s : Server) → IsDue (point_on o s)
+due_onward o s = onward_point IsDue s (λ i. tt) (λ i. tt) (due_starts s) o
+
 due_accept : (s : Server) → IsDue (to_accept s)
-unfolding to_accept
-due_accept s = due_starts s
+due_accept s = accept_point IsDue s (λ i. tt) (λ i. tt) (due_starts s) tt
 
 due_polls : (i : ℕ) (s : Server) → IsDue (to_polls i s)
 due_polls i s = due_if (nat_lt i (length s.children.running)) (AtTurn (AtPoll i) s) (to_accept s) tt (due_accept s)
@@ -142,6 +150,10 @@ due_loads : (o : Result Loaded (ℕ × ℕ)) (settings : Settings) (r : Run) →
 due_loads (Ok l) settings r = tt
 due_loads (Err place) settings r = tt
 
+due_listened : (answer : Listen) (settings : Settings) (l : Loaded) (r : Run) → IsDue (listened answer settings l r).point
+due_listened Listening settings l r = tt
+due_listened ListenFailed settings l r = tt
+
 due_names : (before : List (List ℕ)) (settings : Settings) (naming : Naming) (left : List Path) (s : Server) (r : Run) → IsDue (to_names before settings naming left s r).point
 due_names before settings naming [] s r = due_brings (start_news before (with_paths settings.defs naming.found) s) first_turn (λ t. tt) s r
 due_names before settings naming (p ∷ ps) s r = due_brings (record { before = before; what = None; behind = [] }) (AtNames settings naming) (λ t. tt) s r
@@ -177,11 +189,18 @@ due_child Started c s r same = due_starts (with_child c s)
 due_child StartFailed c s r same = due_brings (end_news c NotStarted) to_starts due_starts (without_child c s) r
 due_child StartNoMemory c s r same = same
 
+due_serves : (x : Service) (s : Server) (r : Run) → IsDue (serves x s r).point
+due_serves x s r = due_brings x.news (point_on x.onward) (due_onward x.onward) (with_clients x.clients s) r
+
 due_turns : (place : Place) (event : Event) (s : Server) (r : Run) → IsDue r.point → IsDue (turns place event s r).point
 due_turns AtClock (Clock answer) s r same = due_brings (tick_news (read_at answer s)) to_logs due_logs (read_at answer s) r
 due_turns (AtLook i) (LookAt path head from max answer) s r same = due_looked_at (slice_get s.logs i) answer i s r same
 due_turns (AtPoll i) (ChildPoll job answer) s r same = due_polled (slice_get s.children.running i) answer i s r same
 due_turns (AtKill i) (ChildKill job) s r same = due_killed (slice_get s.children.running i) i s r same
+due_turns AtAccept (GateAccept answer) s r same = due_serves (lets_in answer s) s r
+due_turns (AtClient i) (GateRead conn max answer) s r same = due_serves (reads answer i s) s r
+due_turns (AtClient i) (GateWrite conn bytes answer) s r same = due_serves (writes answer i s) s r
+due_turns (AtClose i) (GateClose conn) s r same = due_serves (closes i s) s r
 due_turns (AtStart c text) (ChildStart job command answer) s r same = due_child answer c s r same
 due_turns AtPause (Pause ms) s r same = due_turned (s.left - 1) s
 due_turns _ _ s r same = same
@@ -190,6 +209,7 @@ due_moved : (point : Point) (event : Event) (r : Run) → IsDue r.point → IsDu
 due_moved AtTree (Config root answer) r same = due_tree answer r same
 due_moved (AtMakes settings left) (Make text answer) r same = due_makes_on left answer settings r same
 due_moved (AtStore settings) (StoreAt socket answer) r same = due_loads (loaded r.plan.limit r.slots) settings r
+due_moved (AtListen settings l) (GateListen socket answer) r same = due_listened answer settings l r
 due_moved (AtFirst settings l) (Clock answer) r same = due_names [] settings (first_naming settings.defs) (first_naming settings.defs).left (begun r.plan.turns l answer) r
 due_moved (AtNames settings naming s) (Names dir answer) r same =
     let next = named (names_in answer) naming in due_names (unread_by answer s.now naming.left) settings next next.left s r
@@ -226,6 +246,7 @@ starts_at plan AtTree id command answer due next = next
 starts_at plan (AtMakes settings []) id command answer due next = next
 starts_at plan (AtMakes settings (p ∷ ps)) id command answer due next = next
 starts_at plan (AtStore settings) id command answer due next = next
+starts_at plan (AtListen settings l) id command answer due next = next
 starts_at plan (AtFirst settings l) id command answer due next = next
 starts_at plan (AtNames settings naming s) id command answer due next = by_paths naming.left next
   where
@@ -248,6 +269,9 @@ starts_at plan (AtTurn (AtKill i) s) id command answer due next = by_child (slic
     by_child : (o : Option Child) → IsNext (option_map (λ (c : Child). AskKill c.job) o) (ChildStart id command answer) → ⊥
     by_child None next = next
     by_child (Some c) next = next
+starts_at plan (AtTurn AtAccept s) id command answer due next = next
+starts_at plan (AtTurn (AtClient i) s) id command answer due next = asked_none (ChildStart id command answer) (conn_at i s.clients) (asks_at i s.clients) (λ bytes is. is) (λ most is. is) next
+starts_at plan (AtTurn (AtClose i) s) id command answer due next = next
 starts_at plan (AtTurn (AtStart c text) s) id command answer due next = (due.0, due.1, next.0, next.1)
 starts_at plan (AtTurn AtPause s) id command answer due next = next
 starts_at plan (Over status) id command answer due next = next
@@ -257,6 +281,7 @@ all_started plan AtTree ms due next = next
 all_started plan (AtMakes settings []) ms due next = next
 all_started plan (AtMakes settings (p ∷ ps)) ms due next = next
 all_started plan (AtStore settings) ms due next = next
+all_started plan (AtListen settings l) ms due next = next
 all_started plan (AtFirst settings l) ms due next = next
 all_started plan (AtNames settings naming s) ms due next = by_paths naming.left next
   where
@@ -279,6 +304,9 @@ all_started plan (AtTurn (AtKill i) s) ms due next = by_child (slice_get s.child
     by_child : (o : Option Child) → IsNext (option_map (λ (c : Child). AskKill c.job) o) (Pause ms) → ⊥
     by_child None next = next
     by_child (Some c) next = next
+all_started plan (AtTurn AtAccept s) ms due next = next
+all_started plan (AtTurn (AtClient i) s) ms due next = asked_none (Pause ms) (conn_at i s.clients) (asks_at i s.clients) (λ bytes is. is) (λ most is. is) next
+all_started plan (AtTurn (AtClose i) s) ms due next = next
 all_started plan (AtTurn (AtStart c text) s) ms due next = next
 all_started plan (AtTurn AtPause s) ms due next = due
 all_started plan (Over status) ms due next = next

@@ -17,6 +17,8 @@ use Rattle.f2b_world.specs.Told.{History, grown}
 use Rattle.f2b_world.specs.Walks.{after, Along}
 use Rattle.f2b_world.specs.declared.answer.Len.{Len}
 use Rattle.f2b_world.specs.declared.answer.Len.TheVariants.{Bytes as LenIs, Failed as LenFailed}
+use Rattle.f2b_world.specs.declared.answer.Listen.{Listen}
+use Rattle.f2b_world.specs.declared.answer.Listen.TheVariants.{Listening, Failed as ListenFailed}
 use Rattle.f2b_world.specs.declared.answer.Look.{Look}
 use Rattle.f2b_world.specs.declared.answer.Look.TheVariants.{File, Absent, Failed as LookFailed, NoMemory as LookNoMemory}
 use Rattle.f2b_world.specs.declared.answer.MakeAnswer.{MakeAnswer}
@@ -31,7 +33,7 @@ use Rattle.f2b_world.specs.declared.answer.StartAnswer.TheVariants.{Started, Fai
 use Rattle.f2b_world.specs.declared.answer.Synced.TheVariants.{Done as SyncDone, Failed as SyncFailed}
 use Rattle.f2b_world.specs.declared.answer.Wrote.TheVariants.{Done as WroteDone, Failed as WroteFailed, NoMemory as WroteNoMemory}
 use Rattle.f2b_world.specs.declared.event.Event.{Event}
-use Rattle.f2b_world.specs.declared.event.Event.TheVariants.{Say, DiskLen, DiskRead, DiskWrite, DiskSync, Make, Clock, Config, StoreAt, Names, Look as LookAt, ChildStart, ChildPoll, ChildKill, Pause}
+use Rattle.f2b_world.specs.declared.event.Event.TheVariants.{Say, DiskLen, DiskRead, DiskWrite, DiskSync, Make, Clock, Config, StoreAt, Names, Look as LookAt, ChildStart, ChildPoll, ChildKill, GateListen, GateAccept, GateRead, GateWrite, GateClose, Pause}
 use Rattle.f2b_world.proofs.AddsLemmas.{grown_none, grown_twice}
 use Rattle.filter_regex.specs.declared.error.BuildKind.TheVariants.{Syntax, TooBig}
 use Rattle.child_table.specs.Late.{is_late}
@@ -54,25 +56,26 @@ use Rattle.run_law.specs.News.{News, brings, brings_by, entered, entering, goes_
 use Rattle.run_law.specs.Paths.{Naming, Path, first_naming, named, with_paths}
 use Rattle.run_law.specs.Patterns.{Pattern, patterns_of}
 use Rattle.run_law.specs.Pause.{turned}
-use Rattle.run_law.specs.Points.{Place, AtClock, AtLook, AtPoll, AtKill, AtStart, AtPause, Point, AtTree, AtMakes, AtStore, AtFirst, AtNames, AtTurn, Over, Run}
+use Rattle.run_law.specs.Points.{Place, AtClock, AtLook, AtPoll, AtKill, AtAccept, AtClient, AtClose, AtStart, AtPause, Point, AtTree, AtMakes, AtStore, AtListen, AtFirst, AtNames, AtTurn, Over, Run}
 use Rattle.run_law.specs.Polls.{end_news, ended_as, gone, gone_passed, has_succeeded, killed_at, polled_at, still_point}
 use Rattle.run_law.specs.Refusals.{status_lines}
 use Rattle.run_law.specs.Served.{KeepsInputs, run_after}
 use Rattle.run_law.specs.Server.{Server, behind_entry, begun, entry_in, input_at, is_spent, read_at, taken}
-use Rattle.run_law.specs.Start.{defined, first_turn, loads, made, makes_on, names_in, start_news, to_makes, to_names, tree_read, unread_by}
+use Rattle.run_law.specs.Serving.{Service, closes, lets_in, point_on, reads, serves, with_clients, writes}
+use Rattle.run_law.specs.Start.{defined, first_turn, listened, loads, made, makes_on, names_in, start_news, to_makes, to_names, tree_read, unread_by}
 use Rattle.run_law.specs.Starts.{child_started, with_child, without_child}
 use Rattle.run_law.specs.Stops.{BeginsOn, ComesInOrder, ComesTo, IsKept, IsOverAt, IsRegular, IsStored, IsWrite, held_in}
 use Rattle.run_law.specs.Turn.{to_logs, to_looks, to_polls, to_starts}
 use Rattle.run_law.specs.Words.{plan_of}
 use Rattle.run_law.specs.declared.plan.Plan.{Plan}
 use Rattle.run_law.specs.declared.status.Status.{Status}
-use Rattle.run_law.specs.declared.status.Status.TheVariants.{Stopped, TurnsSpent, ConfFault, ConfRefused, DiskFault, JournalFull, SinkFault, ConfTooLarge, PatternRefused, NumbersSpent}
+use Rattle.run_law.specs.declared.status.Status.TheVariants.{Stopped, TurnsSpent, ConfFault, ConfRefused, DiskFault, GateFault, JournalFull, SinkFault, ConfTooLarge, PatternRefused, NumbersSpent}
 use Rattle.run_law.proofs.DiskLemmas.{IsBeside, call_no_write, next_beside, none_left, written_call}
 use Rattle.run_law.proofs.KeptLemmas.{IsFine, IsLive, fine_back, fine_stored, fine_steps, steps_more}
 use Rattle.run_law.proofs.LoadLemmas.{Loads, loads_stored}
 use Rattle.run_law.proofs.RestLemmas.{Keeps, entry_image, entry_is, entry_keeps, keeps_held, keeps_image, keeps_settled, keeps_still, slot_still}
 use Rattle.run_law.proofs.SaidLemmas.{may_at}
-use Rattle.run_law.proofs.TurnLemmas.{IsOfTurn, logs_of_turn, looks_of_turn, polls_of_turn, starts_of_turn, still_of_turn}
+use Rattle.run_law.proofs.TurnLemmas.{IsOfTurn, logs_of_turn, looks_of_turn, onward_of_turn, polls_of_turn, starts_of_turn, still_of_turn, turn_by}
 use Rattle.run_law.proofs.WordLemmas.{planned}
 use Rattle.slot_writes.specs.Entries.{Entry, Written, Full, Spent, body, entry, entry_of, fresh_slot, fresh_start, turn_calls}
 use Rattle.slot_writes.specs.Rests.{PermitsBoth}
@@ -106,16 +109,18 @@ whole (event ∷ es) = ap (λ rest. event ∷ rest) (whole es)
 abbrev Has : Position → State → Server → Type 0
 Has p s t = (t.position ≡ p) × (t.state ≡ s)
 
--- the run has a server
+-- the run has a server, or it is over as it was asked to
 abbrev IsServing : Point → Type 0
 IsServing (AtNames settings naming t) = Unit {0}
 IsServing (AtTurn place t) = Unit {0}
+IsServing (Over Stopped) = Unit {0}
 IsServing _ = ⊥
 
 -- its slots are not read
 serving_quiet : (p : Point) (owed : List (List ℕ)) → IsServing p → IsLoading p owed → ⊥
 serving_quiet (AtNames settings naming t) owed serving loading = loading
 serving_quiet (AtTurn place t) owed serving loading = loading
+serving_quiet (Over Stopped) owed serving loading = loading
 serving_quiet p owed serving loading = serving
 
 module _ (v : View) (first : History) (limit : ℕ) (l : Loaded) (is_loaded : loaded limit (held_in first) ≡ Ok l) where
@@ -124,6 +129,7 @@ module _ (v : View) (first : History) (limit : ℕ) (l : Loaded) (is_loaded : lo
   Knows p s AtTree = (l.position ≡ p) × (l.state ≡ s)
   Knows p s (AtMakes settings left) = (l.position ≡ p) × (l.state ≡ s)
   Knows p s (AtStore settings) = (l.position ≡ p) × (l.state ≡ s)
+  Knows p s (AtListen settings k) = (k.position ≡ p) × (k.state ≡ s)
   Knows p s (AtFirst settings k) = (k.position ≡ p) × (k.state ≡ s)
   Knows p s (AtNames settings naming t) = Has p s t
   Knows p s (AtTurn place t) = Has p s t
@@ -228,7 +234,7 @@ module _ (v : View) (first : History) (limit : ℕ) (l : Loaded) (is_loaded : lo
   Passes next = (p : Position) (s : State) (t : Server) → Has p s t → Knows p s (next t) × IsServing (next t)
 
   turn_passes : (next : Server → Point) → ((t : Server) → IsOfTurn (next t) t) → Passes next
-  turn_passes next turn p s t has = let P : Point → Type 0 = λ q. Knows p s q × IsServing q in subst P (sym (turn t).is) (has, tt)
+  turn_passes next turn p s t has = let P : Point → Type 0 = λ q. Knows p s q × IsServing q in turn_by P (next t) t (turn t) (λ place. (has, tt)) (tt, tt)
 
   module _ (r : Run) (g : History) (c : IsCalm r g) where
     -- the run goes to a point, with other lines
@@ -337,7 +343,11 @@ module _ (v : View) (first : History) (limit : ℕ) (l : Loaded) (is_loaded : lo
     loads_is settings knows =
         let P : Result Loaded (ℕ × ℕ) → Type 0 = λ o. Is (loads o settings r) g in
         let own : loaded r.plan.limit r.slots ≡ Ok l = (λ i. loaded (c.limited i) (c.slots i)) ∙ is_loaded in
-        subst P (sym own) (plain_is (AtFirst settings l) knows)
+        subst P (sym own) (plain_is (AtListen settings l) knows)
+
+    listened_is : (answer : Listen) (settings : Settings) (k : Loaded) → (k.position ≡ c.position) × (k.state ≡ state_of r) → Is (listened answer settings k r) g
+    listened_is Listening settings k knows = plain_is (AtFirst settings k) knows
+    listened_is ListenFailed settings k knows = refused_is GateFault
 
     names_are : (before : List (List ℕ)) (settings : Settings) (naming : Naming) (left : List Path) (t : Server) → Has c.position (state_of r) t → Is (to_names before settings naming left t r) g
     names_are before settings naming [] t has = brings_is (start_news before (with_paths settings.defs naming.found) t) first_turn (λ p s u h. (h, tt)) t has
@@ -347,7 +357,7 @@ module _ (v : View) (first : History) (limit : ℕ) (l : Loaded) (is_loaded : lo
 
     module _ (t : Server) (has : Has c.position (state_of r) t) where
       of_turn_is : (p : Point) (u : Server) → IsOfTurn p u → Has c.position (state_of r) u → Is (goes_to p r) g
-      of_turn_is p u turn there = let P : Point → Type 0 = λ q. Is (goes_to q r) g in subst P (sym turn.is) (plain_is (AtTurn turn.place u) there)
+      of_turn_is p u turn there = let P : Point → Type 0 = λ q. Is (goes_to q r) g in turn_by P p u turn (λ place. plain_is (AtTurn place u) there) (plain_is (Over Stopped) tt)
 
       looked_is : (answer : Look) (a : Watching) (i : ℕ) → Is (looked answer a i t r) g
       looked_is (File file) a i = brings_is (look_news t.now a (look_taken t a file)) (to_looks (i + 1)) (turn_passes (to_looks (i + 1)) (looks_of_turn (i + 1))) (now_is i a file t) has
@@ -378,6 +388,9 @@ module _ (v : View) (first : History) (limit : ℕ) (l : Loaded) (is_loaded : lo
       started_is StartFailed child = brings_is (end_news child NotStarted) to_starts (turn_passes to_starts starts_of_turn) (without_child child t) has
       started_is StartNoMemory child = inl c
 
+      serves_is : (x : Service) → Is (serves x t r) g
+      serves_is x = brings_is x.news (point_on x.onward) (turn_passes (point_on x.onward) (onward_of_turn x.onward)) (with_clients x.clients t) has
+
       turned_is : (n : ℕ) → Is (goes_to (turned n t) r) g
       turned_is zero = plain_is (Over TurnsSpent) tt
       turned_is (suc n) = plain_is (AtTurn AtClock (record t { left = suc n })) has
@@ -387,6 +400,10 @@ module _ (v : View) (first : History) (limit : ℕ) (l : Loaded) (is_loaded : lo
       turns_are (AtLook i) (LookAt path head from max answer) = looked_at_is (slice_get t.logs i) answer i
       turns_are (AtPoll i) (ChildPoll job answer) = polled_is (slice_get t.children.running i) answer i
       turns_are (AtKill i) (ChildKill job) = killed_is (slice_get t.children.running i) i
+      turns_are AtAccept (GateAccept answer) = serves_is (lets_in answer t)
+      turns_are (AtClient i) (GateRead conn max answer) = serves_is (reads answer i t)
+      turns_are (AtClient i) (GateWrite conn bytes answer) = serves_is (writes answer i t)
+      turns_are (AtClose i) (GateClose conn) = serves_is (closes i t)
       turns_are (AtStart child text) (ChildStart job command answer) = started_is answer child
       turns_are AtPause (Pause ms) = turned_is (t.left - 1)
       turns_are _ _ = inl c
@@ -395,6 +412,7 @@ module _ (v : View) (first : History) (limit : ℕ) (l : Loaded) (is_loaded : lo
     moved_is AtTree (Config root answer) knows = tree_is answer knows
     moved_is (AtMakes settings left) (Make text answer) knows = makes_on_is left answer settings knows
     moved_is (AtStore settings) (StoreAt socket answer) knows = loads_is settings knows
+    moved_is (AtListen settings k) (GateListen socket answer) knows = listened_is answer settings k knows
     moved_is (AtFirst settings k) (Clock answer) knows =
         names_are [] settings (first_naming settings.defs) (first_naming settings.defs).left (begun r.plan.turns k answer) knows
     moved_is (AtNames settings naming t) (Names dir answer) knows =

@@ -1,5 +1,5 @@
 -- From the law alone: a run ends for its turns exactly where it has made as many pauses as it was asked for.
-use Rattle.std.proofs.Common.{ℕ, zero, suc, ◌≡◌, ◌≢◌, ◌<◌, ◌≤◌, ◌+◌, ◌-◌, ◌++◌, Bool, true, false, cond, List, [], ◌∷◌, Option, Some, None, Result, Ok, Err, refl, sym, ◌∙◌, subst, arith}
+use Rattle.std.proofs.Common.{ℕ, zero, suc, ◌≡◌, ◌≢◌, ◌<◌, ◌≤◌, ◌+◌, ◌-◌, ◌++◌, ◌⊎◌, inl, inr, Bool, true, false, cond, List, [], ◌∷◌, Option, Some, None, Result, Ok, Err, refl, sym, ◌∙◌, subst, arith}
 use Rattle.std.specs.Prelude.{drop, length, nat_lt, slice_get, option_map}
 use Rattle.f2b_base.specs.declared.input.What.{What}
 use Rattle.f2b_base.specs.declared.job.Job.{Job}
@@ -11,6 +11,8 @@ use Rattle.f2b_world.specs.Told.{History, grown}
 use Rattle.f2b_world.specs.Walks.{after, Along}
 use Rattle.f2b_world.specs.declared.answer.Len.{Len}
 use Rattle.f2b_world.specs.declared.answer.Len.TheVariants.{Bytes as LenIs, Failed as LenFailed}
+use Rattle.f2b_world.specs.declared.answer.Listen.{Listen}
+use Rattle.f2b_world.specs.declared.answer.Listen.TheVariants.{Listening, Failed as ListenFailed}
 use Rattle.f2b_world.specs.declared.answer.Look.{Look}
 use Rattle.f2b_world.specs.declared.answer.Look.TheVariants.{File, Absent, Failed as LookFailed, NoMemory as LookNoMemory}
 use Rattle.f2b_world.specs.declared.answer.MakeAnswer.{MakeAnswer}
@@ -27,7 +29,7 @@ use Rattle.f2b_world.specs.declared.answer.Wrote.TheVariants.{Done as WroteDone,
 use Rattle.f2b_world.specs.declared.answer.StartAnswer.{StartAnswer}
 use Rattle.f2b_world.specs.declared.answer.StartAnswer.TheVariants.{Started, Failed as StartFailed, NoMemory as StartNoMemory}
 use Rattle.f2b_world.specs.declared.event.Event.{Event}
-use Rattle.f2b_world.specs.declared.event.Event.TheVariants.{Say, DiskLen, DiskRead, DiskWrite, DiskSync, Make, Clock, Config, StoreAt, Names, Look as LookAt, ChildStart, ChildPoll, ChildKill, Pause}
+use Rattle.f2b_world.specs.declared.event.Event.TheVariants.{Say, DiskLen, DiskRead, DiskWrite, DiskSync, Make, Clock, Config, StoreAt, Names, Look as LookAt, ChildStart, ChildPoll, ChildKill, GateListen, GateAccept, GateRead, GateWrite, GateClose, Pause}
 use Rattle.filter_regex.specs.declared.error.BuildKind.TheVariants.{Syntax, TooBig}
 use Rattle.jail_conf.specs.Conf.{conf}
 use Rattle.jail_conf.specs.declared.conf_error.ConfError.{ConfError}
@@ -35,6 +37,7 @@ use Rattle.jail_conf.specs.declared.settings.Settings.{Settings}
 use Rattle.child_table.specs.Late.{is_late}
 use Rattle.child_table.specs.declared.child.Child.{Child}
 use Rattle.log_set.specs.Logs.{Watching, next_look}
+use Rattle.client_table.specs.Clients.{asks_at, conn_at}
 use Rattle.run_law.specs.Calls.{Call, AskKill, AskPoll, IsNext}
 use Rattle.run_law.specs.Children.{checked_first, startable}
 use Rattle.run_law.specs.Clock.{tick_news}
@@ -47,53 +50,68 @@ use Rattle.run_law.specs.Patterns.{Pattern, patterns_of}
 use Rattle.run_law.specs.Paths.{Path, Naming, first_naming, named, with_paths}
 use Rattle.run_law.specs.Pause.{paused, turned}
 use Rattle.run_law.specs.Polls.{end_news, ended_as, gone, gone_passed, has_succeeded, killed_at, polled_at, still_point}
-use Rattle.run_law.specs.Points.{Place, AtClock, AtLook, AtPoll, AtKill, AtStart, AtPause, Point, AtTree, AtMakes, AtStore, AtFirst, AtNames, AtTurn, Over, Run}
+use Rattle.run_law.specs.Points.{Place, AtClock, AtLook, AtPoll, AtKill, AtAccept, AtClient, AtClose, AtStart, AtPause, Point, AtTree, AtMakes, AtStore, AtListen, AtFirst, AtNames, AtTurn, Over, Run}
 use Rattle.run_law.specs.Refusals.{status_lines}
 use Rattle.run_law.specs.Served.{CountsTurns, pauses_in}
 use Rattle.run_law.specs.Server.{Server, begun, is_stopping, jobs, lanes_up, log_jails, read_at}
-use Rattle.run_law.specs.Start.{defined, first_turn, loads, made, make_call, makes_on, names_call, names_in, start_news, to_makes, to_names, tree_read, unread_by}
+use Rattle.run_law.specs.Serving.{Onward, Service, closes, lets_in, point_on, reads, serves, with_clients, writes}
+use Rattle.run_law.specs.Start.{defined, first_turn, listened, loads, made, make_call, makes_on, names_call, names_in, start_news, to_makes, to_names, tree_read, unread_by}
 use Rattle.run_law.specs.Starts.{child_started, with_child, without_child}
-use Rattle.run_law.specs.Turn.{look_point, start_place, start_point, to_accept, to_children, to_end, to_logs, to_looks, to_polls, to_starts}
+use Rattle.run_law.specs.Turn.{at_pause, is_drained, look_point, start_place, start_point, to_accept, to_children, to_end, to_logs, to_looks, to_polls, to_starts}
 use Rattle.run_law.proofs.DiskLemmas.{next_behind, none_left}
 use Rattle.run_law.proofs.NewsLemmas.{brings_plan, brings_point}
 use Rattle.run_law.proofs.PointLemmas.{paid_call}
 use Rattle.slot_writes.specs.Writes.{Write}
 use Rattle.run_law.proofs.SaidLemmas.{pause_next}
+use Rattle.run_law.proofs.ServingLemmas.{accept_point, asked_none, onward_point}
 use Rattle.run_law.specs.declared.plan.Plan.{Plan}
 use Rattle.run_law.specs.declared.status.Status.{Status}
 use Rattle.run_law.specs.declared.status.Status.TheVariants.{Stopped, TurnsSpent, WorkloadDone, Usage, ConfFault, ConfRefused, DiskFault, NotAJournal, JournalFull, GateFault, SinkFault, ConfTooLarge, PatternRefused, NumbersSpent, NoMemory}
 
--- ---- where the entries of a turn lead: to a place of it, with the same server
+-- ---- where the entries of a turn lead: to a place of it, with the same server, or to the end of an orderly stop
 
 pub record IsOfTurn (point : Point) (s : Server) : Type 0 where
   pub place : Place
-  pub is : point ≡ AtTurn place s
+  pub is : (point ≡ AtTurn place s) ⊎ (point ≡ Over Stopped)
+
+-- what holds at each place of the turn and at that end holds at the point
+pub turn_by : (P : Point → Type 0) (point : Point) (s : Server) → IsOfTurn point s → ((place : Place) → P (AtTurn place s)) → P (Over Stopped) → P point
+turn_by P point s turn each stopped = elim turn.is [ inl at ↦ subst P (sym at) (each turn.place) | inr over ↦ subst P (sym over) stopped ]
 
 end_of_turn : (s : Server) → IsOfTurn (to_end s) s
 unfolding to_end
-end_of_turn s = record { place = AtPause; is = refl }
+end_of_turn s = by_drained (is_drained s)
+  where
+    by_drained : (drained : Bool) → IsOfTurn (cond drained (Over Stopped) (at_pause s)) s
+    by_drained true = record { place = AtPause; is = inr refl }
+    by_drained false = record { place = AtPause; is = inl refl }
 
 start_of_turn : (o : Option Job) (s : Server) → IsOfTurn (start_point o s) s
-start_of_turn (Some job) s = record { place = start_place s.now job (checked_first s.children (lanes_up s) (jobs s) job.id); is = refl }
+start_of_turn (Some job) s = record { place = start_place s.now job (checked_first s.children (lanes_up s) (jobs s) job.id); is = inl refl }
 start_of_turn None s = end_of_turn s
 
 pub starts_of_turn : (s : Server) → IsOfTurn (to_starts s) s
 unfolding to_starts
 starts_of_turn s = start_of_turn (startable s.now s.children (jobs s)) s
 
+place_of_turn : (place : Place) (s : Server) → IsOfTurn (AtTurn place s) s
+place_of_turn place s = record { place = place; is = inl refl }
+
+pub onward_of_turn : (o : Onward) (s : Server) → IsOfTurn (point_on o s) s
+onward_of_turn o s = onward_point (λ p. IsOfTurn p s) s (λ i. place_of_turn (AtClient i) s) (λ i. place_of_turn (AtClose i) s) (starts_of_turn s) o
+
 accept_of_turn : (s : Server) → IsOfTurn (to_accept s) s
-unfolding to_accept
-accept_of_turn s = starts_of_turn s
+accept_of_turn s = accept_point (λ p. IsOfTurn p s) s (λ i. place_of_turn (AtClient i) s) (λ i. place_of_turn (AtClose i) s) (starts_of_turn s) (place_of_turn AtAccept s)
 
 poll_of_turn : (more : Bool) (i : ℕ) (s : Server) → IsOfTurn (cond more (AtTurn (AtPoll i) s) (to_accept s)) s
-poll_of_turn true i s = record { place = AtPoll i; is = refl }
+poll_of_turn true i s = place_of_turn (AtPoll i) s
 poll_of_turn false i s = accept_of_turn s
 
 pub polls_of_turn : (i : ℕ) (s : Server) → IsOfTurn (to_polls i s) s
 polls_of_turn i s = poll_of_turn (nat_lt i (length s.children.running)) i s
 
 pub still_of_turn : (late : Bool) (i : ℕ) (s : Server) → IsOfTurn (still_point late i s) s
-still_of_turn true i s = record { place = AtKill i; is = refl }
+still_of_turn true i s = place_of_turn (AtKill i) s
 still_of_turn false i s = polls_of_turn (i + 1) s
 
 children_of_turn : (s : Server) → IsOfTurn (to_children s) s
@@ -101,7 +119,7 @@ unfolding to_children
 children_of_turn s = polls_of_turn 0 s
 
 look_of_turn : (o : Option ℕ) (s : Server) → IsOfTurn (look_point o s) s
-look_of_turn (Some i) s = record { place = AtLook i; is = refl }
+look_of_turn (Some i) s = place_of_turn (AtLook i) s
 look_of_turn None s = children_of_turn s
 
 pub looks_of_turn : (i : ℕ) (s : Server) → IsOfTurn (to_looks i s) s
@@ -139,9 +157,13 @@ record Fits (all made : ℕ) (r : Run) : Type 0 where
 abbrev FitsFree : ℕ → ℕ → Point → Type 0
 FitsFree all made p = FitsPoint all made p × ((owed : List (List ℕ)) (writes : List Write) → IsPaid p owed writes)
 
+-- a run that is over before its turns are spent
+less : (all made left : ℕ) → made + left ≡ all → 1 ≤ left → made < all
+less all made left sum some = omega (arith, sum, some)
+
 -- a place of a turn fits as another one of the same turn does
 of_turn : (all made : ℕ) (point : Point) (s : Server) → IsOfTurn point s → made + s.left ≡ all → 1 ≤ s.left → FitsFree all made point
-of_turn all made point s turn sum some = subst (FitsFree all made) (sym turn.is) ((sum, some), λ owed writes. tt)
+of_turn all made point s turn sum some = turn_by (FitsFree all made) point s turn (λ place. ((sum, some), λ owed writes. tt)) (less all made s.left sum some, λ owed writes. tt)
 
 -- an input takes no turn
 same_left : (o : Option What) (s : Server) → (server_after o s).left ≡ s.left
@@ -190,6 +212,10 @@ module _ (all : ℕ) (some : 1 ≤ all) (r : Run) (plan : r.plan.turns ≡ all) 
   on_fits [] answer settings fits = fits
   on_fits (p ∷ ps) answer settings fits = made_fits answer settings p ps
 
+  listened_fits : (answer : Listen) (settings : Settings) (l : Loaded) → Fits all 0 (listened answer settings l r)
+  listened_fits Listening settings l = record { plan = plan; point = refl; paid = tt }
+  listened_fits ListenFailed settings l = refused_fits GateFault early tt
+
   loads_fits : (o : Result Loaded (ℕ × ℕ)) (settings : Settings) → Fits all 0 (loads o settings r)
   loads_fits (Ok l) settings = record { plan = plan; point = refl; paid = tt }
   loads_fits (Err place) settings = refused_fits (NotAJournal place.0 place.1) early tt
@@ -223,7 +249,10 @@ module _ (all made : ℕ) (r : Run) (plan : r.plan.turns ≡ all) (s : Server) (
   plain_fits : (point : Point) (t : Server) → IsOfTurn point t → t.left ≡ s.left → Fits all made (goes_to point r)
   plain_fits point t turn left =
       let P : Point → Type 0 = λ p. Fits all made (goes_to p r) in
-      subst P (sym turn.is) (record { plan = plan; point = (omega (arith, sum, left), omega (arith, some, left)); paid = tt })
+      turn_by P point t turn (λ place. record { plan = plan; point = (omega (arith, sum, left), omega (arith, some, left)); paid = tt }) (record { plan = plan; point = sooner; paid = tt })
+
+  serves_fits : (x : Service) → Fits all made (serves x s r)
+  serves_fits x = turn_fits x.news (point_on x.onward) (with_clients x.clients s) (onward_of_turn x.onward) refl
 
   looked_fits : (answer : Look) (l : Watching) (i : ℕ) → Fits all made r → Fits all made (looked answer l i s r)
   looked_fits (File file) l i fits = turn_fits (look_news s.now l (look_taken s l file)) (to_looks (i + 1)) (now_is i l file s) (looks_of_turn (i + 1)) refl
@@ -302,12 +331,16 @@ pause_fits : (all made : ℕ) (r : Run) (p : Point) (ms : ℕ) → r.plan.turns 
 pause_fits all made r AtTree ms plan point paid next = absurd next
 pause_fits all made r (AtMakes settings left) ms plan point paid next = absurd (makes_no_pause left ms next)
 pause_fits all made r (AtStore settings) ms plan point paid next = absurd next
+pause_fits all made r (AtListen settings l) ms plan point paid next = absurd next
 pause_fits all made r (AtFirst settings l) ms plan point paid next = absurd next
 pause_fits all made r (AtNames settings naming s) ms plan point paid next = absurd (names_no_pause naming.left ms next)
 pause_fits all made r (AtTurn AtClock s) ms plan point paid next = absurd next
 pause_fits all made r (AtTurn (AtLook i) s) ms plan point paid next = absurd (look_no_pause (slice_get s.logs i) ms next)
 pause_fits all made r (AtTurn (AtPoll i) s) ms plan point paid next = absurd (poll_no_pause (slice_get s.children.running i) ms next)
 pause_fits all made r (AtTurn (AtKill i) s) ms plan point paid next = absurd (kill_no_pause (slice_get s.children.running i) ms next)
+pause_fits all made r (AtTurn AtAccept s) ms plan point paid next = absurd next
+pause_fits all made r (AtTurn (AtClient i) s) ms plan point paid next = absurd (asked_none (Pause ms) (conn_at i s.clients) (asks_at i s.clients) (λ bytes is. is) (λ most is. is) next)
+pause_fits all made r (AtTurn (AtClose i) s) ms plan point paid next = absurd next
 pause_fits all made r (AtTurn (AtStart c text) s) ms plan point paid next = absurd next
 pause_fits all made r (AtTurn AtPause s) ms plan point paid next = paused_fits all made r plan s point.0 point.1 paid
 pause_fits all made r (Over status) ms plan point paid next = absurd next
@@ -318,6 +351,10 @@ turns_fit all made r AtClock s (Clock answer) plan point fits plain =
 turns_fit all made r (AtLook i) s (LookAt path head from max answer) plan point fits plain = looked_at_fits all made r plan s point.0 point.1 (slice_get s.logs i) answer i fits
 turns_fit all made r (AtPoll i) s (ChildPoll job answer) plan point fits plain = polled_fits all made r plan s point.0 point.1 (slice_get s.children.running i) answer i fits
 turns_fit all made r (AtKill i) s (ChildKill job) plan point fits plain = killed_fits all made r plan s point.0 point.1 (slice_get s.children.running i) i fits
+turns_fit all made r AtAccept s (GateAccept answer) plan point fits plain = serves_fits all made r plan s point.0 point.1 (lets_in answer s)
+turns_fit all made r (AtClient i) s (GateRead conn max answer) plan point fits plain = serves_fits all made r plan s point.0 point.1 (reads answer i s)
+turns_fit all made r (AtClient i) s (GateWrite conn bytes answer) plan point fits plain = serves_fits all made r plan s point.0 point.1 (writes answer i s)
+turns_fit all made r (AtClose i) s (GateClose conn) plan point fits plain = serves_fits all made r plan s point.0 point.1 (closes i s)
 turns_fit all made r (AtStart c text) s (ChildStart job command answer) plan point fits plain = started_fits all made r plan s point.0 point.1 answer c fits
 turns_fit all made r AtPause s (Pause ms) plan point fits plain = absurd plain
 turns_fit all made r _ s _ plan point fits plain = fits
@@ -333,6 +370,7 @@ moved_fits : (all made : ℕ) (some : 1 ≤ all) (r : Run) (p : Point) (event : 
 moved_fits all made some r AtTree (Config root answer) plan point fits plain = at_none all made r _ point fits (λ f. tree_fits all some r plan answer f)
 moved_fits all made some r (AtMakes settings left) (Make text answer) plan point fits plain = at_none all made r _ point fits (λ f. on_fits all some r plan left answer settings f)
 moved_fits all made some r (AtStore settings) (StoreAt socket answer) plan point fits plain = at_none all made r _ point fits (λ f. loads_fits all some r plan (loaded r.plan.limit r.slots) settings)
+moved_fits all made some r (AtListen settings l) (GateListen socket answer) plan point fits plain = at_none all made r _ point fits (λ f. listened_fits all some r plan answer settings l)
 moved_fits all made some r (AtFirst settings l) (Clock answer) plan point fits plain =
     at_none all made r _ point fits (λ f. names_fits all some r plan [] settings (first_naming settings.defs) (first_naming settings.defs).left (begun r.plan.turns l answer) plan)
 moved_fits all made some r (AtNames settings naming s) (Names dir answer) plan point fits plain =
@@ -346,6 +384,7 @@ fewer : (all made : ℕ) (some : 1 ≤ all) (p : Point) → (p ≡ Over TurnsSpe
 fewer all made some AtTree other point = omega (arith, some, point)
 fewer all made some (AtMakes settings left) other point = omega (arith, some, point)
 fewer all made some (AtStore settings) other point = omega (arith, some, point)
+fewer all made some (AtListen settings l) other point = omega (arith, some, point)
 fewer all made some (AtFirst settings l) other point = omega (arith, some, point)
 fewer all made some (AtNames settings naming s) other point = let none : made ≡ 0 = point.0 in omega (arith, some, none)
 fewer all made some (AtTurn place s) other point = sooner_of all made s point.0 point.1
@@ -503,6 +542,6 @@ counts_turns plan slots status g es some along ends =
           let all_made : made_after 0 es ≡ all = subst P over.point last.point in
           sym made ∙ all_made;
       sooner = λ other loud.
-          let less : made_after 0 es < all = over_fits all (made_after 0 es) status other (subst P (ends_over status (after feed MayCome Free (opening plan slots) es) loud ends) last.point) in
-          omega (arith, less, made);
+          let fewer_made : made_after 0 es < all = over_fits all (made_after 0 es) status other (subst P (ends_over status (after feed MayCome Free (opening plan slots) es) loud ends) last.point) in
+          omega (arith, fewer_made, made);
     }

@@ -10,7 +10,7 @@ use Rattle.f2b_world.specs.declared.answer.Synced.TheVariants.{Done as SyncDone,
 use Rattle.f2b_world.specs.declared.answer.Wrote.{Wrote}
 use Rattle.f2b_world.specs.declared.answer.Wrote.TheVariants.{Done as WroteDone, Failed as WroteFailed, NoMemory as WroteNoMemory}
 use Rattle.run_law.specs.News.{writing}
-use Rattle.run_law.specs.Points.{Point, AtFirst, Over, Run}
+use Rattle.run_law.specs.Points.{Point, AtListen, Over, Run}
 use Rattle.run_law.specs.Refusals.{status_lines}
 use Rattle.run_law.specs.declared.status.Status.TheVariants.{DiskFault, NotAJournal}
 
@@ -28,9 +28,9 @@ broken r = record r { point = Over DiskFault; owed = status_lines (moment_in r.u
 
 -- ---- the load
 
--- Slots may be read from their naming on, until the next call: that of the clock, or the saying that they are no journal.
+-- Slots may be read from their naming on, until the next call: clients are let in, or it is said that the slots are no journal.
 abbrev pub IsLoading : Point → List (List ℕ) → Type 0
-IsLoading (AtFirst settings l) owed = Unit {0}
+IsLoading (AtListen settings l) owed = Unit {0}
 IsLoading (Over (NotAJournal slot at)) (line ∷ lines) = Unit {0}
 IsLoading _ _ = ⊥
 

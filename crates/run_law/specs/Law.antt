@@ -6,18 +6,19 @@ use Rattle.f2b_world.specs.Walks.{Walks}
 use Rattle.f2b_world.specs.declared.answer.Said.TheVariants.{Done as SayDone, Failed as SayFailed}
 use Rattle.f2b_world.specs.declared.answer.Wrote.TheVariants.{NoMemory as WroteNoMemory}
 use Rattle.f2b_world.specs.declared.event.Event.{Event}
-use Rattle.f2b_world.specs.declared.event.Event.TheVariants.{Say, DiskLen, DiskRead, DiskWrite, DiskSync, Make, Clock as ClockRead, Config, StoreAt, Names, Look as LookAt, ChildStart, ChildPoll, ChildKill, Pause as Paused}
-use Rattle.run_law.specs.Calls.{Call, AskSay, AskTree, AskClock, AskWrite, IsNext}
+use Rattle.f2b_world.specs.declared.event.Event.TheVariants.{Say, DiskLen, DiskRead, DiskWrite, DiskSync, Make, Clock as ClockRead, Config, StoreAt, Names, Look as LookAt, ChildStart, ChildPoll, ChildKill, GateListen, GateAccept, GateRead, GateWrite, GateClose, Pause as Paused}
+use Rattle.run_law.specs.Calls.{Call, AskAccept, AskSay, AskTree, AskClock, AskWrite, IsNext}
 use Rattle.run_law.specs.Clock.{clock_call, clock_read}
 use Rattle.run_law.specs.Disk.{IsLoading, measured, piece_read, synced, wrote}
 use Rattle.run_law.specs.Looks.{look_call, looked_at}
 use Rattle.run_law.specs.News.{goes_to, refused}
 use Rattle.run_law.specs.Pause.{pause_call, paused}
-use Rattle.run_law.specs.Points.{Place, AtClock, AtLook, AtPoll, AtKill, AtStart, AtPause, Point, AtTree, AtMakes, AtStore, AtFirst, AtNames, AtTurn, Over, Run}
+use Rattle.run_law.specs.Points.{Place, AtClock, AtLook, AtPoll, AtKill, AtAccept, AtClient, AtClose, AtStart, AtPause, Point, AtTree, AtMakes, AtStore, AtListen, AtFirst, AtNames, AtTurn, Over, Run}
 use Rattle.run_law.specs.Polls.{kill_call, killed_at, poll_call, polled_at}
 use Rattle.run_law.specs.Said.{joined}
 use Rattle.run_law.specs.Server.{Server}
-use Rattle.run_law.specs.Start.{first_read, make_call, makes_on, names_call, names_read, store_call, store_named, tree_read}
+use Rattle.run_law.specs.Serving.{client_call, close_call, closes, lets_in, reads, serves, writes}
+use Rattle.run_law.specs.Start.{first_read, listen_call, listened, make_call, makes_on, names_call, names_read, store_call, store_named, tree_read}
 use Rattle.run_law.specs.Starts.{child_started, start_call}
 use Rattle.run_law.specs.Words.{plan_of}
 use Rattle.run_law.specs.declared.plan.Plan.{Plan}
@@ -32,6 +33,9 @@ turn_call AtClock s = clock_call
 turn_call (AtLook i) s = look_call i s
 turn_call (AtPoll i) s = poll_call i s
 turn_call (AtKill i) s = kill_call i s
+turn_call AtAccept s = Some AskAccept
+turn_call (AtClient i) s = client_call i s
+turn_call (AtClose i) s = close_call i s
 turn_call (AtStart c text) s = start_call c text
 turn_call AtPause s = pause_call
 
@@ -39,6 +43,7 @@ abbrev pub point_call : Plan → Point → Option Call
 point_call plan AtTree = Some (AskTree plan.root)
 point_call plan (AtMakes settings left) = make_call left
 point_call plan (AtStore settings) = store_call settings
+point_call plan (AtListen settings l) = listen_call settings
 point_call plan (AtFirst settings l) = Some AskClock
 point_call plan (AtNames settings naming s) = names_call naming.left
 point_call plan (AtTurn place s) = turn_call place s
@@ -76,6 +81,10 @@ turns AtClock (ClockRead answer) s r = clock_read answer s r
 turns (AtLook i) (LookAt path head from max answer) s r = looked_at (slice_get s.logs i) answer i s r
 turns (AtPoll i) (ChildPoll job answer) s r = polled_at (slice_get s.children.running i) answer i s r
 turns (AtKill i) (ChildKill job) s r = killed_at (slice_get s.children.running i) i s r
+turns AtAccept (GateAccept answer) s r = serves (lets_in answer s) s r
+turns (AtClient i) (GateRead conn max answer) s r = serves (reads answer i s) s r
+turns (AtClient i) (GateWrite conn bytes answer) s r = serves (writes answer i s) s r
+turns (AtClose i) (GateClose conn) s r = serves (closes i s) s r
 turns (AtStart c text) (ChildStart job command answer) s r = child_started answer c s r
 turns AtPause (Paused ms) s r = paused s r
 turns _ _ s r = r
@@ -84,6 +93,7 @@ abbrev pub moved : Point → Event → Run → Run
 moved AtTree (Config root answer) r = tree_read answer r
 moved (AtMakes settings left) (Make text answer) r = makes_on left answer settings r
 moved (AtStore settings) (StoreAt socket answer) r = store_named settings r
+moved (AtListen settings l) (GateListen socket answer) r = listened answer settings l r
 moved (AtFirst settings l) (ClockRead answer) r = first_read answer settings l r
 moved (AtNames settings naming s) (Names dir answer) r = names_read answer settings naming s r
 moved (AtTurn place s) event r = turns place event s r

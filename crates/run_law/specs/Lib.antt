@@ -13,6 +13,8 @@ pub mod Calls
 pub mod News
 pub mod Disk
 pub mod Turn
+pub mod Requests
+pub mod Serving
 pub mod Clock
 pub mod Looks
 pub mod Polls

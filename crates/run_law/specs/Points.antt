@@ -24,6 +24,11 @@ pub data Place : Type 0 where
   AtPoll : ℕ → Place
   -- that child is late
   AtKill : ℕ → Place
+  AtAccept : Place
+  -- at the client of that place in their list, from 0: it is written to or read
+  AtClient : ℕ → Place
+  -- that client is over
+  AtClose : ℕ → Place
   -- at the start of a child, with its command
   AtStart : Child → List ℕ → Place
   AtPause : Place
@@ -35,6 +40,8 @@ pub data Point : Type 0 where
   AtMakes : Settings → List Pattern → Point
   -- at the naming of the journal's slots
   AtStore : Settings → Point
+  -- clients are let in
+  AtListen : Settings → Loaded → Point
   -- at the first reading of the clock
   AtFirst : Settings → Loaded → Point
   -- at the names for the first path that is left

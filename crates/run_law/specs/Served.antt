@@ -20,6 +20,7 @@ use Rattle.run_law.specs.Stages.{HasCause}
 use Rattle.run_law.specs.Stops.{BeginsOn, ComesInOrder, IsKept, IsRegular, IsStored, held_in}
 use Rattle.run_law.specs.Turn.{start_place}
 use Rattle.run_law.specs.Words.{plan_of}
+use Rattle.run_law.specs.declared.plan.Plan.{Plan}
 use Rattle.run_law.specs.declared.status.Status.{Status}
 use Rattle.run_law.specs.declared.status.Status.TheVariants.{TurnsSpent, Usage, SinkFault, NoMemory}
 
@@ -122,11 +123,12 @@ pub record KeepsInputs (words : List (List ℕ)) (status : Status) (v : View) (g
 
 -- ---- the whole run
 
--- The run's events obey the law from the first to the last, the run ends with this status where no call is left, its lines were said in
--- their order, its commands were started in their turn, each of them was polled once a turn, and its inputs are kept, whatever view it began
--- on.
+-- The run's events obey the law from the first to the last, the run ends with this status where no call is left, it made as many turns as were asked
+-- for, its lines were said in their order, its commands were started in their turn, each of them was polled once a turn, and its inputs are kept,
+-- whatever view it began on.
 pub record IsRun (old new : Option History) (words : List (List ℕ)) (status : Status) : Type 0 where
   pub law : Adds old new (λ g es. Obeys (begin words (held_in g)) g es × Ends status (run_after words (held_in g) es))
+  pub turns : Adds old new (λ g es. (plan : Plan) → plan_of words ≡ Some plan → CountsTurns plan.turns status es)
   pub lines : Adds old new (λ g es. SaysInOrder words (held_in g) status es)
   pub commands : Adds old new (λ g es. StartsInTurn words (held_in g) es)
   pub polls : Adds old new (λ g es. PollsEachOnce words (held_in g) es)

@@ -13,6 +13,7 @@ use Rattle.f2b_model.specs.Steps.{moves}
 use Rattle.f2b_model.specs.Views.{view_of}
 use Rattle.f2b_model.specs.Whole.{State, step, told, is_whole_spent}
 use Rattle.child_table.specs.Children.{Children, nobody}
+use Rattle.client_table.specs.Clients.{Client}
 use Rattle.log_set.specs.Logs.{LogJail, Watching}
 use Rattle.reconcile.specs.Loads.{Loaded}
 use Rattle.run_law.specs.Logs.{log_jail, logs_of}
@@ -32,6 +33,8 @@ pub record Server : Type 0 where
   pub logs : List Watching
   -- the commands that run, and the checks that have passed
   pub children : Children
+  -- by their numbers
+  pub clients : List Client
   -- the turns that are left
   pub left : ℕ
 
@@ -77,6 +80,7 @@ begun turns l answer = record {
   word = answer.word;
   logs = [];
   children = nobody;
+  clients = [];
   left = turns;
 }
 

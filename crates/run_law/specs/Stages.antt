@@ -1,7 +1,7 @@
 -- What a part of a run hands up: from where to where it goes, whatever the server is, with what the code keeps of it.
 use Rattle.std.specs.Prelude.{ℕ, ◌≡◌, ◌≤◌, ◌++◌, ◌⊎◌, List, [], None, Contains, Ok, Err}
 use Rattle.f2b_base.specs.declared.outside.Tree.{Tree}
-use Rattle.f2b_world.specs.Faults.{Fault, OfSink, OfDisk, OfConfiguration, OfPatterns, Rose}
+use Rattle.f2b_world.specs.Faults.{Fault, OfSink, OfDisk, OfConfiguration, OfGate, OfPatterns, Rose}
 use Rattle.f2b_world.specs.Reading.{reading}
 use Rattle.f2b_world.specs.Told.{Adds, Standing}
 use Rattle.filter_regex.specs.declared.error.BuildKind.TheVariants.{Syntax, TooBig}
@@ -15,7 +15,7 @@ use Rattle.run_law.specs.Patterns.{Pattern, patterns_of}
 use Rattle.run_law.specs.Points.{Point, Over, Run}
 use Rattle.run_law.specs.Server.{Server}
 use Rattle.run_law.specs.declared.status.Status.{Status}
-use Rattle.run_law.specs.declared.status.Status.TheVariants.{Stopped, TurnsSpent, WorkloadDone, Usage, ConfFault, ConfRefused, DiskFault, SinkFault, PatternRefused, NoMemory}
+use Rattle.run_law.specs.declared.status.Status.TheVariants.{Stopped, TurnsSpent, WorkloadDone, Usage, ConfFault, ConfRefused, DiskFault, GateFault, SinkFault, PatternRefused, NoMemory}
 
 -- nothing is left to write, and all lines are said
 pub record IsStill (r : Run) : Type 0 where
@@ -85,15 +85,17 @@ pub record IsNoConfiguration (error : ConfError) : Type 0 where
   pub refused : conf tree ≡ Err error
 
 -- Behind the words a run ends early for a cause: a fault of the outside in a count that rose, a tree that is refused, or a pattern whose
--- text has no reading. That a limit was met is told by the events alone.
+-- text has no reading. That a limit was met, or that all is settled behind a
+-- stop that was asked for, is told by the events alone.
 abbrev pub HasCause : Standing → Standing → Status → Type 0
-HasCause old new Stopped = ⊥
+HasCause old new Stopped = Unit {0}
 HasCause old new TurnsSpent = ⊥
 HasCause old new WorkloadDone = ⊥
 HasCause old new Usage = ⊥
 HasCause old new ConfFault = Rose (old.faults OfConfiguration) (new.faults OfConfiguration)
 HasCause old new (ConfRefused error) = IsNoConfiguration error
 HasCause old new DiskFault = Rose (old.faults OfDisk) (new.faults OfDisk)
+HasCause old new GateFault = Rose (old.faults OfGate) (new.faults OfGate)
 HasCause old new SinkFault = Rose (old.faults OfSink) (new.faults OfSink)
 HasCause old new (PatternRefused jail place Syntax) = IsNoPattern jail place
 HasCause old new (PatternRefused jail place TooBig) = Rose (old.faults OfPatterns) (new.faults OfPatterns)

@@ -1,11 +1,13 @@
--- The start: the configuration, its patterns, the journal, the first reading of the clock, the names for wildcards, and the configuration
--- as an input.
+-- The start: the configuration, its patterns, the journal, the socket, the first reading of the clock, the names for wildcards, and the
+-- configuration as an input.
 use Rattle.std.specs.Prelude.{ℕ, Bool, true, false, List, [], ◌∷◌, Option, Some, None, Result, Ok, Err}
 use Rattle.f2b_base.specs.declared.input.What.TheVariants.{Config as Configured}
 use Rattle.f2b_base.specs.declared.jail.Defs.{Defs}
 use Rattle.f2b_base.specs.declared.outside.Reading.{Reading}
 use Rattle.f2b_base.specs.declared.outside.TreeAnswer.{TreeAnswer}
 use Rattle.f2b_base.specs.declared.outside.TreeAnswer.TheVariants.{Tree as TreeGiven, Failed as TreeFailed, TooLarge as TreeTooLarge, NoMemory as TreeNoMemory}
+use Rattle.f2b_world.specs.declared.answer.Listen.{Listen}
+use Rattle.f2b_world.specs.declared.answer.Listen.TheVariants.{Listening, Failed as ListenFailed}
 use Rattle.f2b_world.specs.declared.answer.MakeAnswer.{MakeAnswer}
 use Rattle.f2b_world.specs.declared.answer.MakeAnswer.TheVariants.{Built, Syntax as WasSyntax, TooBig as WasTooBig}
 use Rattle.f2b_world.specs.declared.answer.NamesAnswer.{NamesAnswer}
@@ -15,16 +17,16 @@ use Rattle.filter_regex.specs.declared.error.BuildKind.TheVariants.{Syntax, TooB
 use Rattle.jail_conf.specs.Conf.{conf}
 use Rattle.jail_conf.specs.declared.conf_error.ConfError.{ConfError}
 use Rattle.jail_conf.specs.declared.settings.Settings.{Settings}
-use Rattle.run_law.specs.Calls.{Call, AskMake, AskNames, AskStore}
+use Rattle.run_law.specs.Calls.{Call, AskListen, AskMake, AskNames, AskStore}
 use Rattle.run_law.specs.Changes.{config_changes}
 use Rattle.reconcile.specs.Loads.{Loaded, loaded}
 use Rattle.run_law.specs.News.{News, brings, goes_to, refused}
 use Rattle.run_law.specs.Paths.{Path, Naming, directory, first_naming, named, with_paths}
 use Rattle.run_law.specs.Patterns.{Pattern, patterns_of}
-use Rattle.run_law.specs.Points.{Point, AtMakes, AtStore, AtFirst, AtNames, AtTurn, AtClock, Run}
+use Rattle.run_law.specs.Points.{Point, AtMakes, AtStore, AtListen, AtFirst, AtNames, AtTurn, AtClock, Run}
 use Rattle.run_law.specs.Said.{ready_line, unread_line}
 use Rattle.run_law.specs.Server.{Server, begun, following}
-use Rattle.run_law.specs.declared.status.Status.TheVariants.{ConfFault, ConfRefused, NotAJournal, ConfTooLarge, PatternRefused}
+use Rattle.run_law.specs.declared.status.Status.TheVariants.{ConfFault, ConfRefused, GateFault, NotAJournal, ConfTooLarge, PatternRefused}
 
 -- ---- calls
 
@@ -39,6 +41,9 @@ store_call settings = Some (AskStore settings.socket)
 abbrev pub names_call : List Path → Option Call
 names_call [] = None
 names_call (p ∷ ps) = Some (AskNames (directory p.watch.path))
+
+abbrev pub listen_call : Settings → Option Call
+listen_call settings = Some (AskListen settings.socket)
 
 -- ---- the configuration
 
@@ -74,12 +79,18 @@ makes_on (p ∷ ps) answer settings r = made answer settings p ps r
 -- ---- the journal
 
 abbrev pub loads : Result Loaded (ℕ × ℕ) → Settings → Run → Run
-loads (Ok l) settings r = goes_to (AtFirst settings l) r
+loads (Ok l) settings r = goes_to (AtListen settings l) r
 loads (Err place) settings r = refused 0 (NotAJournal place.0 place.1) r
 
 -- What the slots held as the run began is loaded: nothing was written since.
 abbrev pub store_named : Settings → Run → Run
 store_named settings r = loads (loaded r.plan.limit r.slots) settings r
+
+-- ---- the socket
+
+abbrev pub listened : Listen → Settings → Loaded → Run → Run
+listened Listening settings l r = goes_to (AtFirst settings l) r
+listened ListenFailed settings l r = refused 0 GateFault r
 
 -- ---- the names, and the configuration as an input
 

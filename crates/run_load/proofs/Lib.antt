@@ -1,3 +1,4 @@
+pub mod ListenLemmas
 pub mod ReadLemmas
 pub mod SlotLemmas
 pub mod NameLemmas

@@ -10,7 +10,7 @@ use Rattle.reconcile.specs.Engines.{EngineNow}
 use Rattle.reconcile.specs.Loads.{AreSound, Loaded, loaded}
 use Rattle.run_law.specs.Law.{Goes}
 use Rattle.run_law.specs.News.{goes_to}
-use Rattle.run_law.specs.Points.{AtFirst, AtStore, Run}
+use Rattle.run_law.specs.Points.{AtListen, AtStore, Run}
 use Rattle.run_law.specs.Stages.{HasCause, IsAt}
 use Rattle.run_law.specs.Start.{loads, store_named}
 use Rattle.run_law.specs.declared.plan.Plan.{Plan}
@@ -40,7 +40,7 @@ module _ (a b : Standing) (plan : Plan) (settings : Settings) (call : Called a (
         let held : r.slots ≡ content h = (holds_on r.slots b c (reads_leave b c read.reads) (named_holds r is).holds).each h told in
         let own = read.comes h told in
         let comes : loaded plan.limit r.slots ≡ Ok own.comes = ap (loaded plan.limit) held ∙ own.loads in
-        let first : Run = goes_to (AtFirst settings own.comes) r in
+        let first : Run = goes_to (AtListen settings own.comes) r in
         let named : store_named settings r ≡ first = ap (λ (o : Result Loaded (ℕ × ℕ)). loads o settings r) (ap (λ (p : Plan). loaded p.limit r.slots) is.asked ∙ comes) in
         let sound_there : AreSound (content h) = subst AreSound held sound in
         record {

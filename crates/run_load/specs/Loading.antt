@@ -1,4 +1,4 @@
--- What loading the journal of a run hands up: the run comes to the first reading of the clock with what its slots come to, or ends.
+-- What loading the journal of a run hands up: the run comes to where clients are let in, with what its slots come to, or ends.
 use Rattle.std.specs.Prelude.{ℕ, ◌≡◌, false, Option, None, Ok}
 use Rattle.f2b_world.specs.Told.{History, Standing}
 use Rattle.ban_journal.specs.declared.load_error.LoadError.{LoadError}
@@ -9,7 +9,7 @@ use Rattle.reconcile.specs.LoadedEngines.{IsLoadedEngine}
 use Rattle.reconcile.specs.Loads.{AreSound, Loaded, loaded}
 use Rattle.reconcile.specs.Opens.{WhereTold}
 use Rattle.run_law.specs.Law.{Halts}
-use Rattle.run_law.specs.Points.{AtFirst, AtStore, Run}
+use Rattle.run_law.specs.Points.{AtListen, AtStore, Run}
 use Rattle.run_law.specs.Stages.{IsAt, IsStill, Refuses}
 use Rattle.run_law.specs.Start.{store_named}
 use Rattle.run_law.specs.Stops.{HoldsThese}
@@ -25,11 +25,11 @@ pub record IsUnloaded (told : Option History) (plan : Plan) (r : Run) : Type 0 w
   pub unclosed : r.unclosed ≡ None
   pub holds : HoldsThese r.slots told
 
--- the run comes to the first reading of the clock with what its slots come to, and the engine is that
+-- the run comes to where clients are let in, with what its slots come to, and the engine is that
 pub record Loads (old new : Standing) (plan : Plan) (settings : Settings) (engine : EngineNow) (r : Run) : Type 0 where
   pub comes : Loaded
   pub loads : loaded plan.limit r.slots ≡ Ok comes
-  pub arrives : Arrives old new plan r (AtFirst settings comes)
+  pub arrives : Arrives old new plan r (AtListen settings comes)
   pub keeps : KeepsLoaded comes engine
 
 -- The journal of a run with sound slots was loaded, as long as the world tells. Of one that does not tell no slots are known.

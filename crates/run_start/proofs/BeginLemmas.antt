@@ -87,6 +87,7 @@ module _ (a b : Standing) (settings : Settings) (engine : EngineNow) (reading : 
         };
         logs = refl;
         children = refl;
+        clients = refl;
         left = refl;
       }
 
@@ -103,7 +104,7 @@ module _ (a b : Standing) (settings : Settings) (engine : EngineNow) (reading : 
     runs = λ r l is at loaded.
         let s = begun plan.turns l reading in
         let one = walks.runs r s at.still (begins_keeping plan l loaded).clocked in
-        let two = configures.runs plan one.here s one.still (record { clocked = one.keeps; logs = refl; children = refl; left = refl }) in
+        let two = configures.runs plan one.here s one.still (record { clocked = one.keeps; logs = refl; children = refl; clients = refl; left = refl }) in
         record {
           to = two.to;
           server = two.server;
@@ -162,11 +163,12 @@ configured_has kept after defs whole what is configuring makes =
 pub record StaysBeside (s t : Server) : Type 0 where
   pub logs : t.logs ≡ s.logs
   pub children : t.children ≡ s.children
+  pub clients : t.clients ≡ s.clients
   pub left : t.left ≡ s.left
 
 stays_beside : (what : Option What) (s : Server) → StaysBeside s (server_after what s)
-stays_beside None s = record { logs = refl; children = refl; left = refl }
-stays_beside (Some what) s = record { logs = refl; children = refl; left = refl }
+stays_beside None s = record { logs = refl; children = refl; clients = refl; left = refl }
+stays_beside (Some what) s = record { logs = refl; children = refl; clients = refl; left = refl }
 
 module _ (a b : Standing) (settings : Settings) (walk : PathWalk) (defs : Defs) (what : Option What) (behind : List (List ℕ))
     (none : walk.left.now ≡ []) (defs_is : defs ≡ with_paths settings.defs walk.found) (tells : TellsInput walk.clocked defs what) (ready : behind ≡ ready_line walk.clocked.now ∷ []) where
@@ -205,6 +207,7 @@ module _ (a b : Standing) (settings : Settings) (walk : PathWalk) (defs : Defs) 
             awake = awake_kept (jails t) (subst (AllOf (λ (j : JailNow). j.idle ≡ false)) core has.awake);
             logs = beside.logs ∙ keeps.logs;
             children = beside.children ∙ keeps.children;
+            clients = beside.clients ∙ keeps.clients;
             left = beside.left ∙ keeps.left;
           };
         });

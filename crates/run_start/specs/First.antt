@@ -27,6 +27,7 @@ pub record KeepsFirst (plan : Plan) (settings : Settings) (s : Server) (kept : C
   pub awake : AreAwake (jails s)
   pub logs : s.logs ≡ []
   pub children : s.children ≡ nobody
+  pub clients : s.clients ≡ []
   pub left : s.left ≡ plan.turns
 
 -- the run comes to the first turn of a server that the code keeps

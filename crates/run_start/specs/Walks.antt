@@ -39,6 +39,7 @@ pub record KeepsBegun (plan : Plan) (s : Server) (kept : Clocked) : Type 0 where
   pub clocked : KeepsClocked s kept
   pub logs : s.logs ≡ []
   pub children : s.children ≡ nobody
+  pub clients : s.clients ≡ []
   pub left : s.left ≡ plan.turns
 
 -- the run comes to where the walk stands

@@ -32,11 +32,12 @@ pub record KeepsClocked (s : Server) (kept : Clocked) : Type 0 where
   pub now : kept.now ≡ s.now
   pub word : kept.word ≡ s.word
 
--- besides, the followed logs of its jails, the commands that run, and the turns that are left
+-- besides, the followed logs of its jails, the commands that run, the clients, and the turns that are left
 pub record KeepsRunning (s : Server) (kept : Running) : Type 0 where
   pub clocked : KeepsClocked s kept.clocked
   pub logs : IsSetOf kept.logs (log_jails s) s.logs
   pub children : kept.children ≡ s.children
+  pub clients : kept.clients ≡ s.clients
   pub left : kept.left ≡ s.left
 
 -- these news, whatever the server is

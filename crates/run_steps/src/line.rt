@@ -1,7 +1,7 @@
 //! The lines that the server says, each as a text and its stamp.
 ghost use Rattle.std.specs.Prelude.{◌≡◌, ◌++◌, IfOk, OnOk, codes};
 ghost use Rattle.f2b_base.specs.Addresses.{printed};
-ghost use Rattle.run_law.specs.Said.{stamped, ready_line, happening_text, line_of, rotated_line, unread_line};
+ghost use Rattle.run_law.specs.Said.{stamped, ready_line, stopping_line, happening_text, line_of, rotated_line, unread_line};
 
 use f2b_base::{Addr, Bytes, NoMemory, Text};
 use f2b_model::Happening;
@@ -26,6 +26,14 @@ pub fn ready_line(alloc: Global, now: u64) -> Result<Bytes, NoMemory>
     ensures { IfOk result (λ line. line ≡ ready_line now) }
 {
     stamped(alloc, now, b"INFO Server ready")
+}
+
+/// That a stop was asked for.
+#[tactic(auto, unfolding(run_law::specs::Said::stopping_line))]
+pub fn stopping_line(alloc: Global, now: u64) -> Result<Bytes, NoMemory>
+    ensures { IfOk result (λ line. line ≡ stopping_line now) }
+{
+    stamped(alloc, now, b"INFO Stopping")
 }
 
 fn push_addr(text: &mut Bytes, addr: &Addr) -> Result<(), NoMemory>

@@ -1,7 +1,7 @@
 //! Runs of one action, as transcripts of what is said and which commands are started, polled and ended.
+use crate::transcript::transcript;
 use f2b_base::{Bytes, Reading, Seq, Text, Tree, TreeAnswer, TreeFile};
 use f2b_mem::{ChildPlan, FileChange, Image, MemWorld, Script};
-use f2b_world::{Event, Said, StartAnswer};
 use server_top::server;
 use std::alloc::Global;
 use std::test::Fail;
@@ -109,7 +109,7 @@ const ROWS: [Row; 7] = [
         action: CHECKED,
         readings: &[1700001000],
         children: &[],
-        fails: &[35],
+        fails: &[38],
         transcript: "1700001000 INFO Server ready\n1700001000 INFO [web] Found 192.0.2.7\n1700001000 NOTICE [web] Ban 192.0.2.7\nstart 0 up\npause\npoll 0\nstart 1 look: failed\n1700001000 WARNING [web/note] check failed: not started\n1700001000 INFO [web/note] restart\nstart 2 down\npause\npoll 2\nstart 3 up\npause\npoll 3\nstart 4 add 192.0.2.7\npause\npoll 4\npause\n",
     },
     // Sixteen commands run at once, and the next one once there is room.
@@ -183,49 +183,6 @@ fn world(alloc: Global, row: &Row) -> Result<MemWorld, Fail> {
         },
     };
     Ok(MemWorld::new(alloc, script)?)
-}
-
-/// What a command that was started ends its line with.
-fn start_end(answer: StartAnswer) -> &'static str {
-    match answer {
-        StartAnswer::Started => "\n",
-        StartAnswer::Failed => ": failed\n",
-        StartAnswer::NoMemory => ": no memory\n",
-    }
-}
-
-/// The line of a call, if it has one.
-fn line(alloc: Global, event: &Event) -> Result<Option<String>, Fail> {
-    Ok(match event {
-        Event::ChildStart { job, text, answer } => Some(format!(in alloc;
-            "start {} {}{}",
-            *job,
-            text.as_str(),
-            start_end(*answer)
-        )?),
-        Event::ChildPoll { job, answer: _ } => Some(format!(in alloc; "poll {}\n", *job)?),
-        Event::ChildKill { job } => Some(format!(in alloc; "kill {}\n", *job)?),
-        Event::Pause { .. } => Some(String::from_str(alloc, "pause\n")?),
-        _ => None,
-    })
-}
-
-/// What was said, and the lines of calls on commands and of pauses.
-fn transcript(alloc: Global, events: &[Event]) -> Result<Bytes, Fail> {
-    let mut transcript = Bytes::new(alloc);
-    for event in events {
-        if let Event::Say {
-            bytes,
-            answer: Said::Done,
-        } = event
-        {
-            transcript.push_slice(bytes.as_slice())?;
-        }
-        if let Some(line) = line(alloc, event)? {
-            transcript.push_slice(line.as_bytes())?;
-        }
-    }
-    Ok(transcript)
 }
 
 /// The status of a row's run, its transcript, and whether its world is still told.

@@ -17,6 +17,10 @@
 #![tactic(auto)]
 
 #[cfg(test)]
+mod callers;
+#[cfg(test)]
+mod clients;
+#[cfg(test)]
 mod commands;
 #[cfg(test)]
 mod limits;
@@ -26,5 +30,7 @@ mod play;
 mod stops;
 #[cfg(test)]
 mod tests;
+#[cfg(test)]
+mod transcript;
 #[cfg(test)]
 mod trees;

@@ -37,6 +37,7 @@ fn is_served(alloc: Global, count: u32, status: u8, said: &str) -> Result<bool, 
         readings: &[1_700_001_000],
         changes,
         children: Seq::new(alloc),
+        clients: Seq::new(alloc),
         fails: &[],
     };
     is_as_wanted(alloc, given, status, said)
@@ -65,6 +66,7 @@ fn refuses_a_configuration_that_is_too_large(rt: HostRuntime) -> Result<(), Fail
         readings: &[],
         changes: Seq::new(rt.alloc()),
         children: Seq::new(rt.alloc()),
+        clients: Seq::new(rt.alloc()),
         fails: &[],
     };
     assert!(rt; is_as_wanted(rt.alloc(), given, 10, "0 ERROR Configuration too large\n")?);

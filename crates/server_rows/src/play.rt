@@ -1,17 +1,17 @@
 //! One run over a world in memory, and what it says.
 use f2b_base::{Bytes, Reading, Seq, Text, Tree, TreeAnswer, TreeFile};
-use f2b_mem::{ChildPlan, FileChange, Image, MemWorld, Script};
+use f2b_mem::{ChildPlan, ClientPlan, FileChange, Image, MemWorld, Script};
 use f2b_world::{Event, Said};
 use server_top::server;
 use std::alloc::Global;
 use std::test::Fail;
 
 /// A file, by its path and its content.
-pub type File<'a> = (&'a str, &'a str);
+pub(crate) type File<'a> = (&'a str, &'a str);
 
 /// What a run is given.
 #[derive(Drop)]
-pub struct Given<'a> {
+pub(crate) struct Given<'a> {
     /// The words, with blanks between them.
     pub words: &'a str,
     pub tree: TreeAnswer,
@@ -20,12 +20,14 @@ pub struct Given<'a> {
     pub changes: Seq<FileChange>,
     /// How the commands run that are started, in order; those after the last end with 0.
     pub children: Seq<ChildPlan>,
+    /// The clients, whose numbers are their places.
+    pub clients: Seq<ClientPlan>,
     /// The places of the calls that fail.
     pub fails: &'a [u64],
 }
 
 /// The configuration of these files, which stand in byte order of their paths.
-pub fn tree(alloc: Global, conf: &[File<'_>]) -> Result<TreeAnswer, Fail> {
+pub(crate) fn tree(alloc: Global, conf: &[File<'_>]) -> Result<TreeAnswer, Fail> {
     let mut files = Seq::new(alloc);
     for (path, content) in conf {
         files.push(TreeFile {
@@ -37,7 +39,7 @@ pub fn tree(alloc: Global, conf: &[File<'_>]) -> Result<TreeAnswer, Fail> {
 }
 
 /// That a file has this content after so many pauses, or is gone.
-pub fn change(
+pub(crate) fn change(
     alloc: Global,
     pauses: u64,
     path: &str,
@@ -66,7 +68,7 @@ fn readings(alloc: Global, secs: &[u64]) -> Result<Seq<Reading>, Fail> {
 }
 
 /// Slots in which nothing is stored.
-pub fn nothing(alloc: Global) -> Image {
+pub(crate) fn nothing(alloc: Global) -> Image {
     Image {
         slot0: Bytes::new(alloc),
         slot1: Bytes::new(alloc),
@@ -82,6 +84,9 @@ fn words(alloc: Global, text: &str) -> Result<Vec<String>, Fail> {
 }
 
 fn world(alloc: Global, given: Given<'_>, image: Image) -> Result<MemWorld, Fail> {
+    if given.clients.len() > 65_535 {
+        return Err(Fail::from("too many clients"));
+    }
     let mut trees = Seq::new(alloc);
     trees.push(given.tree)?;
     let script = Script {
@@ -89,7 +94,7 @@ fn world(alloc: Global, given: Given<'_>, image: Image) -> Result<MemWorld, Fail
         trees,
         changes: given.changes,
         children: given.children,
-        clients: Seq::new(alloc),
+        clients: given.clients,
         fails: Seq::from(given.fails.to_vec(alloc)?),
         image,
     };
@@ -97,7 +102,7 @@ fn world(alloc: Global, given: Given<'_>, image: Image) -> Result<MemWorld, Fail
 }
 
 /// What was said without a fault.
-pub fn said(alloc: Global, events: &[Event]) -> Result<Bytes, Fail> {
+pub(crate) fn said(alloc: Global, events: &[Event]) -> Result<Bytes, Fail> {
     let mut said = Bytes::new(alloc);
     for event in events {
         if let Event::Say {
@@ -112,7 +117,11 @@ pub fn said(alloc: Global, events: &[Event]) -> Result<Bytes, Fail> {
 }
 
 /// A run over slots that hold this, and its world behind it.
-pub fn play_over(alloc: Global, given: Given<'_>, image: Image) -> Result<(u8, MemWorld), Fail> {
+pub(crate) fn play_over(
+    alloc: Global,
+    given: Given<'_>,
+    image: Image,
+) -> Result<(u8, MemWorld), Fail> {
     let words = words(alloc, given.words)?;
     let mut world = world(alloc, given, image)?;
     let status = server(alloc, words.as_slice(), &mut world);
@@ -120,7 +129,7 @@ pub fn play_over(alloc: Global, given: Given<'_>, image: Image) -> Result<(u8, M
 }
 
 /// Whether a run over these slots ends with this status and says this.
-pub fn is_said_over(
+pub(crate) fn is_said_over(
     alloc: Global,
     given: Given<'_>,
     image: Image,
@@ -133,6 +142,11 @@ pub fn is_said_over(
 }
 
 /// Whether a run ends with this status and says this.
-pub fn is_as_wanted(alloc: Global, given: Given<'_>, status: u8, said: &str) -> Result<bool, Fail> {
+pub(crate) fn is_as_wanted(
+    alloc: Global,
+    given: Given<'_>,
+    status: u8,
+    said: &str,
+) -> Result<bool, Fail> {
     is_said_over(alloc, given, nothing(alloc), status, said)
 }

@@ -57,6 +57,7 @@ fn given(
         readings,
         changes,
         children: Seq::new(alloc),
+        clients: Seq::new(alloc),
         fails: &[],
     })
 }

@@ -35,7 +35,7 @@ const OPEN: &[File] = &[(
     "[web]\nenabled = true\nlogpath = /log\nignoreself = false\ndatepattern = Epoch\nfailregex = (<IP4>\nfindtime = 600\nmaxretry = 3\nbantime = 60\n",
 )];
 
-const STARTS: [Row; 11] = [
+const STARTS: [Row; 12] = [
     Row {
         words: "",
         conf: WEB,
@@ -98,7 +98,7 @@ const STARTS: [Row; 11] = [
         conf: WEB,
         log: &[],
         readings: &[1000],
-        fails: &[18],
+        fails: &[19],
         status: 9,
         said: "",
     },
@@ -112,13 +112,23 @@ const STARTS: [Row; 11] = [
         status: 5,
         said: "0 ERROR disk\n",
     },
+    // Clients cannot be let in.
+    Row {
+        words: "--conf /c --turns 3",
+        conf: WEB,
+        log: &[],
+        readings: &[1000],
+        fails: &[7],
+        status: 8,
+        said: "0 ERROR socket\n",
+    },
     // Nothing is said of an input that is not written.
     Row {
         words: "--conf /c --turns 3",
         conf: WEB,
         log: &[],
         readings: &[1000],
-        fails: &[15],
+        fails: &[16],
         status: 5,
         said: "1000 ERROR disk\n",
     },
@@ -213,7 +223,7 @@ const RUNS: [Row; 7] = [
             "om 192.0.2.7\r\n1700000100 fail from 999.1.1.1\nno date\n",
         ],
         readings: &[1700000110],
-        fails: &[19, 22],
+        fails: &[20, 24],
         status: 0,
         said: "1700000110 INFO Server ready\n1700000110 INFO [web] Found 192.0.2.7\n",
     },
@@ -285,6 +295,7 @@ fn is_as_wanted(alloc: Global, row: &Row, rotated: bool) -> Result<bool, Fail> {
         readings: row.readings,
         changes: changes(alloc, row.log, rotated)?,
         children: Seq::new(alloc),
+        clients: Seq::new(alloc),
         fails: row.fails,
     };
     play::is_as_wanted(alloc, given, row.status, row.said)

@@ -87,7 +87,7 @@ const ROWS: [Row; 10] = [
             (0, "/log/b", Some("1700000990 fail from 192.0.2.11\n")),
         ],
         children: &[],
-        fails: &[8],
+        fails: &[9],
         status: 0,
         said: "1700001000 WARNING [web] cannot read /log/a*\n1700001000 INFO Server ready\n1700001000 INFO [web] Found 192.0.2.11\n",
     },
@@ -212,6 +212,7 @@ fn is_as_wanted(alloc: Global, row: &Row) -> Result<bool, Fail> {
         readings: &[1_700_001_000],
         changes: changes(alloc, row)?,
         children: plans(alloc, row)?,
+        clients: Seq::new(alloc),
         fails: row.fails,
     };
     play::is_as_wanted(alloc, given, row.status, row.said)

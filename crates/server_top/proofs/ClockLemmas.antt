@@ -95,15 +95,15 @@ read_keeps before mid answer s reads keeps = record {
   word = reads.word;
 }
 
-running_read : (before mid : Running) (answer : Reading) (s : Server) → ReadsAt before.clocked answer mid.clocked → mid.logs ≡ before.logs → mid.children ≡ before.children → mid.left ≡ before.left
+running_read : (before mid : Running) (answer : Reading) (s : Server) → ReadsAt before.clocked answer mid.clocked → mid.logs ≡ before.logs → mid.children ≡ before.children → mid.clients ≡ before.clients → mid.left ≡ before.left
     → KeepsRunning s before → KeepsRunning (read_at answer s) mid
-running_read before mid answer s reads logs children left keeps =
+running_read before mid answer s reads logs children clients left keeps =
     let P : Logs → Type 0 = λ ws. IsSetOf ws (log_jails s) s.logs in
-    record { clocked = read_keeps before.clocked mid.clocked answer s reads keeps.clocked; logs = subst P (sym logs) keeps.logs; children = children ∙ keeps.children; left = left ∙ keeps.left }
+    record { clocked = read_keeps before.clocked mid.clocked answer s reads keeps.clocked; logs = subst P (sym logs) keeps.logs; children = children ∙ keeps.children; clients = clients ∙ keeps.clients; left = left ∙ keeps.left }
 
-pub clock_reads : (a b : Standing) (answer : Reading) (before after : Running) → Called a (Clock answer) b → ReadsAt before.clocked answer after.clocked → after.logs ≡ before.logs → after.children ≡ before.children
+pub clock_reads : (a b : Standing) (answer : Reading) (before after : Running) → Called a (Clock answer) b → ReadsAt before.clocked answer after.clocked → after.logs ≡ before.logs → after.children ≡ before.children → after.clients ≡ before.clients
     → after.left ≡ before.left → ReadsClock a b before after
-clock_reads a b answer before after call reads logs children left = record { answer = answer; call = call; reads = reads; logs = logs; children = children; left = left }
+clock_reads a b answer before after call reads logs children clients left = record { answer = answer; call = call; reads = reads; logs = logs; children = children; clients = clients; left = left }
 
 -- the journal stands where it stood
 pub clock_placed : (a b : Standing) (answer : Reading) (before after : Clocked) → Called a (Clock answer) b → ReadsAt before answer after → IsPlacedIn a.told before → IsPlacedIn b.told after
@@ -119,7 +119,7 @@ module _ (a b c : Standing) (before mid : Running) (reads : ReadsClock a b befor
   clock_goes r s at = turn_goes a b (Clock reads.answer) r AtClock s reads.call at tt refl
 
   keeps_read : (s : Server) → KeepsRunning s before → KeepsRunning (read_at reads.answer s) mid
-  keeps_read s keeps = running_read before mid reads.answer s reads.reads reads.logs reads.children reads.left keeps
+  keeps_read s keeps = running_read before mid reads.answer s reads.reads reads.logs reads.children reads.clients reads.left keeps
 
   pub clock_moves : (after : Running) → Brings KeepsRunning b c (news_of [] (tick_of mid.clocked) []) mid after → Moves KeepsRunning a c at_clock to_logs before after
   clock_moves after brought = record {

@@ -4,6 +4,7 @@ pub mod NumberLemmas
 pub mod PauseLemmas
 pub mod ResultLemmas
 pub mod TriedLemmas
+pub mod RepliedLemmas
 pub mod TurnLemmas
 pub mod UsageLemmas
 pub mod ServeLemmas

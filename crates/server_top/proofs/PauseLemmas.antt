@@ -8,7 +8,7 @@ use Rattle.run_law.specs.Pause.{next_turn, paused, turned}
 use Rattle.run_law.specs.Points.{Point, AtTurn, AtPause, Over, Run}
 use Rattle.run_law.specs.Server.{Server}
 use Rattle.run_law.specs.Stages.{IsAt, Moves, MoveFails}
-use Rattle.run_law.specs.Turn.{to_end}
+use Rattle.run_law.specs.Turn.{at_pause}
 use Rattle.run_law.specs.declared.status.Status.TheVariants.{TurnsSpent}
 use Rattle.run_law.proofs.DiskLemmas.{written_call}
 use Rattle.run_law.proofs.PointLemmas.{paid_call, turn_goes}
@@ -21,21 +21,20 @@ next_is : (n : ℕ) (s : Server) → 1 ≤ n → turned n s ≡ at_clock (record
 next_is zero s some = absurd (omega arith)
 next_is (suc n) s some = refl
 
-pause_goes : (a b : Standing) (r : Run) (s : Server) → Called a (Pause 250) b → IsAt r (to_end s) → Goes a.told b.told r (paused s r)
-unfolding to_end
+pause_goes : (a b : Standing) (r : Run) (s : Server) → Called a (Pause 250) b → IsAt r (at_pause s) → Goes a.told b.told r (paused s r)
 pause_goes a b r s call at = turn_goes a b (Pause 250) r AtPause s call at refl refl
 
-pub pause_moves : (a b : Standing) (before after : Running) → 1 < before.left → Called a (Pause 250) b → after.clocked ≡ before.clocked → after.logs ≡ before.logs → after.children ≡ before.children → after.left + 1 ≡ before.left
-    → Moves KeepsRunning a b to_end at_clock before after
-pause_moves a b before after some call clocked logs children left = record {
+pub pause_moves : (a b : Standing) (before after : Running) → 1 < before.left → Called a (Pause 250) b → after.clocked ≡ before.clocked → after.logs ≡ before.logs → after.children ≡ before.children → after.clients ≡ before.clients → after.left + 1 ≡ before.left
+    → Moves KeepsRunning a b at_pause at_clock before after
+pause_moves a b before after some call clocked logs children clients left = record {
   runs = λ r s at keeps.
       let n : ℕ = s.left - 1 in
       let is : before.left ≡ s.left = keeps.left in
       let left_is : after.left ≡ n = omega (arith, left, is) in
-      let kept : Running = record { clocked = before.clocked; logs = before.logs; children = before.children; left = n } in
-      let same : kept ≡ after = λ i. record { clocked = sym clocked i; logs = sym logs i; children = sym children i; left = sym left_is i } in
+      let kept : Running = record { clocked = before.clocked; logs = before.logs; children = before.children; clients = before.clients; left = n } in
+      let same : kept ≡ after = λ i. record { clocked = sym clocked i; logs = sym logs i; children = sym children i; clients = sym clients i; left = sym left_is i } in
       let t : Server = record s { left = n } in
-      let keeps_next : KeepsRunning t kept = record { clocked = record { core = keeps.clocked.core; sound = keeps.clocked.sound; journal = keeps.clocked.journal; now = keeps.clocked.now; word = keeps.clocked.word }; logs = keeps.logs; children = keeps.children; left = refl } in
+      let keeps_next : KeepsRunning t kept = record { clocked = record { core = keeps.clocked.core; sound = keeps.clocked.sound; journal = keeps.clocked.journal; now = keeps.clocked.now; word = keeps.clocked.word }; logs = keeps.logs; children = keeps.children; clients = keeps.clients; left = refl } in
       let P : Running → Type 0 = λ k. KeepsRunning t k in
       record {
         to = paused s r;
@@ -46,7 +45,7 @@ pause_moves a b before after some call clocked logs children left = record {
       };
 }
 
-pub pause_ends : (a b : Standing) (before : Running) → before.left ≡ 1 → Called a (Pause 250) b → MoveFails KeepsRunning a b to_end before TurnsSpent
+pub pause_ends : (a b : Standing) (before : Running) → before.left ≡ 1 → Called a (Pause 250) b → MoveFails KeepsRunning a b at_pause before TurnsSpent
 pause_ends a b before last call = record {
   runs = λ r s at keeps.
       let none : s.left - 1 ≡ 0 = let is : before.left ≡ s.left = keeps.left in omega (arith, is, last) in

@@ -1,3 +1,4 @@
+pub mod Drained
 pub mod Options
 pub mod Prepared
 pub mod Ticks

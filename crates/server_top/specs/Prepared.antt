@@ -2,16 +2,18 @@
 use Rattle.std.specs.Prelude.{ℕ, ◌≡◌, List, Option, Some}
 use Rattle.f2b_world.specs.Told.{History, Standing}
 use Rattle.jail_conf.specs.declared.settings.Settings.{Settings}
-use Rattle.reconcile.specs.Loads.{AreSound}
+use Rattle.reconcile.specs.Engines.{EngineNow}
+use Rattle.reconcile.specs.Loads.{AreSound, Loaded}
 use Rattle.reconcile.specs.Opens.{WhereTold}
 use Rattle.run_law.specs.Law.{Halts, opening}
-use Rattle.run_law.specs.Points.{AtStore, Run}
+use Rattle.run_law.specs.Points.{AtFirst, AtStore, Run}
 use Rattle.run_law.specs.Stages.{IsAt}
 use Rattle.run_law.specs.Stops.{HoldsThese, held_in}
 use Rattle.run_law.specs.declared.plan.Plan.{Plan}
 use Rattle.run_law.specs.declared.status.Status.{Status}
 use Rattle.run_load.specs.Loading.{IsUnloaded}
 use Rattle.run_start.specs.First.{Begun}
+use Rattle.run_steps.specs.Starting.{Arrives, KeepsLoaded}
 use Rattle.run_steps.specs.declared.clocked.Clocked.{Clocked}
 
 -- where the history is told, what its slots mean is sound
@@ -20,11 +22,21 @@ pub record BeginsSound (told : Option History) : Type 0 where
 
 -- ---- behind the configuration
 
+-- the run comes to the first reading of the clock with what its slots come to, and the engine is that
+pub record Opens (old new : Standing) (plan : Plan) (settings : Settings) (engine : EngineNow) (r : Run) : Type 0 where
+  pub comes : Loaded
+  pub arrives : Arrives old new plan r (AtFirst settings comes)
+  pub keeps : KeepsLoaded comes engine
+
+-- from the naming of the slots to the first reading of the clock, as long as the world tells
+pub record OpensTo (old new : Standing) (plan : Plan) (settings : Settings) (engine : EngineNow) : Type 0 where
+  pub runs : (r : Run) → IsAt r (AtStore settings) → IsUnloaded old.told plan r → AreSound r.slots → WhereTold new.told (λ g. Opens old new plan settings engine r)
+
 -- from the naming of the slots to the first turn, as long as the world tells
 pub record Resumes (old new : Standing) (plan : Plan) (settings : Settings) (kept : Clocked) : Type 0 where
   pub runs : (r : Run) → IsAt r (AtStore settings) → IsUnloaded old.told plan r → AreSound r.slots → WhereTold new.told (λ g. Begun old new plan settings r kept)
 
--- the run ends on the way
+-- the run ends before the first turn
 pub record ResumeFails (old new : Standing) (plan : Plan) (settings : Settings) (status : Status) : Type 0 where
   pub runs : (r : Run) → IsAt r (AtStore settings) → IsUnloaded old.told plan r → AreSound r.slots → Halts old.told new.told r status
 

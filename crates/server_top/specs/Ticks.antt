@@ -29,6 +29,7 @@ pub record ReadsClock (old new : Standing) (before after : Running) : Type 0 whe
   pub reads : ReadsAt before.clocked answer after.clocked
   pub logs : after.logs ≡ before.logs
   pub children : after.children ≡ before.children
+  pub clients : after.clients ≡ before.clients
   pub left : after.left ≡ before.left
 
 -- a tick, where a ban is due

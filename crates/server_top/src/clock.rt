@@ -33,7 +33,7 @@ fn at_reading(clocked: Clocked, reading: Reading) -> Clocked
     }
 }
 
-// Reads the clock. The logs, the commands that run and the turns that are left stay as they are.
+// Reads the clock. The logs, the commands that run, the clients and the turns that are left stay as they are.
 #[tactic(auto, using(crate::proofs::ClockLemmas::clocking, run_law::proofs::CauseLemmas::counting))]
 fn read<'f, W: World>(world: &mut W, running: Running<'f>) -> Running<'f>
     requires placed { IsPlacedIn (W.stands world.old).told running.clocked }
@@ -46,12 +46,14 @@ fn read<'f, W: World>(world: &mut W, running: Running<'f>) -> Running<'f>
         clocked,
         logs,
         children,
+        clients,
         left,
     } = running;
     Running {
         clocked: at_reading(clocked, reading),
         logs,
         children,
+        clients,
         left,
     }
 }
@@ -75,6 +77,7 @@ fn tick<'f, W: World + Disk>(
         clocked,
         logs,
         children,
+        clients,
         left,
     } = running;
     let clocked = bring(alloc, world, clocked, &[], Some(What::Tick), &[])?;
@@ -82,6 +85,7 @@ fn tick<'f, W: World + Disk>(
         clocked,
         logs,
         children,
+        clients,
         left,
     })
 }

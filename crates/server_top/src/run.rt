@@ -1,5 +1,7 @@
 //! The run of the server.
 ghost use Rattle.std.specs.Prelude.{◌≡◌, ◌≤◌, IfErr, IfOk, IsSome, None, OnOk, map, string_bytes};
+ghost use Rattle.ban_journal.specs.Places.{IsPlaced};
+ghost use Rattle.f2b_base.specs.declared.view.View.{View};
 ghost use Rattle.f2b_world.specs.Told.{Adds};
 ghost use Rattle.f2b_model.specs.Storable.{AreStorableDefs};
 ghost use Rattle.filter_regex.specs.Rules.{rules_of};
@@ -7,24 +9,27 @@ ghost use Rattle.run_jobs.specs.Runs.{HoldBytes, TriesJobsInOrder};
 ghost use Rattle.run_law.specs.Points.{AtStore, AtTree};
 ghost use Rattle.run_law.specs.Served.{IsCaused, IsRun};
 ghost use Rattle.run_law.specs.Stages.{HasCause, IsSteady};
-ghost use Rattle.run_law.specs.Stops.{held_in};
+ghost use Rattle.run_law.specs.Stops.{BeginsOn, held_in};
 ghost use Rattle.run_law.specs.Words.{plan_of};
 ghost use Rattle.run_law.specs.declared.status.Status.TheVariants.{TurnsSpent as AllTurns};
+ghost use Rattle.run_replies.specs.Replied.{RepliesBehindInputs, RepliesInOrder};
 ghost use Rattle.run_start.specs.Followed.{ArePlaces, rules_in};
 ghost use Rattle.run_steps.specs.Keeping.{IsPlacedIn};
 ghost use Rattle.run_steps.specs.Starting.{LeavesSlots, StartFails, Starts};
 ghost use Rattle.run_trees.specs.Trees.{IsOfTree};
-ghost use Rattle.server_top.specs.Prepared.{BeginsSound, PlanHalts, Prepares, ResumeFails, Resumes};
+ghost use Rattle.server_top.specs.Prepared.{BeginsSound, OpensTo, PlanHalts, Prepares, ResumeFails, Resumes};
 ghost use Rattle.server_top.specs.Usage.{IsOfUsage};
 
 use crate::turns::make_turns;
 use crate::words::read_words;
 use child_table::ChildTable;
-use f2b_world::{Children, Directories, Disk, Store, World};
+use client_table::ClientTable;
+use f2b_world::{Children, Directories, Disk, Gate, Store, World};
 use filter_regex::Filter;
 use jail_conf::Settings;
+use reconcile::Engine;
 use run_law::{Plan, Status};
-use run_load::load_journal;
+use run_load::{listen, load_journal};
 use run_start::{first_turn, follow};
 use run_steps::{Clocked, Running, refuse};
 use run_trees::{build_filters, read_settings};
@@ -51,9 +56,28 @@ fn configure<W: World>(
     Ok((settings, filters))
 }
 
+// The state that was stored, and behind it the socket.
+#[tactic(auto, using(crate::proofs::ServeLemmas::letting_in, run_law::proofs::CauseLemmas::counting))]
+fn open<W: World + Store + Disk + Gate>(
+    alloc: Global,
+    world: &mut W,
+    plan: &Plan,
+    settings: &Settings,
+) -> Result<Engine, Status>
+    ensures ok { IfOk result (OpensTo (W.stands world.old) (W.stands world.new) plan.now settings.now) }
+    ensures err { IfErr result (ResumeFails (W.stands world.old) (W.stands world.new) plan.now settings.now) }
+    ensures cause { IfErr result (HasCause (W.stands world.old) (W.stands world.new)) }
+    ensures steady { IsSteady (W.stands world.old) (W.stands world.new) }
+    ensures placed { IfOk result (λ engine. IsPlaced engine.journal (W.stands world.new).told) }
+{
+    let engine = load_journal(alloc, world, plan, settings)?;
+    listen(alloc, world, settings)?;
+    Ok(engine)
+}
+
 // The state that was stored, with the configuration as its next input.
 #[tactic(auto, using(crate::proofs::ServeLemmas::resuming, run_law::proofs::CauseLemmas::counting))]
-fn resume<W: World + Directories + Store + Disk>(
+fn resume<W: World + Directories + Store + Disk + Gate>(
     alloc: Global,
     world: &mut W,
     plan: &Plan,
@@ -69,14 +93,14 @@ fn resume<W: World + Directories + Store + Disk>(
     ensures steady { IsSteady (W.stands world.old) (W.stands world.new) }
     ensures placed { IfOk result (IsPlacedIn (W.stands world.new).told) }
 {
-    let engine = load_journal(alloc, world, plan, settings)?;
+    let engine = open(alloc, world, plan, settings)?;
     let clocked = first_turn(alloc, world, plan, settings, engine)?;
     Ok(clocked)
 }
 
 // The start: the filters of all jails, and what is kept of the server before its first turn.
 #[tactic(auto, using(crate::proofs::ServeLemmas::preparing, run_law::proofs::CauseLemmas::counting))]
-fn prepare<W: World + Directories + Store + Disk>(
+fn prepare<W: World + Directories + Store + Disk + Gate>(
     alloc: Global,
     world: &mut W,
     plan: &Plan,
@@ -96,7 +120,7 @@ fn prepare<W: World + Directories + Store + Disk>(
 
 // What the plan asks for.
 #[tactic(auto, using(crate::proofs::ServeLemmas::serving, run_law::proofs::CauseLemmas::counting))]
-fn serve<W: World + Directories + Children + Store + Disk>(
+fn serve<W: World + Directories + Children + Store + Disk + Gate>(
     alloc: Global,
     world: &mut W,
     plan: &Plan,
@@ -114,6 +138,7 @@ fn serve<W: World + Directories + Children + Store + Disk>(
         clocked,
         logs,
         children: ChildTable::new(alloc),
+        clients: ClientTable::new(alloc),
         left: plan.turns,
     };
     make_turns(alloc, world, running)?;
@@ -122,7 +147,7 @@ fn serve<W: World + Directories + Children + Store + Disk>(
 
 // Reads the words, and does what they ask for.
 #[tactic(auto, using(crate::proofs::UsageLemmas::running))]
-fn run<W: World + Directories + Children + Store + Disk>(
+fn run<W: World + Directories + Children + Store + Disk + Gate>(
     alloc: Global,
     words: &[String],
     world: &mut W,
@@ -139,15 +164,17 @@ fn run<W: World + Directories + Children + Store + Disk>(
     serve(alloc, world, &plan)
 }
 
-/// Runs the server as its words ask: `--conf DIR` follows the logs of the enabled jails of the configuration in that directory without
-/// end. Behind it `--turns N` ends the run after N turns, and `--journal-limit BYTES` says how long a slot of the journal may get.
+/// Runs the server as its words ask: `--conf DIR` follows the logs of the enabled jails of the configuration in that directory, and serves
+/// clients at its socket. Once one of them has asked for a stop, no log is looked at any more and the lanes are taken down; clients are still
+/// served, and the run ends once all jobs are settled and all replies are taken. `--turns N` ends the run after N turns, and
+/// `--journal-limit BYTES` says how long a slot of the journal may get.
 ///
 /// Each call on the outside is the one that the law gives after the calls before it, and the run ends where the law gives none. The run
 /// goes on from the state that its slots come to, and keeps each input over a stop before anything tells of it. Lines are said in the order
 /// of what happened, all that an event tells in one call, before any other call. In each lane the jobs that the run has tried are the first
 /// of those that were made for it, in order.
-#[tactic(auto, using(crate::proofs::TriedLemmas::tries))]
-pub fn server<W: World + Directories + Children + Store + Disk>(
+#[tactic(auto, using(crate::proofs::TriedLemmas::tries, crate::proofs::RepliedLemmas::replies, crate::proofs::RepliedLemmas::replies_behind))]
+pub fn server<W: World + Directories + Children + Store + Disk + Gate>(
     alloc: Global,
     words: &[String],
     world: &mut W,
@@ -155,6 +182,8 @@ pub fn server<W: World + Directories + Children + Store + Disk>(
     // Where the history is told, and the state that its slots come to is sound, as one is that a run has stored.
     ensures law { BeginsSound (W.stands world.old).told → IsRun (W.stands world.old).told (W.stands world.new).told (map string_bytes words.now) result }
     ensures tried { BeginsSound (W.stands world.old).told → Adds (W.stands world.old).told (W.stands world.new).told (λ g es. HoldBytes (held_in g) → TriesJobsInOrder (map string_bytes words.now) (held_in g) es) }
+    ensures replied { BeginsSound (W.stands world.old).told → Adds (W.stands world.old).told (W.stands world.new).told (λ g es. RepliesInOrder (map string_bytes words.now) (held_in g) es) }
+    ensures behind { BeginsSound (W.stands world.old).told → Adds (W.stands world.old).told (W.stands world.new).told (λ g es. (v : View) → BeginsOn v g → RepliesBehindInputs (map string_bytes words.now) (held_in g) es) }
 
     // In every world, told or not.
     ensures cause { IsCaused (map string_bytes words.now) (W.stands world.old) (W.stands world.new) result }

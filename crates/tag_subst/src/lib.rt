@@ -21,8 +21,6 @@ mod settled;
 mod substitutes;
 mod tag_error;
 mod tag_values;
-#[cfg(test)]
-mod tests;
 
 pub use escapes::escape;
 pub use laws::tag_law;

@@ -33,27 +33,28 @@ use Rattle.turn_children.specs.Polling.{EndBrings, EndFails, HasPassed, IsGone, 
 -- ---- what the end of a child brings
 
 -- the code's part of a server that another table of children alone tells apart
-pub keeps_children : (before after : Running) (s : Server) (t : Children) → KeepsRunning s before → after.clocked ≡ before.clocked → after.logs ≡ before.logs → after.left ≡ before.left → after.children ≡ t
-    → KeepsRunning (record s { children = t }) after
-keeps_children before after s t keeps clocked logs left children =
+pub keeps_children : (before after : Running) (s : Server) (t : Children) → KeepsRunning s before → after.clocked ≡ before.clocked → after.logs ≡ before.logs → after.clients ≡ before.clients
+    → after.left ≡ before.left → after.children ≡ t → KeepsRunning (record s { children = t }) after
+keeps_children before after s t keeps clocked logs clients left children =
     let u : Server = record s { children = t } in
-    let mid : Running = record { clocked = before.clocked; logs = before.logs; children = t; left = before.left } in
-    let same : mid ≡ after = λ i. record { clocked = sym clocked i; logs = sym logs i; children = sym children i; left = sym left i } in
+    let mid : Running = record { clocked = before.clocked; logs = before.logs; children = t; clients = before.clients; left = before.left } in
+    let same : mid ≡ after = λ i. record { clocked = sym clocked i; logs = sym logs i; children = sym children i; clients = sym clients i; left = sym left i } in
     let P : Running → Type 0 = λ k. KeepsRunning u k in
     subst P same (record {
       clocked = record { core = keeps.clocked.core; sound = keeps.clocked.sound; journal = keeps.clocked.journal; now = keeps.clocked.now; word = keeps.clocked.word };
       logs = keeps.logs;
       children = refl;
+      clients = keeps.clients;
       left = keeps.left;
     })
 
 gone_keeps : (before after : Running) (place : ℕ) (s : Server) → IsGone place before after → KeepsRunning s before → KeepsRunning (gone place s) after
 gone_keeps before after place s gone keeps =
-    keeps_children before after s (ended place s.children) keeps gone.clocked gone.logs gone.left (gone.children ∙ ap (ended place) keeps.children)
+    keeps_children before after s (ended place s.children) keeps gone.clocked gone.logs gone.clients gone.left (gone.children ∙ ap (ended place) keeps.children)
 
 passed_keeps : (before after : Running) (place job : ℕ) (s : Server) → HasPassed place job before after → KeepsRunning s before → KeepsRunning (gone_passed job place s) after
 passed_keeps before after place job s passed keeps =
-    keeps_children before after s (passed_by job (ended place s.children)) keeps passed.clocked passed.logs passed.left
+    keeps_children before after s (passed_by job (ended place s.children)) keeps passed.clocked passed.logs passed.clients passed.left
     (passed.children ∙ ap (λ (t : Children). passed_by job (ended place t)) keeps.children)
 
 module _ (a : Standing) (place : ℕ) (child : Child) (outcome : Outcome) (before : Running) where

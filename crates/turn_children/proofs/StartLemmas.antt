@@ -150,10 +150,10 @@ called : (a b : Standing) (job : ℕ) (text : List ℕ) (answer to : StartAnswer
 called a b job text answer to is asked = let P : StartAnswer → Type 0 = λ x. Asked a (start_event job text x) b in subst P is asked
 
 started_keeps : (before after : Running) (child : Child) (s : Server) → HasStarted child before after → KeepsRunning s before → KeepsRunning (with_child child s) after
-started_keeps before after child s is keeps = keeps_children before after s (started child s.children) keeps is.clocked is.logs is.left (is.children ∙ ap (started child) keeps.children)
+started_keeps before after child s is keeps = keeps_children before after s (started child s.children) keeps is.clocked is.logs is.clients is.left (is.children ∙ ap (started child) keeps.children)
 
 not_started_keeps : (before after : Running) (child : Child) (s : Server) → HasNotStarted child before after → KeepsRunning s before → KeepsRunning (without_child child s) after
-not_started_keeps before after child s is keeps = keeps_children before after s (not_started child s.children) keeps is.clocked is.logs is.left (is.children ∙ ap (not_started child) keeps.children)
+not_started_keeps before after child s is keeps = keeps_children before after s (not_started child s.children) keeps is.clocked is.logs is.clients is.left (is.children ∙ ap (not_started child) keeps.children)
 
 module _ (kept : Running) (launch : Launch) (next : IsNextStart kept (Some launch)) where
   here : (r : Run) (s : Server) → IsAt r (to_starts s) → KeepsRunning s kept → IsAt r (AtTurn (place_of launch) s)

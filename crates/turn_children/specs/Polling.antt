@@ -36,6 +36,7 @@ pub record IsGone (place : ℕ) (before after : Running) : Type 0 where
   pub clocked : after.clocked ≡ before.clocked
   pub logs : after.logs ≡ before.logs
   pub children : after.children ≡ ended place before.children
+  pub clients : after.clients ≡ before.clients
   pub left : after.left ≡ before.left
 
 -- besides, it was a check of this job that has passed
@@ -43,6 +44,7 @@ pub record HasPassed (place job : ℕ) (before after : Running) : Type 0 where
   pub clocked : after.clocked ≡ before.clocked
   pub logs : after.logs ≡ before.logs
   pub children : after.children ≡ passed_by job (ended place before.children)
+  pub clients : after.clients ≡ before.clients
   pub left : after.left ≡ before.left
 
 -- the end of the child of a place was taken and said, from right behind the call that told of it

@@ -12,6 +12,7 @@ pub record HasStarted (child : Child) (before after : Running) : Type 0 where
   pub clocked : after.clocked ≡ before.clocked
   pub logs : after.logs ≡ before.logs
   pub children : after.children ≡ started child before.children
+  pub clients : after.clients ≡ before.clients
   pub left : after.left ≡ before.left
 
 -- it could not be started
@@ -19,6 +20,7 @@ pub record HasNotStarted (child : Child) (before after : Running) : Type 0 where
   pub clocked : after.clocked ≡ before.clocked
   pub logs : after.logs ≡ before.logs
   pub children : after.children ≡ not_started child before.children
+  pub clients : after.clients ≡ before.clients
   pub left : after.left ≡ before.left
 
 abbrev pub is_check : Task → Bool

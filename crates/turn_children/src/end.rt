@@ -65,6 +65,7 @@ pub(crate) fn take_end<'f, W: World + Disk>(
         clocked,
         logs,
         children,
+        clients,
         left,
     } = running;
     let what = end_of(child, outcome);
@@ -73,6 +74,7 @@ pub(crate) fn take_end<'f, W: World + Disk>(
         clocked,
         logs,
         children,
+        clients,
         left,
     })
 }

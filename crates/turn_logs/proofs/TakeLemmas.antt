@@ -37,15 +37,16 @@ pub ruleset bringing = (read_beside, bring_fails_beside)
 
 -- ---- a look that the set of the logs takes over
 
-pub took_look : (before after : Running) (i : ℕ) (file : FileLook) (t : Taken) → after.clocked ≡ before.clocked → after.children ≡ before.children → after.left ≡ before.left → MovesAt before.logs after.logs i file
-    → TakesAt before.logs i before.clocked.now file t → TakesLook before i file after t
+pub took_look : (before after : Running) (i : ℕ) (file : FileLook) (t : Taken) → after.clocked ≡ before.clocked → after.children ≡ before.children → after.clients ≡ before.clients → after.left ≡ before.left
+    → MovesAt before.logs after.logs i file → TakesAt before.logs i before.clocked.now file t → TakesLook before i file after t
 unfolding look_taken
-took_look before after i file t clocked children left moves takes = record {
+took_look before after i file t clocked children clients left moves takes = record {
   keeps = λ s l l_is keeps. record {
     clocked = (let P : Clocked → Type 0 = λ c. KeepsClocked (now_is i l file s) c in
         subst P (sym clocked) (record { core = keeps.clocked.core; sound = keeps.clocked.sound; journal = keeps.clocked.journal; now = keeps.clocked.now; word = keeps.clocked.word }));
     logs = moves (log_jails s) s.logs l keeps.logs l_is;
     children = children ∙ keeps.children;
+    clients = clients ∙ keeps.clients;
     left = left ∙ keeps.left;
   };
   takes = λ s l l_is keeps. takes (log_jails s) s.logs l keeps.logs l_is ∙ ap (λ now. taken_of (log_jails s) now l file) keeps.clocked.now;

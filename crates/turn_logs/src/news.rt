@@ -38,6 +38,7 @@ fn bring_on<'f, W: World + Disk>(
         clocked,
         logs,
         children,
+        clients,
         left,
     } = running;
     let clocked = bring(alloc, world, clocked, lines, what, &[])?;
@@ -45,6 +46,7 @@ fn bring_on<'f, W: World + Disk>(
         clocked,
         logs,
         children,
+        clients,
         left,
     })
 }

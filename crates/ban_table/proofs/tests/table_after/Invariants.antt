@@ -1,7 +1,0 @@
-use Rattle.std.proofs.Common.{◌<◌}
-use Rattle.f2b_base.specs.declared.ban.Ban.{Ban}
-use Rattle.f2b_model.specs.Lists.{AllOf}
-use Rattle.ban_table.proofs.tests.table_after.Given as goal
-
-abbrev pub invariant-loop-index : goal.invariant-loop-index
-invariant-loop-index l = AllOf (λ (b : Ban). b.serial < l.index) l.table.active

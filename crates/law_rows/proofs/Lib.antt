@@ -1,0 +1,9 @@
+mod RowJails
+mod StartRows
+mod ChildRows
+mod TreeRows
+mod TurnRows
+mod JournalRows
+mod BeginRows
+mod WordRows
+mod ClientRows

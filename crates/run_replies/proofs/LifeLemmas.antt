@@ -1,0 +1,256 @@
+-- What a client was replied so far, event by event.
+use Rattle.std.proofs.Common.{ℕ, zero, suc, ◌≡◌, ◌+◌, ◌-◌, ◌<◌, ◌⊎◌, inl, inr, Bool, true, false, List, [], ◌∷◌, ◌++◌, length, Option, Some, None, refl, sym, ap, ◌∙◌, subst, append_assoc, append-nil, arith, lit<}
+use Rattle.std.specs.Prelude.{slice_get}
+use Rattle.std.specs.List.{flat_map}
+use Rattle.std.proofs.lemmas.Bool.{cases_lt}
+use Rattle.std.proofs.lemmas.List.{flat_map_more, get_or-append_right, get_or_append_left, length-append}
+use Rattle.std.proofs.lemmas.List.Elements.{All-nil, All-push}
+use Rattle.std.proofs.lemmas.Option.{slice_get_within}
+use Rattle.client_frames.specs.Comes.{Heard, Part, Words, TooLong, Empty, BadWord, Is, IsPart, hearing_after}
+use Rattle.client_frames.specs.Frames.{most_request, reply, request}
+use Rattle.client_frames.specs.Laws.{IsSent}
+use Rattle.client_frames.specs.declared.answer.Answer.{Answer}
+use Rattle.client_frames.proofs.FrameLemmas.{AreBytes, part_none, said_none}
+use Rattle.client_replies.specs.Replies.{refused}
+use Rattle.client_table.specs.Lives.{AreRequests, IsFault, refusals}
+use Rattle.f2b_world.specs.declared.event.Event.{Event}
+use Rattle.run_law.specs.Points.{AtClient, AtTurn}
+use Rattle.run_law.specs.Requests.{Response, to_heard, to_words}
+use Rattle.run_law.specs.Served.{run_after}
+use Rattle.run_law.specs.Server.{Server}
+use Rattle.run_replies.specs.Replied.{IsAnswerTo, IsAnswerToFault, IsReplied, fault_text}
+use Rattle.run_replies.specs.Talks.{came_by, came_in, taken_by, taken_in}
+
+-- ---- lists
+
+more : {X A : Type 0} (f : X → List A) (xs : List X) (x : X) → flat_map f (xs ++ x ∷ []) ≡ flat_map f xs ++ f x
+more f xs x = sym (flat_map_more f [] xs x)
+
+-- an element of a list with one more at its end is one of the list, or that one
+pushed : {X : Type 0} (xs : List X) (x : X) (place : ℕ) (y : X) → slice_get (xs ++ x ∷ []) place ≡ Some y → (slice_get xs place ≡ Some y) ⊎ ((place ≡ length xs) × (x ≡ y))
+pushed [] x zero y is = inr (refl, cc)
+pushed [] x (suc place) y is = absurd (let e : None ≡ Some y = is in cc)
+pushed (first ∷ xs) x zero y is = inl is
+pushed (first ∷ xs) x (suc place) y is = elim (pushed xs x place y is) [ inl old ↦ inl old | inr new ↦ inr (ap suc new.0, new.1) ]
+
+pub bytes_append : (xs ys : List ℕ) → AreBytes xs → AreBytes ys → AreBytes (xs ++ ys)
+bytes_append xs ys first second i =
+    elim (cases_lt i (length xs)) [
+      | inl within ↦ subst (λ (b : ℕ). b < 256) (sym (get_or_append_left xs ys 0 i within)) (first i)
+      | inr past ↦ subst (λ (b : ℕ). b < 256) (sym (get_or-append_right xs ys (length xs) i 0 refl past)) (second (i - length xs))
+    ]
+
+pub no_bytes : AreBytes []
+no_bytes i = lit< tt
+
+nothing_came : IsPart most_request []
+nothing_came = part_none most_request [] (said_none [] (lit< tt))
+
+-- ---- a client's life
+
+-- the frame of a response, if there is one
+abbrev pub frame_of : Option Response → List ℕ
+frame_of None = []
+frame_of (Some response) = reply response.answer
+
+module _ (words : List (List ℕ)) (slots : ℕ → List ℕ) (conn : ℕ) (start : List Event) where
+  -- Behind these events since its accept: `front` came of its next request, or a frame of it was refused; and so much is unwritten.
+  pub record Lived (life : List Event) (front : List ℕ) (is_refused : Bool) (unwritten : List ℕ) : Type 0 where
+    pub requests : List (List (List ℕ))
+    pub answers : List Answer
+    pub came : AreRequests (came_in conn life) requests is_refused
+    pub behind : is_refused ≡ false → came.rest ≡ front
+    pub bytes : AreBytes front
+    pub taken : flat_map reply answers ≡ taken_in conn life ++ unwritten
+    pub count : length answers ≡ length requests + refusals is_refused
+    pub each : (place : ℕ) (asked : List (List ℕ)) (given : Answer) → slice_get requests place ≡ Some asked → slice_get answers place ≡ Some given
+        → IsAnswerTo words slots conn start life place asked given
+    pub last : (given : Answer) → is_refused ≡ true → slice_get answers (length requests) ≡ Some given → IsAnswerToFault came.rest given
+
+  -- so it is replied
+  pub lived_replied : (life : List Event) (front : List ℕ) (is_refused : Bool) (unwritten : List ℕ) → Lived life front is_refused unwritten → IsReplied words slots conn start life
+  lived_replied life front is_refused unwritten lived = record {
+    requests = lived.requests;
+    is_refused = is_refused;
+    came = lived.came;
+    answers = lived.answers;
+    taken = (unwritten, lived.taken);
+    count = lived.count;
+    each = lived.each;
+    last = lived.last;
+  }
+
+  -- as it is accepted
+  pub lived_none : Lived [] [] false []
+  lived_none = record {
+    requests = [];
+    answers = [];
+    came = record { rest = []; is = refl; sent = All-nil IsSent; behind = nothing_came };
+    behind = λ e. refl;
+    bytes = no_bytes;
+    taken = refl;
+    count = refl;
+    each = λ place asked given is gave. absurd (let e : None ≡ Some asked = is in cc);
+    last = λ given e gave. absurd (let both : false ≡ true = e in cc);
+  }
+
+  -- ---- one event more
+
+  module _ (life : List Event) (event : Event) where
+    came_more : (bytes : List ℕ) → came_by conn event ≡ bytes → came_in conn (life ++ event ∷ []) ≡ came_in conn life ++ bytes
+    came_more bytes is = more (came_by conn) life event ∙ ap (λ (t : List ℕ). came_in conn life ++ t) is
+
+    taken_more : (bytes : List ℕ) → taken_by conn event ≡ bytes → taken_in conn (life ++ event ∷ []) ≡ taken_in conn life ++ bytes
+    taken_more bytes is = more (taken_by conn) life event ∙ ap (λ (t : List ℕ). taken_in conn life ++ t) is
+
+    same_came : came_by conn event ≡ [] → came_in conn (life ++ event ∷ []) ≡ came_in conn life
+    same_came is = came_more [] is ∙ append-nil (came_in conn life)
+
+    -- an answer stays
+    answer_more : (place : ℕ) (asked : List (List ℕ)) (given : Answer) → IsAnswerTo words slots conn start life place asked given
+        → IsAnswerTo words slots conn start (life ++ event ∷ []) place asked given
+    answer_more place asked given to = record {
+      sooner = to.sooner;
+      event = to.event;
+      later = to.later ++ event ∷ [];
+      is = ap (λ (es : List Event). es ++ event ∷ []) to.is ∙ append_assoc to.sooner (to.event ∷ to.later) (event ∷ []);
+      whole = to.whole;
+      server = to.server;
+      client = to.client;
+      stands = to.stands;
+      same = to.same;
+    }
+
+    -- nothing came of it, and it took what is no longer unwritten
+    pub lived_on : (front : List ℕ) (is_refused : Bool) (before after : List ℕ) → came_by conn event ≡ [] → before ≡ taken_by conn event ++ after
+        → Lived life front is_refused before → Lived (life ++ event ∷ []) front is_refused after
+    lived_on front is_refused before after none takes lived = record {
+      requests = lived.requests;
+      answers = lived.answers;
+      came = record { rest = lived.came.rest; is = same_came none ∙ lived.came.is; sent = lived.came.sent; behind = lived.came.behind };
+      behind = lived.behind;
+      bytes = lived.bytes;
+      taken = lived.taken ∙ ap (λ (t : List ℕ). taken_in conn life ++ t) takes ∙ sym (append_assoc (taken_in conn life) (taken_by conn event) after)
+          ∙ ap (λ (t : List ℕ). t ++ after) (sym (taken_more (taken_by conn event) refl));
+      count = lived.count;
+      each = λ place asked given is gave. answer_more place asked given (lived.each place asked given is gave);
+      last = lived.last;
+    }
+
+    -- ---- bytes came of it, to which all answers so far were written
+
+    module _ (front bytes : List ℕ) (comes : came_by conn event ≡ bytes) (takes : taken_by conn event ≡ []) (are : AreBytes bytes) (lived : Lived life front false []) where
+      all_came : came_in conn (life ++ event ∷ []) ≡ flat_map request lived.requests ++ (lived.came.rest ++ bytes)
+      all_came = came_more bytes comes ∙ ap (λ (t : List ℕ). t ++ bytes) lived.came.is ∙ append_assoc (flat_map request lived.requests) lived.came.rest bytes
+
+      rest_is : lived.came.rest ++ bytes ≡ front ++ bytes
+      rest_is = ap (λ (t : List ℕ). t ++ bytes) (lived.behind refl)
+
+      all_taken : (given : Answer) → flat_map reply (lived.answers ++ given ∷ []) ≡ taken_in conn (life ++ event ∷ []) ++ reply given
+      all_taken given = more reply lived.answers given ∙ ap (λ (t : List ℕ). t ++ reply given) (lived.taken ∙ sym (taken_more [] takes))
+
+      as_many : length lived.answers ≡ length lived.requests
+      as_many = let all : length lived.answers ≡ length lived.requests + 0 = lived.count in omega (arith, all)
+
+      -- an answer to a request is one of those before, or the one that is given now
+      old_place : (place : ℕ) (asked : List (List ℕ)) → slice_get lived.requests place ≡ Some asked → place ≡ length lived.answers → ⊥
+      old_place place asked is new = omega (arith, as_many, new, slice_get_within lived.requests place asked is)
+
+      -- a part of a request
+      lived_part : Is Part (front ++ bytes) → Lived (life ++ event ∷ []) (front ++ bytes) false []
+      lived_part is = record {
+        requests = lived.requests;
+        answers = lived.answers;
+        came = record { rest = lived.came.rest ++ bytes; is = all_came; sent = lived.came.sent; behind = subst (IsPart most_request) (sym rest_is) is };
+        behind = λ e. rest_is;
+        bytes = bytes_append front bytes lived.bytes are;
+        taken = lived.taken ∙ ap (λ (t : List ℕ). t ++ []) (sym (append-nil (taken_in conn life)) ∙ sym (taken_more [] takes));
+        count = lived.count;
+        each = λ place asked given is gave. answer_more place asked given (lived.each place asked given is gave);
+        last = λ given e gave. absurd (let both : false ≡ true = e in cc);
+      }
+
+      -- a frame that is refused
+      lived_fault : (what : Heard) → IsFault what → Is what (front ++ bytes) → Lived (life ++ event ∷ []) [] true (reply (refused (fault_text what)))
+      lived_fault what fault is =
+          let given : Answer = refused (fault_text what) in
+          let frame : Is what (lived.came.rest ++ bytes) = subst (Is what) (sym rest_is) is in
+          record {
+            requests = lived.requests;
+            answers = lived.answers ++ given ∷ [];
+            came = record { rest = lived.came.rest ++ bytes; is = all_came; sent = lived.came.sent; behind = record { what = what; fault = fault; is = frame } };
+            behind = λ e. absurd (let both : true ≡ false = e in cc);
+            bytes = no_bytes;
+            taken = all_taken given;
+            count = (let all : length (lived.answers ++ given ∷ []) ≡ length lived.requests + 1 = omega (arith, as_many, length-append lived.answers (given ∷ [])) in all);
+            each = λ place asked other is gave. elim (pushed lived.answers given place other gave) [
+              | inl old ↦ answer_more place asked other (lived.each place asked other is old)
+              | inr new ↦ absurd (old_place place asked is new.0)
+            ];
+            last = λ other e gave. elim (pushed lived.answers given (length lived.requests) other gave) [
+              | inl old ↦ absurd (omega (arith, as_many, slice_get_within lived.answers (length lived.requests) other old))
+              | inr new ↦ record { what = what; fault = fault; is = frame; same = sym new.1 }
+            ];
+          }
+
+      -- a request is whole, at a client's place of a turn
+      module _ (place : ℕ) (s : Server) (stands : (run_after words slots (start ++ life)).point ≡ AtTurn (AtClient place) s) where
+        whole_came : (asked : List (List ℕ)) → Is (Words asked) (front ++ bytes) → AreRequests (came_in conn (life ++ event ∷ [])) (lived.requests ++ asked ∷ []) false
+        whole_came asked is = record {
+          rest = [];
+          is = all_came ∙ ap (λ (t : List ℕ). flat_map request lived.requests ++ t) (rest_is ∙ is.is) ∙ sym (more request lived.requests asked)
+              ∙ sym (append-nil (flat_map request (lived.requests ++ asked ∷ [])));
+          sent = All-push IsSent lived.requests asked lived.came.sent (record { fit = is.fit; bounds = is.bounds });
+          behind = nothing_came;
+        }
+
+        new_answer : (asked : List (List ℕ)) → Is (Words asked) (front ++ bytes) → (given : Answer) → given ≡ (to_words s.now s.state asked).answer
+            → IsAnswerTo words slots conn start (life ++ event ∷ []) (length lived.requests) asked given
+        new_answer asked is given same = record {
+          sooner = life;
+          event = event;
+          later = [];
+          is = refl;
+          whole = record { others = lived.requests; so_many = refl; before = lived.came; whole = whole_came asked is };
+          server = s;
+          client = place;
+          stands = stands;
+          same = same;
+        }
+
+        lived_request : (asked : List (List ℕ)) → Is (Words asked) (front ++ bytes) → Lived (life ++ event ∷ []) [] false (reply (to_words s.now s.state asked).answer)
+        unfolding whole_came
+        lived_request asked is =
+            let given : Answer = (to_words s.now s.state asked).answer in
+            record {
+              requests = lived.requests ++ asked ∷ [];
+              answers = lived.answers ++ given ∷ [];
+              came = whole_came asked is;
+              behind = λ e. refl;
+              bytes = no_bytes;
+              taken = all_taken given;
+              count = (let all : length (lived.answers ++ given ∷ []) ≡ length (lived.requests ++ asked ∷ []) + 0 = omega (arith, as_many, length-append lived.answers (given ∷ []), length-append lived.requests (asked ∷ [])) in all);
+              each = λ at others other request_is gave. elim (pushed lived.requests asked at others request_is) [
+                | inl old ↦ elim (pushed lived.answers given at other gave) [
+                  | inl was ↦ answer_more at others other (lived.each at others other old was)
+                  | inr new ↦ absurd (old_place at others old new.0)
+                ]
+                | inr now ↦ elim (pushed lived.answers given at other gave) [
+                  | inl was ↦ absurd (omega (arith, as_many, now.0, slice_get_within lived.answers at other was))
+                  | inr new ↦
+                      let P : ℕ → List (List ℕ) → Type 0 = λ n ws. IsAnswerTo words slots conn start (life ++ event ∷ []) n ws other in
+                      subst (λ (n : ℕ). P n others) (sym now.0) (subst (λ (ws : List (List ℕ)). P (length lived.requests) ws) now.1 (new_answer asked is other (sym new.1)))
+                ]
+              ];
+              last = λ other e gave. absurd (let both : false ≡ true = e in cc);
+            }
+
+        -- whatever is heard of it
+        pub lived_heard : (heard : Heard) → Is heard (front ++ bytes)
+            → Lived (life ++ event ∷ []) (hearing_after (front ++ bytes) heard).came (hearing_after (front ++ bytes) heard).refused (frame_of (to_heard s.now s.state heard))
+        unfolding to_heard
+        lived_heard Part is = lived_part is
+        lived_heard (Words asked) is = lived_request asked is
+        lived_heard (TooLong n) is = lived_fault (TooLong n) tt is
+        lived_heard Empty is = lived_fault Empty tt is
+        lived_heard (BadWord at) is = lived_fault (BadWord at) tt is

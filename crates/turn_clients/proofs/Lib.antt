@@ -1,0 +1,9 @@
+pub mod ResponseLemmas
+pub mod ServingLemmas
+pub mod SearchLemmas
+pub mod TakeLemmas
+pub mod HearLemmas
+pub mod CloseLemmas
+pub mod AcceptLemmas
+pub mod ServeLemmas
+pub mod LoopLemmas

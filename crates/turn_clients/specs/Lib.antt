@@ -1,0 +1,3 @@
+pub mod Responding
+pub mod Searching
+pub mod Serving

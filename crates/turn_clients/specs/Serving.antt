@@ -1,0 +1,48 @@
+-- How one client is served, from right behind a call on it.
+use Rattle.std.specs.Prelude.{ℕ, ◌≡◌, List, [], ◌∷◌, ◌++◌, Option, Some, None, option_map}
+use Rattle.client_table.specs.Clients.{Client, after_read, changed_at, heard_at}
+use Rattle.f2b_world.specs.Told.{Standing}
+use Rattle.f2b_world.specs.declared.answer.Accept.{Accept}
+use Rattle.f2b_world.specs.declared.answer.Accept.TheVariants.{Conn}
+use Rattle.f2b_world.specs.declared.answer.GateRead.{GateRead}
+use Rattle.run_law.specs.Law.{Halts}
+use Rattle.run_law.specs.Points.{Point, AtTurn, AtClose, Run}
+use Rattle.run_law.specs.Requests.{to_heard}
+use Rattle.run_law.specs.Server.{Server}
+use Rattle.run_law.specs.Serving.{Service, point_on, responded, serves}
+use Rattle.run_law.specs.Stages.{IsAt, Reaches}
+use Rattle.run_law.specs.declared.status.Status.{Status}
+use Rattle.run_steps.specs.Keeping.{KeepsRunning}
+use Rattle.run_steps.specs.declared.running.Running.{Running}
+use Rattle.turn_clients.specs.Responding.{told_by}
+use Rattle.turn_clients.specs.declared.response.Response.{Response}
+
+-- the number of a client that has connected, if one has
+abbrev pub conn_in : Accept → Option ℕ
+conn_in (Conn conn) = Some conn
+conn_in _ = None
+
+-- the client of a place is over
+abbrev pub at_close : ℕ → Server → Point
+at_close place s = AtTurn (AtClose place) s
+
+-- these are the clients, and all else is as before
+pub record HasClients (cs : List Client) (before after : Running) : Type 0 where
+  pub clocked : after.clocked ≡ before.clocked
+  pub logs : after.logs ≡ before.logs
+  pub children : after.children ≡ before.children
+  pub clients : after.clients ≡ cs
+  pub left : after.left ≡ before.left
+
+-- What was heard of the client of a place is taken, and responded to so.
+pub record HasHeard (place : ℕ) (answer : GateRead) (before after : Running) (given : Option Response) : Type 0 where
+  pub clients : HasClients (responded (option_map told_by given) place (changed_at place (after_read before.clocked.now answer) before.clients)) before after
+  pub responds : (s : Server) → KeepsRunning s before → option_map told_by given ≡ to_heard s.now s.state (heard_at answer place s.clients)
+
+-- what a call came to was taken and said, from right behind that call
+pub record Serves (old new : Standing) (service : Server → Service) (next : Server → Point) (before after : Running) : Type 0 where
+  pub runs : (r : Run) (s : Server) (here : Point) → IsAt r here → KeepsRunning s before → Reaches KeepsRunning old new (serves (service s) s r) next after
+
+-- the run ended there
+pub record ServeFails (old new : Standing) (service : Server → Service) (before : Running) (status : Status) : Type 0 where
+  pub runs : (r : Run) (s : Server) (here : Point) → IsAt r here → KeepsRunning s before → Halts old.told new.told (serves (service s) s r) status

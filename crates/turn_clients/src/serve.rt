@@ -1,0 +1,87 @@
+//! One client, served once.
+ghost use Rattle.std.specs.Prelude.{◌≡◌, ◌<◌, ◌-◌, length, IfErr, IfOk};
+ghost use Rattle.client_table.specs.Clients.{AnswersWrite, IsBounded, Reads, after_write, asks_at, changed_at, most_clients};
+ghost use Rattle.run_law.specs.Stages.{HasCause, IsSteady, Moves, MoveFails};
+ghost use Rattle.run_law.specs.Turn.{behind_client, to_clients};
+ghost use Rattle.run_steps.specs.Keeping.{IsPlacedIn, KeepsRunning};
+ghost use Rattle.turn_clients.specs.Serving.{HasClients};
+
+use crate::close::{close, close_over};
+use crate::hear::hear;
+use client_table::Next;
+use f2b_world::{Disk, Gate, GateRead, GateWrite, World};
+use run_law::Status;
+use run_steps::Running;
+use std::alloc::Global;
+
+// The client at a place was written to, with this answer.
+fn wrote<'f>(running: Running<'f>, place: usize, answer: GateWrite) -> Running<'f>
+    requires within { place < length running.clients }
+    requires answers { AnswersWrite (asks_at place running.clients) answer }
+    ensures { HasClients (changed_at place (after_write running.entry.clocked.now answer) running.entry.clients) running.entry result }
+{
+    let mut running = running;
+    let now = running.clocked.now;
+    running.clients.wrote(place, answer, now);
+    running
+}
+
+// Reads the client at a place, which asks for it, and takes what came.
+#[tactic(auto, using(crate::proofs::ServeLemmas::reading, run_law::proofs::CauseLemmas::counting, run_law::proofs::CauseLemmas::placing))]
+fn read<'f, W: World + Disk + Gate>(
+    alloc: Global,
+    world: &mut W,
+    running: Running<'f>,
+    place: usize,
+    most: u32,
+) -> Result<Running<'f>, Status>
+    requires within { place < length running.clients }
+    requires asks { asks_at place running.clients ≡ Reads most }
+    requires bounded { IsBounded (Reads most) }
+    requires placed { IsPlacedIn (W.stands world.old).told running.clocked }
+    ensures ok { IfOk result (Moves KeepsRunning (W.stands world.old) (W.stands world.new) (to_clients place) (behind_client place) running.entry) }
+    ensures err { IfErr result (MoveFails KeepsRunning (W.stands world.old) (W.stands world.new) (to_clients place) running.entry) }
+    ensures cause { IfErr result (HasCause (W.stands world.old) (W.stands world.new)) }
+    ensures steady { IsSteady (W.stands world.old) (W.stands world.new) }
+    ensures many { IfOk result (λ after. length after.clients ≡ length running.entry.clients) }
+    ensures left { IfOk result (λ after. after.left ≡ running.entry.left) }
+    ensures placed { IfOk result (λ after. IsPlacedIn (W.stands world.new).told after.clocked) }
+{
+    match world.gate_read(running.clients.conn(place), most) {
+        GateRead::NoMemory => Err(Status::NoMemory),
+        answer => hear(alloc, world, running, place, answer),
+    }
+}
+
+/// Writes to the client at a place or reads it, as it asks, ends its connection where it is over, and gives the place to go on from.
+#[tactic(auto, using(crate::proofs::ServeLemmas::serving, run_law::proofs::CauseLemmas::counting, run_law::proofs::CauseLemmas::placing))]
+pub(crate) fn serve<'f, W: World + Disk + Gate>(
+    alloc: Global,
+    world: &mut W,
+    running: Running<'f>,
+    place: usize,
+) -> Result<(Running<'f>, usize), Status>
+    requires within { place < length running.clients }
+    requires few { place < most_clients }
+    requires placed { IsPlacedIn (W.stands world.old).told running.clocked }
+    ensures ok { IfOk result (λ r. Moves KeepsRunning (W.stands world.old) (W.stands world.new) (to_clients place) (to_clients r.1) running.entry r.0) }
+    ensures err { IfErr result (MoveFails KeepsRunning (W.stands world.old) (W.stands world.new) (to_clients place) running.entry) }
+    ensures cause { IfErr result (HasCause (W.stands world.old) (W.stands world.new)) }
+    ensures steady { IsSteady (W.stands world.old) (W.stands world.new) }
+    ensures nearer { IfOk result (λ r. length r.0.clients - r.1 < length running.entry.clients - place) }
+    ensures left { IfOk result (λ r. r.0.left ≡ running.entry.left) }
+    ensures placed { IfOk result (λ r. IsPlacedIn (W.stands world.new).told r.0.clocked) }
+{
+    match running.clients.next(place) {
+        Next::Write(bytes) => {
+            let answer = world.gate_write(running.clients.conn(place), bytes);
+            let running = wrote(running, place, answer);
+            Ok(close_over(world, running, place))
+        }
+        Next::Read(most) => {
+            let running = read(alloc, world, running, place, most)?;
+            Ok(close_over(world, running, place))
+        }
+        Next::Nothing => Ok((close(world, running, place), place)),
+    }
+}

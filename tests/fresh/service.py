@@ -1,0 +1,214 @@
+"""What the units run, in a root of its own: the server over the configuration that ships, with the action dummy."""
+
+import contextlib
+import os
+import re
+import time
+
+from root import PATH, TOP, Failed, same, wait_for, want
+
+UNITS = "/usr/lib/systemd/system"
+# Five and a half hours east of UTC, without summer time, in the words of the C library.
+ZONE, OFFSET, SECONDS = "IST-5:30", "+0530", 19_800
+
+LOCAL = """\
+[DEFAULT]
+banaction = dummy
+banaction_allports = dummy
+
+[postfix-sasl]
+enabled = true
+
+[nginx-http-auth]
+enabled = true
+"""
+
+# A log, and a failure in it, for each of three filters.
+JAILS = {
+    "sshd": ("/var/log/auth.log", "%b %e %T", "{date} host sshd[77]: Failed password for root from {address} port 4022 ssh2\n"),
+    "postfix-sasl": ("/var/log/mail.log", "%b %e %T", "{date} mx postfix/smtpd[78]: warning: unknown[{address}]: SASL LOGIN authentication failed: UGFz\n"),
+    "nginx-http-auth": ("/var/log/nginx/access.log", "%d/%b/%Y:%T " + OFFSET, '{address} - ann [{date}] "GET /private/ HTTP/1.1" 401 179 "-" "curl"\n'),
+}
+
+
+def items(text):
+    """The items of a unit, in their order: a name may come again."""
+    return [tuple(line.split("=", 1)) for line in text.splitlines() if "=" in line and not line.startswith("#")]
+
+
+class Service:
+    """A service as systemd runs it: the commands of its unit, in its directories, in the machine's zone."""
+
+    def __init__(self, root):
+        self.root = root
+        self.items = items(root.read(f"{UNITS}/fail2ban.service"))
+        self.environment = {"PATH": PATH, "TZ": ZONE, "STATE_DIRECTORY": "/var/lib/fail2ban", "RUNTIME_DIRECTORY": "/run/fail2ban"}
+        self.server = None
+
+    def commands(self, name):
+        """The commands of an item, and whether each may fail."""
+        return [(command.removeprefix("-").split(), command.startswith("-")) for item, command in self.items if item == name]
+
+    def start(self):
+        """What a start does, until the server is ready."""
+        for place, mode in [("/var/lib/fail2ban", 0o700), ("/run/fail2ban", 0o755)]:
+            os.makedirs(self.root.at(place), exist_ok=True)
+            os.chmod(self.root.at(place), mode)
+        for words, _ in self.commands("ExecStartPre"):
+            self.root.run(*words, environment=self.environment)
+        ready = self.said().count("INFO Server ready")
+        [(words, _)] = self.commands("ExecStart")
+        self.server = self.root.start(*words, environment=self.environment, said="/said", errors="/errors")
+        self.says("INFO Server ready", ready + 1)
+
+    def kill(self):
+        self.server.kill()
+        self.server.wait()
+
+    def said(self):
+        if not os.path.exists(self.root.at("/said")):
+            return []
+        return [line.split(" ", 1)[-1] for line in self.root.read("/said").splitlines()]
+
+    def says(self, line, count=1):
+        wait_for(lambda: self.said().count(line) >= count or self.server.poll() is not None, line, lambda: len(self.said()))
+        want(self.said().count(line) >= count, f"the server ended: {self.said()[-3:]}, {self.root.read('/errors')}")
+
+    def fail(self, jail, address, times):
+        """So many failures of the address, now, as the jail's service logs them."""
+        log, form, line = JAILS[jail]
+        date = time.strftime(form, time.gmtime(time.time() + SECONDS))
+        self.root.write(log, line.format(date=date, address=address) * times, "a")
+
+    def banned(self, jail, *addresses):
+        """Waits until the file of the action dummy has these addresses, and no others."""
+        path = f"/run/fail2ban/{jail}.banned"
+        wait_for(lambda: self.in_file(path) == list(addresses), f"{path}: {addresses}", lambda: self.in_file(path))
+
+    def in_file(self, path):
+        try:
+            return self.root.read(path).splitlines()
+        except FileNotFoundError:
+            return None
+
+    def ask(self, *words, status=0):
+        """What the server replies by its client, at the client's own place for the socket."""
+        return self.root.run("/usr/bin/fail2ban-client", *words, environment=self.environment, status=status)[0]
+
+    def answers(self):
+        """Whether the server listens to clients: one that does not is status 8 of the client."""
+        try:
+            self.ask("ping", status=8)
+        except Failed:
+            same(self.ask("ping"), "Server replied: pong\n", "ping")
+            return True
+        return False
+
+
+@contextlib.contextmanager
+def serving(root):
+    """A server that was installed and started as README says, but for the action."""
+    root.furnish()
+    root.make("install", "PREFIX=/usr")
+    root.write("/etc/fail2ban/jail.local", LOCAL)
+    for log, _, _ in JAILS.values():
+        root.write(log, "")
+    service = Service(root)
+    service.start()
+    yield service
+    same(root.read("/errors"), "", "standard error")
+    same([line for line in service.said() if line.startswith(("ERROR", "WARNING"))], [], "faults")
+
+
+def bans_by_three_filters(root):
+    """the service bans by the configuration that ships, in the machine's zone, goes on behind kill -9, and stops in order where it listens"""
+    with serving(root) as service:
+        want("logtimezone = UTC" + OFFSET in root.read("/var/lib/fail2ban/zone.local"), "the zone")
+        want("boot = " in root.read("/var/lib/fail2ban/boot.local"), "the machine's start")
+        same(os.readlink(root.at("/run/fail2ban/fail2ban.sock")), "/var/lib/fail2ban/fail2ban.sock", "the link to the socket")
+        for number, jail in enumerate(JAILS, 1):
+            service.fail(jail, f"198.51.100.{number}", 4)
+            service.fail(jail, f"2001:db8::{number}", 5)
+            service.says(f"NOTICE [{jail}] Ban 2001:db8::{number}")
+            service.banned(jail, f"2001:db8::{number}")
+        service.kill()
+        for number, jail in enumerate(JAILS, 1):
+            service.fail(jail, f"198.51.100.{number}", 1)
+        service.start()
+        for number, jail in enumerate(JAILS, 1):
+            service.says(f"NOTICE [{jail}] Ban 198.51.100.{number}")
+            service.banned(jail, f"2001:db8::{number}", f"198.51.100.{number}")
+        bans = [line for line in service.said() if " Ban " in line]
+        same(len(bans), 2 * len(JAILS), f"bans, each said once: {bans}")
+        if not service.answers():
+            service.kill()
+            return "without status, reload and stop by the client: this server does not listen to clients yet"
+        stops_in_order(service)
+    return "with status, reload and stop by the client"
+
+
+def stops_in_order(service):
+    """The part of clients: what the unit asks for by the client, at the socket that the link leads to."""
+    want(f"Jail list:\t{', '.join(JAILS)}\n" in service.ask("status"), service.ask("status"))
+    want("Banned IP list:\t2001:db8::1 198.51.100.1\n" in service.ask("status", "sshd"), service.ask("status", "sshd"))
+    same(service.ask("set", "sshd", "unbanip", "198.51.100.1"), "1\n", "unbanip")
+    service.says("NOTICE [sshd] Unban 198.51.100.1")
+    reloads(service)
+    # The command waits until the server has ended, which is seen here meanwhile.
+    [(words, may_fail)] = service.commands("ExecStop")
+    want(may_fail, "where the stop fails a signal has to follow")
+    words = [str(service.server.pid) if word == "$MAINPID" else word for word in words]
+    stop = service.root.start(*words, environment=service.environment, said="/stop", errors="/errors")
+    wait_for(lambda: service.server.poll() is not None, "the server's end", lambda: len(service.said()))
+    wait_for(lambda: stop.poll() is not None, "the end of the stop")
+    same((service.server.returncode, stop.returncode), (0, 0), "status of the server, and of its stop")
+    for jail in JAILS:
+        same(service.in_file(f"/run/fail2ban/{jail}.banned"), None, f"what the action's stop leaves of {jail}")
+
+
+def reloads(service):
+    """A reload is done, or refused while the server cannot reload yet."""
+    for words, _ in service.commands("ExecReload"):
+        try:
+            service.root.run(*words, environment=service.environment)
+        except Failed as why:
+            want("Cannot reload yet" in str(why), str(why))
+
+
+def zone_is_looked_at(root):
+    """the service's timer has the server read its configuration again where the machine's zone is another one, and not else"""
+    root.furnish()
+    root.make("install", "PREFIX=/usr")
+    script = ["/usr/lib/fail2ban/zone"]
+    summer, winter = {"PATH": PATH, "TZ": "CEST-2"}, {"PATH": PATH, "TZ": "CET-1"}
+    root.run(*script, "--changed", environment=summer)
+    root.run(*script, environment=summer)
+    want(root.read("/var/lib/fail2ban/zone.local").endswith("[DEFAULT]\nlogtimezone = UTC+0200\n"), root.read("/var/lib/fail2ban/zone.local"))
+    root.run(*script, "--changed", environment=summer, status=1)
+    root.run(*script, "--changed", environment=winter)
+    root.run(*script, environment={**winter, "TZ": "NST3:30"})
+    want("UTC-0330" in root.read("/var/lib/fail2ban/zone.local"), root.read("/var/lib/fail2ban/zone.local"))
+    conditions = [command for name, command in items(root.read(f"{UNITS}/fail2ban-zone.service")) if name == "ExecCondition"]
+    same(conditions, [" ".join([*script, "--changed"])], "condition")
+
+
+def stop_without_server(root):
+    """the service's stop is done where the server has ended already, and says so where nobody answers"""
+    root.furnish()
+    root.make("install", "PREFIX=/usr")
+    environment = {"PATH": PATH}
+    root.run("/usr/lib/fail2ban/stop", environment=environment)
+    _, errors = root.run("/usr/lib/fail2ban/stop", str(os.getpid()), environment=environment, status=8)
+    want("the server was not asked (status 8)" in errors, errors)
+
+
+def time_to_stop_is_the_sum(_root):
+    """TimeoutStopSec is the sum that stands beside it"""
+    with open(os.path.join(TOP, "service/fail2ban.service"), encoding="utf-8") as file:
+        text = file.read()
+    parts = [int(seconds) for seconds in re.findall(r"^#   .* (\d+) s$", text, re.MULTILINE)]
+    same(len(parts), 3, "parts")
+    want(("TimeoutStopSec", str(sum(parts))) in items(text), text)
+
+
+CHECKS = [bans_by_three_filters, zone_is_looked_at, stop_without_server, time_to_stop_is_the_sum]
