@@ -4,8 +4,8 @@ use crate::calls::{Came, NoByte, PING, PING_WORD, Step, play};
 use client_table::MOST_CLIENTS;
 use std::test::Fail;
 
-// Sixteen, and no more; where one is closed the next one stands in its place, and another has room.
-const SIXTEEN: [Step; 24] = [
+// Sixteen, and no more; where one is closed the next one stands in its place, and another has room, in the place of its number.
+const SIXTEEN: [Step; 26] = [
     Step::Accept(100, 1000),
     Step::Accept(101, 1000),
     Step::Accept(102, 1000),
@@ -28,7 +28,9 @@ const SIXTEEN: [Step; 24] = [
     Step::Conn(3, 104),
     Step::Full(false),
     Step::Accept(7, 1000),
-    Step::Conn(15, 7),
+    Step::Conn(0, 7),
+    Step::Conn(4, 104),
+    Step::Conn(15, 115),
     Step::Count(16),
 ];
 
