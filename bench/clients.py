@@ -12,6 +12,7 @@ import statistics
 import subprocess
 import sys
 import tempfile
+import threading
 import time
 
 # As many as the environment says, to see the script at work.
@@ -71,6 +72,8 @@ class Bench:
             file.write(f"[Definition]\nsocket = {self.path}\n")
         self.process = subprocess.Popen([server, "--conf", f"{place}/conf"], stdin=subprocess.DEVNULL, stdout=subprocess.PIPE)
         self.process.stdout.readline()
+        # Each ban is said, and a pipe that nobody reads would hold the server up.
+        threading.Thread(target=self.process.stdout.read, daemon=True).start()
 
     def connect(self):
         conn = socket.socket(socket.AF_UNIX)

@@ -13,7 +13,7 @@ import sys
 import tempfile
 import time
 
-sys.path.insert(0, os.path.join(os.path.dirname(__file__), "..", "tests", "real"))
+sys.path.append(os.path.join(os.path.dirname(__file__), "..", "tests", "real"))
 
 import slots  # noqa: E402
 
