@@ -1,9 +1,8 @@
 //! Runs of one action, as transcripts of what is said and which commands are started, polled and ended.
-use crate::transcript::transcript;
-use f2b_base::{Bytes, Reading, Seq, Text, Tree, TreeAnswer, TreeFile};
-use f2b_mem::{ChildPlan, FileChange, Image, MemWorld, Script};
-use server_top::server;
+use crate::play::{Child, Given, NOTHING, goes};
+use f2b_base::NoMemory;
 use std::alloc::Global;
+use std::process::Abort;
 use std::test::Fail;
 
 /// One run: what it is given, and what comes of it.
@@ -14,9 +13,7 @@ struct Row {
     action: &'static str,
     /// At the start, and then turn by turn.
     readings: &'static [u64],
-    /// How the commands run that are started, in order: how often they still run when they are polled, and what they end with, if
-    /// they do. Those after the last end with 0.
-    children: &'static [(u32, Option<i32>)],
+    children: &'static [Child],
     /// The places of the calls that fail.
     fails: &'static [u64],
     transcript: &'static str,
@@ -124,88 +121,33 @@ const ROWS: [Row; 7] = [
     },
 ];
 
-fn file(alloc: Global, path: &str, content: &str) -> Result<TreeFile, Fail> {
-    Ok(TreeFile {
-        path: Text::from_str(alloc, path)?,
-        content: Bytes::from_slice(alloc, content.as_bytes())?,
-    })
-}
-
-fn trees(alloc: Global, row: &Row) -> Result<Seq<TreeAnswer>, Fail> {
-    let mut files = Seq::new(alloc);
-    files.push(file(alloc, "action.d/note.conf", row.action)?)?;
-    files.push(file(alloc, "filter.d/fail.conf", FAIL)?)?;
-    files.push(file(alloc, "jail.conf", row.jails)?)?;
-    let mut trees = Seq::new(alloc);
-    trees.push(TreeAnswer::Tree(Tree { files }))?;
-    Ok(trees)
-}
-
-fn readings(alloc: Global, row: &Row) -> Result<Seq<Reading>, Fail> {
-    let mut readings = Seq::new(alloc);
-    for secs in row.readings {
-        readings.push(Reading {
-            secs: *secs,
-            word: 0,
-        })?;
-    }
-    Ok(readings)
-}
-
-fn plans(alloc: Global, row: &Row) -> Result<Seq<ChildPlan>, Fail> {
-    let mut plans = Seq::new(alloc);
-    for (polls, status) in row.children {
-        plans.push(ChildPlan {
-            polls: *polls,
-            status: *status,
-        })?;
-    }
-    Ok(plans)
-}
-
-fn world(alloc: Global, row: &Row) -> Result<MemWorld, Fail> {
-    let mut changes = Seq::new(alloc);
-    changes.push(FileChange {
-        pauses: 0,
-        path: Text::from_str(alloc, "/log")?,
-        content: Some(Bytes::from_slice(alloc, LOG.as_bytes())?),
-    })?;
-    let script = Script {
-        readings: readings(alloc, row)?,
-        trees: trees(alloc, row)?,
-        changes,
-        children: plans(alloc, row)?,
-        clients: Seq::new(alloc),
-        fails: Seq::from(row.fails.to_vec(alloc)?),
-        image: Image {
-            slot0: Bytes::new(alloc),
-            slot1: Bytes::new(alloc),
-        },
+fn goes_on(rt: &impl Abort, alloc: Global, row: &Row) -> Result<(), NoMemory> {
+    let conf = [
+        ("action.d/note.conf", row.action),
+        ("filter.d/fail.conf", FAIL),
+        ("jail.conf", row.jails),
+    ];
+    let given = Given {
+        words: row.words,
+        conf: Some(conf.as_slice()),
+        log: &[LOG],
+        readings: row.readings,
+        children: row.children,
+        fails: row.fails,
+        ..NOTHING
     };
-    Ok(MemWorld::new(alloc, script)?)
+    goes(rt, alloc, &given, row.transcript)
 }
 
-/// The status of a row's run, its transcript, and whether its world is still told.
-fn run(alloc: Global, row: &Row) -> Result<(u8, Bytes, bool), Fail> {
-    let mut words = Vec::new(alloc);
-    for word in row.words.split_whitespace() {
-        words.push(String::from_str(alloc, word)?)?;
+fn go(rt: &impl Abort, alloc: Global, rows: &[Row]) -> Result<(), NoMemory> {
+    for row in rows {
+        goes_on(rt, alloc, row)?;
     }
-    let mut world = world(alloc, row)?;
-    let status = server(alloc, words.as_slice(), &mut world);
-    let transcript = transcript(alloc, world.events())?;
-    Ok((status.number(), transcript, world.is_told()))
-}
-
-fn is_as_wanted(alloc: Global, row: &Row) -> Result<bool, Fail> {
-    let (status, transcript, told) = run(alloc, row)?;
-    Ok(told && status == 0 && transcript.as_slice() == row.transcript.as_bytes())
+    Ok(())
 }
 
 #[test]
 fn runs_the_commands_of_an_action(rt: HostRuntime) -> Result<(), Fail> {
-    for row in &ROWS {
-        assert!(rt; is_as_wanted(rt.alloc(), row)?, "at {}", row.transcript);
-    }
+    go(&rt, rt.alloc(), &ROWS)?;
     Ok(())
 }

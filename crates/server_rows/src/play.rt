@@ -1,70 +1,216 @@
 //! One run over a world in memory, and what it says.
-use f2b_base::{Bytes, Reading, Seq, Text, Tree, TreeAnswer, TreeFile};
-use f2b_mem::{ChildPlan, ClientPlan, FileChange, Image, MemWorld, Script};
-use f2b_world::{Event, Said};
+use crate::callers::Caller;
+use crate::transcript::{said, transcript};
+use f2b_base::{Bytes, NoMemory, Reading, Seq, Text, Tree, TreeAnswer, TreeFile};
+use f2b_mem::{ChildPlan, FileChange, Image, MemWorld, Script};
+use f2b_world::{Children, Directories, Disk, Event, Gate, Store, World};
 use server_top::server;
 use std::alloc::Global;
-use std::test::Fail;
+use std::fmt::Debug;
+use std::process::Abort;
 
 /// A file, by its path and its content.
 pub(crate) type File<'a> = (&'a str, &'a str);
 
+/// From so many pauses on a file has this content, or is gone.
+pub(crate) type Change<'a> = (u64, &'a str, Option<&'a str>);
+
+/// How often a command still runs when it is polled, and what it ends with then, if it does.
+pub(crate) type Child = (u32, Option<i32>);
+
 /// What a run is given.
-#[derive(Drop)]
+#[derive(Clone, Copy)]
 pub(crate) struct Given<'a> {
     /// The words, with blanks between them.
     pub words: &'a str,
-    pub tree: TreeAnswer,
-    /// What the clock says, in seconds since 1970; the last reading stays.
+    /// The files of the configuration, in byte order of their paths; with none it is too large.
+    pub conf: Option<&'a [File<'a>]>,
+    /// What is written to `/log` before the first turn, before the second, and so on.
+    pub log: &'a [&'a str],
+    /// Whether each of these parts is all that stands in the log then.
+    pub rotated: bool,
+    /// What becomes of other files.
+    pub changes: &'a [Change<'a>],
+    /// What the clock says, in seconds since 1970, at the start and then turn by turn; the last reading stays.
     pub readings: &'a [u64],
-    pub changes: Seq<FileChange>,
     /// How the commands run that are started, in order; those after the last end with 0.
-    pub children: Seq<ChildPlan>,
+    pub children: &'a [Child],
     /// The clients, whose numbers are their places.
-    pub clients: Seq<ClientPlan>,
+    pub callers: &'a [Caller],
     /// The places of the calls that fail.
     pub fails: &'a [u64],
 }
 
-/// The configuration of these files, which stand in byte order of their paths.
-pub(crate) fn tree(alloc: Global, conf: &[File<'_>]) -> Result<TreeAnswer, Fail> {
-    let mut files = Seq::new(alloc);
-    for (path, content) in conf {
-        files.push(TreeFile {
-            path: Text::from_str(alloc, path)?,
-            content: Bytes::from_slice(alloc, content.as_bytes())?,
-        })?;
-    }
-    Ok(TreeAnswer::Tree(Tree { files }))
+/// A run without words that is given nothing.
+pub(crate) const NOTHING: Given<'static> = Given {
+    words: "",
+    conf: Some(&[]),
+    log: &[],
+    rotated: false,
+    changes: &[],
+    readings: &[],
+    children: &[],
+    callers: &[],
+    fails: &[],
+};
+
+/// Fails at this place unless what was seen is what is wanted.
+pub(crate) fn same<A: Debug, T: PartialEq + Debug>(rt: &impl Abort, at: &A, saw: &T, want: &T) {
+    assert!(rt; *saw == *want, "at {at:?}: {saw:?}, not {want:?}");
 }
 
-/// That a file has this content after so many pauses, or is gone.
-pub(crate) fn change(
+/// Both, where there was memory for them.
+pub(crate) fn both<A: Drop, B: Drop>(
+    one: Result<A, NoMemory>,
+    other: Result<B, NoMemory>,
+) -> Result<(A, B), NoMemory> {
+    let one = one?;
+    let other = other?;
+    Ok((one, other))
+}
+
+/// What a world in memory is made of, as rows say it.
+pub(crate) trait Makes {
+    type Made: Drop;
+
+    fn made(&self, alloc: Global) -> Result<Self::Made, NoMemory>;
+}
+
+impl Makes for u64 {
+    type Made = Reading;
+
+    fn made(&self, _alloc: Global) -> Result<Reading, NoMemory> {
+        Ok(Reading {
+            secs: *self,
+            word: 0,
+        })
+    }
+}
+
+impl Makes for File<'_> {
+    type Made = TreeFile;
+
+    fn made(&self, alloc: Global) -> Result<TreeFile, NoMemory> {
+        let path = Text::from_str(alloc, self.0)?;
+        let content = Bytes::from_slice(alloc, self.1.as_bytes())?;
+        Ok(TreeFile { path, content })
+    }
+}
+
+fn bytes_of(text: Option<&str>) -> Option<&[u8]> {
+    match text {
+        Some(text) => Some(text.as_bytes()),
+        None => None,
+    }
+}
+
+impl Makes for Change<'_> {
+    type Made = FileChange;
+
+    fn made(&self, alloc: Global) -> Result<FileChange, NoMemory> {
+        file_change(alloc, self.0, self.1, bytes_of(self.2))
+    }
+}
+
+impl Makes for Child {
+    type Made = ChildPlan;
+
+    fn made(&self, _alloc: Global) -> Result<ChildPlan, NoMemory> {
+        Ok(ChildPlan {
+            polls: self.0,
+            status: self.1,
+        })
+    }
+}
+
+fn push<T: Drop>(list: &mut Seq<T>, item: Result<T, NoMemory>) -> Result<(), NoMemory> {
+    let item = item?;
+    list.push(item)
+}
+
+fn all_made<R: Makes>(alloc: Global, rows: &[R]) -> Result<Seq<R::Made>, NoMemory> {
+    let mut list = Seq::new(alloc);
+    for row in rows {
+        push(&mut list, row.made(alloc))?;
+    }
+    Ok(list)
+}
+
+fn content_of(alloc: Global, content: Option<&[u8]>) -> Result<Option<Bytes>, NoMemory> {
+    match content {
+        Some(content) => Ok(Some(Bytes::from_slice(alloc, content)?)),
+        None => Ok(None),
+    }
+}
+
+fn file_change(
     alloc: Global,
     pauses: u64,
     path: &str,
-    content: Option<&str>,
-) -> Result<FileChange, Fail> {
-    let content = match content {
-        Some(content) => Some(Bytes::from_slice(alloc, content.as_bytes())?),
-        None => None,
-    };
+    content: Option<&[u8]>,
+) -> Result<FileChange, NoMemory> {
+    let path = Text::from_str(alloc, path)?;
+    let content = content_of(alloc, content)?;
     Ok(FileChange {
         pauses,
-        path: Text::from_str(alloc, path)?,
+        path,
         content,
     })
 }
 
-fn readings(alloc: Global, secs: &[u64]) -> Result<Seq<Reading>, Fail> {
-    let mut readings = Seq::new(alloc);
-    for secs in secs {
-        readings.push(Reading {
-            secs: *secs,
-            word: 0,
-        })?;
+/// The log has another part from so many pauses on.
+fn add_part(
+    alloc: Global,
+    changes: &mut Seq<FileChange>,
+    content: &mut Bytes,
+    pauses: usize,
+    part: &str,
+) -> Result<(), NoMemory> {
+    content.push_slice(part.as_bytes())?;
+    let log = file_change(alloc, pauses as u64, "/log", Some(content.as_slice()));
+    push(changes, log)
+}
+
+fn add_parts(
+    alloc: Global,
+    changes: &mut Seq<FileChange>,
+    log: &[&str],
+    rotated: bool,
+) -> Result<(), NoMemory> {
+    let mut content = Bytes::new(alloc);
+    for (pauses, part) in log.iter().enumerate() {
+        if rotated {
+            content.clear();
+        }
+        add_part(alloc, changes, &mut content, pauses, part)?;
     }
-    Ok(readings)
+    Ok(())
+}
+
+fn changes(alloc: Global, given: &Given<'_>) -> Result<Seq<FileChange>, NoMemory> {
+    let mut changes = all_made(alloc, given.changes)?;
+    add_parts(alloc, &mut changes, given.log, given.rotated)?;
+    Ok(changes)
+}
+
+fn tree(alloc: Global, conf: Option<&[File<'_>]>) -> Result<TreeAnswer, NoMemory> {
+    match conf {
+        Some(files) => {
+            let files = all_made(alloc, files)?;
+            Ok(TreeAnswer::Tree(Tree { files }))
+        }
+        None => Ok(TreeAnswer::TooLarge),
+    }
+}
+
+fn trees(alloc: Global, conf: Option<&[File<'_>]>) -> Result<Seq<TreeAnswer>, NoMemory> {
+    let mut trees = Seq::new(alloc);
+    push(&mut trees, tree(alloc, conf))?;
+    Ok(trees)
+}
+
+fn fails(alloc: Global, given: &Given<'_>) -> Result<Seq<u64>, NoMemory> {
+    Ok(Seq::from(given.fails.to_vec(alloc)?))
 }
 
 /// Slots in which nothing is stored.
@@ -75,7 +221,36 @@ pub(crate) fn nothing(alloc: Global) -> Image {
     }
 }
 
-fn words(alloc: Global, text: &str) -> Result<Vec<String>, Fail> {
+fn script(alloc: Global, given: &Given<'_>, image: Image) -> Result<Script, NoMemory> {
+    let clock = both(all_made(alloc, given.readings), trees(alloc, given.conf));
+    let files = both(changes(alloc, given), all_made(alloc, given.children));
+    let calls = both(all_made(alloc, given.callers), fails(alloc, given));
+    let ((readings, trees), ((changes, children), (clients, fails))) = both(
+        clock,
+        both(files, calls),
+    )?;
+    Ok(Script {
+        readings,
+        trees,
+        changes,
+        children,
+        clients,
+        fails,
+        image,
+    })
+}
+
+/// The world of a script. There is no room in it for more than 65,535 clients.
+fn world(alloc: Global, script: Result<Script, NoMemory>) -> Result<MemWorld, NoMemory> {
+    let script = script?;
+    if script.clients.len() > 65_535 {
+        return Err(NoMemory);
+    }
+    MemWorld::new(alloc, script)
+}
+
+/// Words that have blanks between them.
+fn words(alloc: Global, text: &str) -> Result<Vec<String>, NoMemory> {
     let mut words = Vec::new(alloc);
     for word in text.split_whitespace() {
         words.push(String::from_str(alloc, word)?)?;
@@ -83,70 +258,122 @@ fn words(alloc: Global, text: &str) -> Result<Vec<String>, Fail> {
     Ok(words)
 }
 
-fn world(alloc: Global, given: Given<'_>, image: Image) -> Result<MemWorld, Fail> {
-    if given.clients.len() > 65_535 {
-        return Err(Fail::from("too many clients"));
-    }
-    let mut trees = Seq::new(alloc);
-    trees.push(given.tree)?;
-    let script = Script {
-        readings: readings(alloc, given.readings)?,
-        trees,
-        changes: given.changes,
-        children: given.children,
-        clients: given.clients,
-        fails: Seq::from(given.fails.to_vec(alloc)?),
-        image,
-    };
-    Ok(MemWorld::new(alloc, script)?)
+fn served<W: World + Directories + Children + Store + Disk + Gate>(
+    alloc: Global,
+    words: &[String],
+    world: &mut W,
+) -> u8 {
+    server(alloc, words, world).number()
 }
 
-/// What was said without a fault.
-pub(crate) fn said(alloc: Global, events: &[Event]) -> Result<Bytes, Fail> {
-    let mut said = Bytes::new(alloc);
-    for event in events {
-        if let Event::Say {
-            bytes,
-            answer: Said::Done,
-        } = event
-        {
-            said.push_slice(bytes.as_slice())?;
-        }
+/// Where a run is played.
+pub(crate) trait Place: Drop {
+    /// The status that a run ends with.
+    fn run(&mut self, alloc: Global, words: &[String]) -> u8;
+
+    fn is_told(&self) -> bool;
+
+    fn events(&self) -> &[Event];
+}
+
+impl Place for MemWorld {
+    fn run(&mut self, alloc: Global, words: &[String]) -> u8 {
+        served(alloc, words, self)
     }
-    Ok(said)
+
+    fn is_told(&self) -> bool {
+        MemWorld::is_told(self)
+    }
+
+    fn events(&self) -> &[Event] {
+        MemWorld::events(self)
+    }
+}
+
+fn played_at<P: Place>(
+    alloc: Global,
+    words: Result<Vec<String>, NoMemory>,
+    place: Result<P, NoMemory>,
+) -> Result<(u8, P), NoMemory> {
+    let words = words?;
+    let mut place = place?;
+    let status = place.run(alloc, words.as_slice());
+    Ok((status, place))
 }
 
 /// A run over slots that hold this, and its world behind it.
-pub(crate) fn play_over(
+pub(crate) fn played(
     alloc: Global,
-    given: Given<'_>,
+    given: &Given<'_>,
     image: Image,
-) -> Result<(u8, MemWorld), Fail> {
-    let words = words(alloc, given.words)?;
-    let mut world = world(alloc, given, image)?;
-    let status = server(alloc, words.as_slice(), &mut world);
-    Ok((status.number(), world))
+) -> Result<(u8, MemWorld), NoMemory> {
+    let world = world(alloc, script(alloc, given, image));
+    played_at(alloc, words(alloc, given.words), world)
 }
 
-/// Whether a run over these slots ends with this status and says this.
-pub(crate) fn is_said_over(
+/// What is looked at of a run.
+#[derive(Clone, Copy)]
+pub(crate) enum Look {
+    /// What was said without a fault.
+    Said,
+    /// All that its transcript has.
+    Transcript,
+}
+
+fn shown(alloc: Global, look: Look, events: &[Event]) -> Result<Bytes, NoMemory> {
+    match look {
+        Look::Said => said(alloc, events),
+        Look::Transcript => transcript(alloc, events),
+    }
+}
+
+fn is_shown(rt: &impl Abort, shown: Result<Bytes, NoMemory>, want: &str) -> Result<(), NoMemory> {
+    let shown = shown?;
+    same(rt, &want, &shown.as_slice(), &want.as_bytes());
+    Ok(())
+}
+
+/// Fails unless the run ended with this status in a world that is told, and this is shown of it.
+fn ends<P: Place>(
+    rt: &impl Abort,
     alloc: Global,
-    given: Given<'_>,
+    look: Look,
+    played: Result<(u8, P), NoMemory>,
+    want: (u8, &str),
+) -> Result<(), NoMemory> {
+    let (status, place) = played?;
+    same(rt, &want.1, &(place.is_told(), status), &(true, want.0));
+    is_shown(rt, shown(alloc, look, place.events()), want.1)
+}
+
+/// A run over slots that hold this ends with this status, and this is shown of it.
+pub(crate) fn ends_over(
+    rt: &impl Abort,
+    alloc: Global,
+    given: &Given<'_>,
     image: Image,
-    status: u8,
+    want: (u8, &str),
+) -> Result<(), NoMemory> {
+    ends(rt, alloc, Look::Said, played(alloc, given, image), want)
+}
+
+/// A run ends with this status and says this.
+pub(crate) fn says(
+    rt: &impl Abort,
+    alloc: Global,
+    given: &Given<'_>,
+    want: (u8, &str),
+) -> Result<(), NoMemory> {
+    ends_over(rt, alloc, given, nothing(alloc), want)
+}
+
+/// A run ends well with this transcript.
+pub(crate) fn goes(
+    rt: &impl Abort,
+    alloc: Global,
+    given: &Given<'_>,
     want: &str,
-) -> Result<bool, Fail> {
-    let (ended, world) = play_over(alloc, given, image)?;
-    let said = said(alloc, world.events())?;
-    Ok(world.is_told() && ended == status && said.as_slice() == want.as_bytes())
-}
-
-/// Whether a run ends with this status and says this.
-pub(crate) fn is_as_wanted(
-    alloc: Global,
-    given: Given<'_>,
-    status: u8,
-    said: &str,
-) -> Result<bool, Fail> {
-    is_said_over(alloc, given, nothing(alloc), status, said)
+) -> Result<(), NoMemory> {
+    let played = played(alloc, given, nothing(alloc));
+    ends(rt, alloc, Look::Transcript, played, (0, want))
 }

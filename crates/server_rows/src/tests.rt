@@ -1,9 +1,8 @@
 //! Runs of one jail with one log.
-use crate::play;
-use crate::play::{File, Given, tree};
-use f2b_base::{Bytes, Seq, Text};
-use f2b_mem::FileChange;
+use crate::play::{File, Given, NOTHING, says};
+use f2b_base::NoMemory;
 use std::alloc::Global;
+use std::process::Abort;
 use std::test::Fail;
 
 /// One run: what it is given, and how it ends and what it says.
@@ -270,57 +269,37 @@ const ROTATIONS: [Row; 2] = [
     },
 ];
 
-/// The log grows by a part before each turn, or becomes it.
-fn changes(alloc: Global, log: &[&str], rotated: bool) -> Result<Seq<FileChange>, Fail> {
-    let mut changes = Seq::new(alloc);
-    let mut content = Bytes::new(alloc);
-    for (pauses, part) in log.iter().enumerate() {
-        if rotated {
-            content.clear();
-        }
-        content.push_slice(part.as_bytes())?;
-        changes.push(FileChange {
-            pauses: pauses as u64,
-            path: Text::from_str(alloc, "/log")?,
-            content: Some(Bytes::from_slice(alloc, content.as_slice())?),
-        })?;
+/// Whether each part of the log is added to it or is all that stands in it then.
+fn end(rt: &impl Abort, alloc: Global, rows: &[Row], rotated: bool) -> Result<(), NoMemory> {
+    for row in rows {
+        let given = Given {
+            words: row.words,
+            conf: Some(row.conf),
+            log: row.log,
+            rotated,
+            readings: row.readings,
+            fails: row.fails,
+            ..NOTHING
+        };
+        says(rt, alloc, &given, (row.status, row.said))?;
     }
-    Ok(changes)
-}
-
-fn is_as_wanted(alloc: Global, row: &Row, rotated: bool) -> Result<bool, Fail> {
-    let given = Given {
-        words: row.words,
-        tree: tree(alloc, row.conf)?,
-        readings: row.readings,
-        changes: changes(alloc, row.log, rotated)?,
-        children: Seq::new(alloc),
-        clients: Seq::new(alloc),
-        fails: row.fails,
-    };
-    play::is_as_wanted(alloc, given, row.status, row.said)
+    Ok(())
 }
 
 #[test]
 fn starts_or_says_why_not(rt: HostRuntime) -> Result<(), Fail> {
-    for row in &STARTS {
-        assert!(rt; is_as_wanted(rt.alloc(), row, false)?, "at {}", row.said);
-    }
+    end(&rt, rt.alloc(), &STARTS, false)?;
     Ok(())
 }
 
 #[test]
 fn bans_who_fails_too_often(rt: HostRuntime) -> Result<(), Fail> {
-    for row in &RUNS {
-        assert!(rt; is_as_wanted(rt.alloc(), row, false)?, "at {}", row.said);
-    }
+    end(&rt, rt.alloc(), &RUNS, false)?;
     Ok(())
 }
 
 #[test]
 fn finds_the_lines_of_a_rotated_log(rt: HostRuntime) -> Result<(), Fail> {
-    for row in &ROTATIONS {
-        assert!(rt; is_as_wanted(rt.alloc(), row, true)?, "at {}", row.said);
-    }
+    end(&rt, rt.alloc(), &ROTATIONS, true)?;
     Ok(())
 }

@@ -1,12 +1,26 @@
-//! Transcripts of runs: what is said, which commands are started, polled and ended, which clients come, are replied to and leave, and each
-//! pause.
-use f2b_base::Bytes;
+//! What is said in runs, and their transcripts: what is said, which commands are started, polled and ended, which clients come, are
+//! replied to and leave, and each pause.
+use f2b_base::{Bytes, NoMemory};
 use f2b_world::{Accept, Event, GateWrite, Said, StartAnswer};
-use std::alloc::Global;
-use std::test::Fail;
+use std::alloc::{AllocError, Global};
+
+/// What was said without a fault.
+pub(crate) fn said(alloc: Global, events: &[Event]) -> Result<Bytes, NoMemory> {
+    let mut said = Bytes::new(alloc);
+    for event in events {
+        if let Event::Say {
+            bytes,
+            answer: Said::Done,
+        } = event
+        {
+            said.push_slice(bytes.as_slice())?;
+        }
+    }
+    Ok(said)
+}
 
 /// What a command that was started ends its line with.
-pub(crate) fn start_end(answer: StartAnswer) -> &'static str {
+fn start_end(answer: StartAnswer) -> &'static str {
     match answer {
         StartAnswer::Started => "\n",
         StartAnswer::Failed => ": failed\n",
@@ -14,35 +28,30 @@ pub(crate) fn start_end(answer: StartAnswer) -> &'static str {
     }
 }
 
-/// The line of a call on a command, or of a pause, if it is one.
-pub(crate) fn command_line(alloc: Global, event: &Event) -> Result<Option<String>, Fail> {
-    Ok(match event {
-        Event::ChildStart { job, text, answer } => Some(format!(in alloc;
-            "start {} {}{}",
-            *job,
-            text.as_str(),
-            start_end(*answer)
-        )?),
-        Event::ChildPoll { job, answer: _ } => Some(format!(in alloc; "poll {}\n", *job)?),
-        Event::ChildKill { job } => Some(format!(in alloc; "kill {}\n", *job)?),
-        Event::Pause { .. } => Some(String::from_str(alloc, "pause\n")?),
-        _ => None,
-    })
+fn push_text(out: &mut Bytes, text: Result<String, AllocError>) -> Result<(), NoMemory> {
+    let text = text?;
+    out.push_slice(text.as_bytes())
 }
 
-/// The line of a client that comes or leaves.
-pub(crate) fn client_line(alloc: Global, event: &Event) -> Result<Option<String>, Fail> {
-    Ok(match event {
-        Event::GateAccept {
-            answer: Accept::Conn(conn),
-        } => Some(format!(in alloc; "accept {}\n", *conn)?),
-        Event::GateClose { conn } => Some(format!(in alloc; "close {}\n", *conn)?),
-        _ => None,
-    })
+/// Adds the line of a command that is started.
+fn push_start(
+    alloc: Global,
+    out: &mut Bytes,
+    job: u64,
+    text: &str,
+    answer: StartAnswer,
+) -> Result<(), NoMemory> {
+    let end = start_end(answer);
+    push_text(out, format!(in alloc; "start {job} {text}{end}"))
+}
+
+/// Adds the line of a call on a command or a client.
+fn push_call(alloc: Global, out: &mut Bytes, word: &str, number: u64) -> Result<(), NoMemory> {
+    push_text(out, format!(in alloc; "{word} {number}\n"))
 }
 
 /// Whether a reply accepts its request: the byte behind its length says so.
-pub(crate) fn verdict(frame: &[u8]) -> &'static str {
+fn verdict(frame: &[u8]) -> &'static str {
     match frame.get(4) {
         Some(0) => "accepted",
         _ => "refused",
@@ -50,51 +59,45 @@ pub(crate) fn verdict(frame: &[u8]) -> &'static str {
 }
 
 /// Adds the line of a reply: the client, whether its request was accepted, and the text.
-pub(crate) fn push_reply(
-    alloc: Global,
-    transcript: &mut Bytes,
-    conn: u32,
-    frame: &[u8],
-) -> Result<(), Fail> {
-    let head = format!(in alloc; "reply {conn} {} ", verdict(frame))?;
-    let text = frame.get(5..).ok_or("no reply")?;
-    transcript.push_slice(head.as_bytes())?;
-    transcript.push_slice(text)?;
-    transcript.push(b'\n')?;
-    Ok(())
+fn push_reply(alloc: Global, out: &mut Bytes, conn: u32, frame: &[u8]) -> Result<(), NoMemory> {
+    let verdict = verdict(frame);
+    push_text(out, format!(in alloc; "reply {conn} {verdict} "))?;
+    let text = frame.get(5..).unwrap_or(b"no text".as_slice());
+    out.push_slice(text)?;
+    out.push(b'\n')
 }
 
-/// Adds what was said or replied in a call.
-pub(crate) fn push_told(alloc: Global, transcript: &mut Bytes, event: &Event) -> Result<(), Fail> {
+/// Adds the line of a call that is shown.
+fn push_event(alloc: Global, out: &mut Bytes, event: &Event) -> Result<(), NoMemory> {
     match event {
         Event::Say {
             bytes,
             answer: Said::Done,
-        } => Ok(transcript.push_slice(bytes.as_slice())?),
+        } => out.push_slice(bytes.as_slice()),
+        Event::ChildStart { job, text, answer } => {
+            push_start(alloc, out, *job, text.as_str(), *answer)
+        }
+        Event::ChildPoll { job, answer: _ } => push_call(alloc, out, "poll", *job),
+        Event::ChildKill { job } => push_call(alloc, out, "kill", *job),
+        Event::GateAccept {
+            answer: Accept::Conn(conn),
+        } => push_call(alloc, out, "accept", u64::from(*conn)),
         Event::GateWrite {
             conn,
             bytes,
             answer: GateWrite::Took(_),
-        } => push_reply(alloc, transcript, *conn, bytes.as_slice()),
+        } => push_reply(alloc, out, *conn, bytes.as_slice()),
+        Event::GateClose { conn } => push_call(alloc, out, "close", u64::from(*conn)),
+        Event::Pause { .. } => out.push_slice(b"pause\n"),
         _ => Ok(()),
     }
 }
 
-/// Adds a line, if there is one.
-pub(crate) fn push_line(transcript: &mut Bytes, line: Option<String>) -> Result<(), Fail> {
-    if let Some(line) = line {
-        transcript.push_slice(line.as_bytes())?;
-    }
-    Ok(())
-}
-
 /// All of it, in order.
-pub(crate) fn transcript(alloc: Global, events: &[Event]) -> Result<Bytes, Fail> {
-    let mut transcript = Bytes::new(alloc);
+pub(crate) fn transcript(alloc: Global, events: &[Event]) -> Result<Bytes, NoMemory> {
+    let mut out = Bytes::new(alloc);
     for event in events {
-        push_told(alloc, &mut transcript, event)?;
-        push_line(&mut transcript, command_line(alloc, event)?)?;
-        push_line(&mut transcript, client_line(alloc, event)?)?;
+        push_event(alloc, &mut out, event)?;
     }
-    Ok(transcript)
+    Ok(out)
 }

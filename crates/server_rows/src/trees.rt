@@ -1,19 +1,17 @@
 //! Runs of configurations of several files, jails and logs.
-use crate::play;
-use crate::play::{File, Given, change, tree};
-use f2b_base::Seq;
-use f2b_mem::{ChildPlan, FileChange};
+use crate::play::{Change, Child, File, Given, NOTHING, says};
+use f2b_base::NoMemory;
 use std::alloc::Global;
+use std::process::Abort;
 use std::test::Fail;
 
 /// One run of three turns: what it is given, and how it ends and what it says.
 struct Row {
     /// The files of the configuration, in byte order of their paths.
     conf: &'static [File<'static>],
-    /// What becomes of other files after so many pauses: their content, or that they go.
-    changes: &'static [(u64, &'static str, Option<&'static str>)],
-    /// What the commands end with that are started, in order; those after the last end with 0.
-    children: &'static [i32],
+    /// What becomes of other files.
+    changes: &'static [Change<'static>],
+    children: &'static [Child],
     /// The places of the calls that fail.
     fails: &'static [u64],
     status: u8,
@@ -141,7 +139,7 @@ const ROWS: [Row; 10] = [
     Row {
         conf: &[NOTE, FAIL, ("jail.conf", ONE_JAIL)],
         changes: &[(0, "/log/web", Some("1700000990 fail from 192.0.2.7\n"))],
-        children: &[0, 1],
+        children: &[(0, Some(0)), (0, Some(1))],
         fails: &[],
         status: 0,
         said: "1700001000 INFO Server ready\n1700001000 INFO [web] Found 192.0.2.7\n1700001000 NOTICE [web] Ban 192.0.2.7\n1700001000 ERROR [web/note] ban failed: status 1\n",
@@ -150,7 +148,7 @@ const ROWS: [Row; 10] = [
     Row {
         conf: &[CHECKED, FAIL, ("jail.conf", ONE_JAIL)],
         changes: &[(0, "/log/web", Some("1700000990 fail from 192.0.2.7\n"))],
-        children: &[0, 1],
+        children: &[(0, Some(0)), (0, Some(1))],
         fails: &[],
         status: 0,
         said: "1700001000 INFO Server ready\n1700001000 INFO [web] Found 192.0.2.7\n1700001000 NOTICE [web] Ban 192.0.2.7\n1700001000 WARNING [web/note] check failed: status 1\n1700001000 INFO [web/note] restart\n",
@@ -186,42 +184,24 @@ const ROWS: [Row; 10] = [
     },
 ];
 
-fn changes(alloc: Global, row: &Row) -> Result<Seq<FileChange>, Fail> {
-    let mut changes = Seq::new(alloc);
-    for (pauses, path, content) in row.changes {
-        changes.push(change(alloc, *pauses, path, *content)?)?;
+fn end(rt: &impl Abort, alloc: Global, rows: &[Row]) -> Result<(), NoMemory> {
+    for row in rows {
+        let given = Given {
+            words: "--conf /c --turns 3",
+            conf: Some(row.conf),
+            changes: row.changes,
+            readings: &[1_700_001_000],
+            children: row.children,
+            fails: row.fails,
+            ..NOTHING
+        };
+        says(rt, alloc, &given, (row.status, row.said))?;
     }
-    Ok(changes)
-}
-
-fn plans(alloc: Global, row: &Row) -> Result<Seq<ChildPlan>, Fail> {
-    let mut plans = Seq::new(alloc);
-    for status in row.children {
-        plans.push(ChildPlan {
-            polls: 0,
-            status: Some(*status),
-        })?;
-    }
-    Ok(plans)
-}
-
-fn is_as_wanted(alloc: Global, row: &Row) -> Result<bool, Fail> {
-    let given = Given {
-        words: "--conf /c --turns 3",
-        tree: tree(alloc, row.conf)?,
-        readings: &[1_700_001_000],
-        changes: changes(alloc, row)?,
-        children: plans(alloc, row)?,
-        clients: Seq::new(alloc),
-        fails: row.fails,
-    };
-    play::is_as_wanted(alloc, given, row.status, row.said)
+    Ok(())
 }
 
 #[test]
 fn follows_the_jails_of_a_tree(rt: HostRuntime) -> Result<(), Fail> {
-    for row in &ROWS {
-        assert!(rt; is_as_wanted(rt.alloc(), row)?, "at {}", row.said);
-    }
+    end(&rt, rt.alloc(), &ROWS)?;
     Ok(())
 }
