@@ -51,3 +51,25 @@ pub(crate) const BANS: [u8; 79] = [
     1, 0xed, 7, 0, 7, 1, b'a', 4, 192, 0, 2, 8, // the attempt
     0,
 ];
+
+/// Behind the view before the first configuration: at 100 a jail that bans for 100 seconds by the commands of an action, and at 1000 a ban
+/// of 192.0.2.7 by command. Job 0 starts the action, and job 1 bans.
+pub(crate) const WAITING: [u8; 86] = [
+    1, 0, 0, 0, 0, 0, 0, 0, 1, 2, 0, 0x80, 0xa3, 5, 0, 0, 0, 0, 0, 0, 0, // the view
+    1, 100, 0, 3, 0x80, 0xa3, 5, 1, 1, b'a', 0, 0, 0, 0, 0, 0, 0, 0xd8, 4, 3, 0, 0xc8, 1, 0, 0xe8,
+    7, 0, 0x80, 0xa3, 5, 0, // the configuration up to its action
+    1, 1, b'n', 0, 2, b'u', b'p', 2, b'd', b'n', 3, b'a', b'd', b'd', 3, b'd', b'e', b'l', 0, 60,
+    1, 0xe8, 7, 0, 5, 1, b'a', 1, 4, 192, 0, 2, 7, // the ban
+    0,
+];
+
+/// The same in version 1, where job 0 was done at 1001.
+pub(crate) const STARTED: [u8; 94] = [
+    1, 0, 0, 0, 0, 0, 0, 0, 1, 1, 0, 0x80, 0xa3, 5, 0, 0, 0, 0, 0, 0, 0, // the view
+    1, 100, 0, 3, 0x80, 0xa3, 5, 1, 1, b'a', 0, 0, 0, 0, 0, 0, 0, 0xd8, 4, 3, 0, 0xc8, 1, 0, 0xe8,
+    7, 0, 0x80, 0xa3, 5, 0, // the configuration up to its action
+    1, 1, b'n', 0, 2, b'u', b'p', 2, b'd', b'n', 3, b'a', b'd', b'd', 3, b'd', b'e', b'l', 0, 60,
+    1, 0xe8, 7, 0, 5, 1, b'a', 1, 4, 192, 0, 2, 7, // the ban
+    1, 0xe9, 7, 0, 2, 0, 0, 0, // the end of job 0
+    0,
+];

@@ -11,6 +11,8 @@
 #[cfg(test)]
 mod bytes;
 #[cfg(test)]
+mod commands;
+#[cfg(test)]
 mod loads;
 #[cfg(test)]
 mod play;

@@ -1,7 +1,7 @@
 //! What both slots come to.
 
 use crate::bytes::{BANS, NEWER, NO_INPUT, NO_VERSION, OLD_VERSION, SHUT, TICK};
-use crate::play::{NOTHING, Shown, calls, disk, shown_of};
+use crate::play::{NOTHING, Shown, calls, disk, made, same, shown_of};
 use reconcile::LoadError;
 use std::alloc::Global;
 use std::process::Abort;
@@ -84,37 +84,34 @@ const ROWS: [Row; 10] = [
     },
 ];
 
-fn is_loaded(rt: &impl Abort, alloc: Global, row: &Row) -> Result<(), Fail> {
-    let mut world = disk(alloc, row.slot0, row.slot1, &[])?;
-    let is = shown_of(alloc, &mut world, 1000);
-    assert_eq!(rt; is, row.want, "{}", row.name);
-    Ok(())
+fn loaded(alloc: Global, slot0: &[u8], slot1: &[u8]) -> Result<Shown, LoadError> {
+    let mut world = disk(alloc, slot0, slot1, &[])?;
+    shown_of(alloc, &mut world, 1000)
 }
 
-fn are_loaded(rt: &impl Abort, alloc: Global, rows: &[Row]) -> Result<(), Fail> {
+fn are_loaded(rt: &impl Abort, alloc: Global, rows: &[Row]) {
     for row in rows {
-        is_loaded(rt, alloc, row)?;
+        let is = loaded(alloc, row.slot0, row.slot1);
+        same(rt, &row.name, &is, &row.want);
     }
-    Ok(())
 }
 
 #[test]
-fn an_engine_is_what_both_slots_come_to(rt: HostRuntime) -> Result<(), Fail> {
-    are_loaded(&rt, rt.alloc(), &ROWS)
+fn an_engine_is_what_both_slots_come_to(rt: HostRuntime) {
+    are_loaded(&rt, rt.alloc(), &ROWS);
 }
 
 // A load whose call at that place fails.
-fn fails_at(rt: &impl Abort, alloc: Global, slot: &[u8], call: u64) -> Result<(), Fail> {
+fn fails_at(rt: &impl Abort, alloc: Global, slot: &[u8], call: u64) -> Result<(), LoadError> {
     let mut world = disk(alloc, slot, &[], &[call])?;
     let is = shown_of(alloc, &mut world, 1000);
-    assert_eq!(rt; is, Err(LoadError::DiskFault), "call {call}");
-    let made = world.events().len() as u64;
-    assert_eq!(rt; made, call.saturating_add(1), "call {call}");
+    same(rt, &call, &is, &Err(LoadError::DiskFault));
+    same(rt, &call, &made(&world), &call.saturating_add(1));
     Ok(())
 }
 
 // Each call that loads an engine may fail.
-fn each_fails(rt: &impl Abort, alloc: Global, slot: &[u8]) -> Result<(), Fail> {
+fn each_fails(rt: &impl Abort, alloc: Global, slot: &[u8]) -> Result<(), LoadError> {
     for call in 0..calls(alloc, slot, 1000)? {
         fails_at(rt, alloc, slot, call)?;
     }
@@ -123,5 +120,6 @@ fn each_fails(rt: &impl Abort, alloc: Global, slot: &[u8]) -> Result<(), Fail> {
 
 #[test]
 fn a_call_that_fails_is_the_last(rt: HostRuntime) -> Result<(), Fail> {
-    each_fails(&rt, rt.alloc(), &BANS)
+    each_fails(&rt, rt.alloc(), &BANS)?;
+    Ok(())
 }

@@ -1,10 +1,11 @@
 //! Inputs that an engine does not take.
 
 use crate::bytes::{BANS, LAST, NO_IDS, TICK};
-use crate::play::{calls, disk, is_either, loaded_view};
-use crate::steps::{Step, take, view_after};
+use crate::play::{Scene, calls, disk, is_either, made, same, view_of};
+use crate::steps::{Step, Untried, take, view_with};
 use f2b_base::View;
-use reconcile::EngineError;
+use f2b_mem::MemWorld;
+use reconcile::{EngineError, LoadError};
 use std::alloc::Global;
 use std::process::Abort;
 use std::test::Fail;
@@ -47,16 +48,25 @@ const ROWS: [Row; 4] = [
     },
 ];
 
-fn is_refused(rt: &impl Abort, alloc: Global, row: &Row) -> Result<(), Fail> {
-    let mut world = disk(alloc, row.slot0, &[], &[])?;
-    let is = take(alloc, &mut world, row.limit, Step::Tick(200))?;
-    assert_eq!(rt; is, Err(row.want), "{}", row.name);
-    let made = world.events().len() as u64;
-    assert_eq!(rt; made, calls(alloc, row.slot0, row.limit)?, "{}", row.name);
+// What comes of time that passed, and how many calls were made.
+fn tick(
+    alloc: Global,
+    slot0: &[u8],
+    limit: u64,
+) -> Result<(Result<(), EngineError>, u64), LoadError> {
+    let mut world = disk(alloc, slot0, &[], &[])?;
+    let is = take(alloc, &mut world, limit, &Step::Tick(200))?;
+    Ok((is, made(&world)))
+}
+
+fn is_refused(rt: &impl Abort, alloc: Global, row: &Row) -> Result<(), LoadError> {
+    let (is, count) = tick(alloc, row.slot0, row.limit)?;
+    same(rt, &row.name, &is, &Err(row.want));
+    same(rt, &row.name, &count, &calls(alloc, row.slot0, row.limit)?);
     Ok(())
 }
 
-fn are_refused(rt: &impl Abort, alloc: Global, rows: &[Row]) -> Result<(), Fail> {
+fn are_refused(rt: &impl Abort, alloc: Global, rows: &[Row]) -> Result<(), LoadError> {
     for row in rows {
         is_refused(rt, alloc, row)?;
     }
@@ -67,60 +77,105 @@ fn are_refused(rt: &impl Abort, alloc: Global, rows: &[Row]) -> Result<(), Fail>
 fn an_input_without_room_or_a_number_is_refused_before_any_call(
     rt: HostRuntime,
 ) -> Result<(), Fail> {
-    are_refused(&rt, rt.alloc(), &ROWS)
+    are_refused(&rt, rt.alloc(), &ROWS)?;
+    Ok(())
 }
 
-// A slot 0, the limit of a slot, and how many calls write that time passed at 1100.
-const FAULTS: [(&[u8], u64, u64); 3] = [(&TICK, 1000, 4), (&TICK, 30, 10), (&BANS, 200, 4)];
+// Slot 0, the limit of a slot, and how many calls write that time passed at 1100.
+struct Fault {
+    slot0: &'static [u8],
+    limit: u64,
+    writes: u64,
+}
 
-// A call that writes the input fails, counted from 0: the engine that is loaded then has the one view or the other.
+const FAULTS: [Fault; 3] = [
+    Fault {
+        slot0: &TICK,
+        limit: 1000,
+        writes: 4,
+    },
+    Fault {
+        slot0: &TICK,
+        limit: 30,
+        writes: 10,
+    },
+    Fault {
+        slot0: &BANS,
+        limit: 200,
+        writes: 4,
+    },
+];
+
+const LATER: Step = Step::Tick(1100);
+
+// The input is not taken, as the call at that place failed, which is the last.
+fn is_ended(
+    rt: &impl Abort,
+    alloc: Global,
+    world: &mut MemWorld,
+    limit: u64,
+    call: u64,
+) -> Result<(), LoadError> {
+    let is = take(alloc, world, limit, &LATER)?;
+    same(rt, &call, &is, &Err(EngineError::DiskFault));
+    same(rt, &call, &made(world), &call.saturating_add(1));
+    Ok(())
+}
+
+// The engine that is loaded then has the one view or the other.
 fn fails_at(
     rt: &impl Abort,
     alloc: Global,
-    slot0: &[u8],
-    limit: u64,
+    row: &Fault,
     call: u64,
     views: (&View, &View),
-) -> Result<(), Fail> {
-    let mut world = disk(alloc, slot0, &[], &[call])?;
-    let is = take(alloc, &mut world, limit, Step::Tick(1100))?;
-    assert_eq!(rt; is, Err(EngineError::DiskFault), "{call}");
-    let at = call.saturating_add(1);
-    assert_eq!(rt; world.events().len() as u64, at, "{call}");
-    is_either(rt, alloc, "a fault", &world, at, limit, views)
+) -> Result<(), LoadError> {
+    let mut world = disk(alloc, row.slot0, &[], &[call])?;
+    is_ended(rt, alloc, &mut world, row.limit, call)?;
+    let scene = Scene {
+        name: "a fault",
+        limit: row.limit,
+    };
+    is_either(rt, alloc, scene, &world, call.saturating_add(1), views)?;
+    Ok(())
 }
 
 // The view of an engine that is loaded.
-fn view_before(alloc: Global, slot0: &[u8], limit: u64) -> Result<View, Fail> {
-    let mut world = disk(alloc, slot0, &[], &[])?;
-    loaded_view(alloc, &mut world, limit)
+fn view_before(alloc: Global, row: &Fault) -> Result<View, LoadError> {
+    let mut world = disk(alloc, row.slot0, &[], &[])?;
+    view_of(alloc, &mut world, row.limit)
 }
 
 // The same once it took the input.
-fn view_with(alloc: Global, slot0: &[u8], limit: u64) -> Result<View, Fail> {
-    let mut world = disk(alloc, slot0, &[], &[])?;
-    view_after(alloc, &mut world, limit, &[Step::Tick(1100)])
+fn view_behind(alloc: Global, row: &Fault) -> Result<View, Untried> {
+    let mut world = disk(alloc, row.slot0, &[], &[])?;
+    view_with(alloc, &mut world, row.limit, &LATER)
 }
 
-fn each_fault(
+// Each call that writes the input may fail, counted from those that load.
+fn each_call(
     rt: &impl Abort,
     alloc: Global,
-    slot0: &[u8],
-    limit: u64,
-    writes: u64,
-) -> Result<(), Fail> {
-    let before = view_before(alloc, slot0, limit)?;
-    let after = view_with(alloc, slot0, limit)?;
-    let begin = calls(alloc, slot0, limit)?;
-    for call in begin..begin.saturating_add(writes) {
-        fails_at(rt, alloc, slot0, limit, call, (&before, &after))?;
+    row: &Fault,
+    views: (&View, &View),
+) -> Result<(), LoadError> {
+    let begin = calls(alloc, row.slot0, row.limit)?;
+    for call in begin..begin.saturating_add(row.writes) {
+        fails_at(rt, alloc, row, call, views)?;
     }
     Ok(())
 }
 
-fn each_row_fails(rt: &impl Abort, alloc: Global, rows: &[(&[u8], u64, u64)]) -> Result<(), Fail> {
-    for &(slot0, limit, writes) in rows {
-        each_fault(rt, alloc, slot0, limit, writes)?;
+fn each_fault(rt: &impl Abort, alloc: Global, row: &Fault) -> Result<(), Untried> {
+    let before = view_before(alloc, row)?;
+    let after = view_behind(alloc, row)?;
+    each_call(rt, alloc, row, (&before, &after))?;
+    Ok(())
+}
+
+fn each_row_fails(rt: &impl Abort, alloc: Global, rows: &[Fault]) -> Result<(), Untried> {
+    for row in rows {
+        each_fault(rt, alloc, row)?;
     }
     Ok(())
 }
@@ -129,5 +184,6 @@ fn each_row_fails(rt: &impl Abort, alloc: Global, rows: &[(&[u8], u64, u64)]) ->
 fn a_disk_that_fails_at_any_call_ends_the_input_and_keeps_the_view_or_that_with_it(
     rt: HostRuntime,
 ) -> Result<(), Fail> {
-    each_row_fails(&rt, rt.alloc(), &FAULTS)
+    each_row_fails(&rt, rt.alloc(), &FAULTS)?;
+    Ok(())
 }

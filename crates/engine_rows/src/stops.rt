@@ -1,9 +1,9 @@
 //! Inputs that an engine takes, and a stop at each call.
 
 use crate::bytes::{BANS, TICK};
-use crate::play::{disk, is_either, loaded_view};
-use crate::steps::{Step, view_after};
-use f2b_base::View;
+use crate::play::{Scene, disk, is_either, made, view_of};
+use crate::steps::{Step, Untried, view_with};
+use f2b_base::{NoMemory, View};
 use f2b_mem::MemWorld;
 use std::alloc::Global;
 use std::process::Abort;
@@ -11,35 +11,42 @@ use std::test::Fail;
 
 // Slot 0, the limit of a slot, and inputs.
 struct Row {
-    name: &'static str,
+    scene: Scene,
     slot0: &'static [u8],
-    limit: u64,
     steps: &'static [Step],
 }
 
 const ROWS: [Row; 4] = [
     Row {
-        name: "the first inputs of all",
+        scene: Scene {
+            name: "the first inputs of all",
+            limit: 1000,
+        },
         slot0: &[],
-        limit: 1000,
         steps: &[Step::Tick(200), Step::Config(300, 400), Step::Tick(500)],
     },
     Row {
-        name: "the second of each two changes slots",
+        scene: Scene {
+            name: "the second of each two changes slots",
+            limit: 31,
+        },
         slot0: &TICK,
-        limit: 31,
         steps: &[Step::Tick(110), Step::Tick(120), Step::Tick(125)],
     },
     Row {
-        name: "each changes slots",
+        scene: Scene {
+            name: "each changes slots",
+            limit: 30,
+        },
         slot0: &TICK,
-        limit: 30,
         steps: &[Step::Tick(200), Step::Tick(300), Step::Stop(400)],
     },
     Row {
-        name: "a ban ends, and is over",
+        scene: Scene {
+            name: "a ban ends, and is over",
+            limit: 200,
+        },
         slot0: &BANS,
-        limit: 200,
         steps: &[Step::Tick(1100), Step::Stop(1101)],
     },
 ];
@@ -59,34 +66,50 @@ fn expected<'v>(
     (before, after)
 }
 
-// An input is taken, and each call of it may be the last.
-fn each_stop(
+fn is_either_anywhere(
     rt: &impl Abort,
     alloc: Global,
-    row: &Row,
-    world: &mut MemWorld,
-    step: Step,
-) -> Result<(), Fail> {
-    let before = loaded_view(alloc, world, row.limit)?;
-    let begin = world.events().len() as u64;
-    let after = view_after(alloc, world, row.limit, &[step])?;
-    let end = world.events().len() as u64;
+    scene: Scene,
+    world: &MemWorld,
+    (begin, end): (u64, u64),
+    (before, after): (&View, &View),
+) -> Result<(), NoMemory> {
     for at in begin..=end {
-        let views = expected((begin, at, end), &before, &after);
-        is_either(rt, alloc, row.name, world, at, row.limit, views)?;
+        let views = expected((begin, at, end), before, after);
+        is_either(rt, alloc, scene, world, at, views)?;
     }
     Ok(())
 }
 
-fn each_step(rt: &impl Abort, alloc: Global, row: &Row) -> Result<(), Fail> {
+/// An input is taken, and each call of it may be the last.
+pub(crate) fn each_stop(
+    rt: &impl Abort,
+    alloc: Global,
+    scene: Scene,
+    world: &mut MemWorld,
+    step: &Step,
+) -> Result<(), Untried> {
+    let before = view_of(alloc, world, scene.limit)?;
+    let begin = made(world);
+    let after = view_with(alloc, world, scene.limit, step)?;
+    let calls = (begin, made(world));
+    is_either_anywhere(rt, alloc, scene, world, calls, (&before, &after))?;
+    Ok(())
+}
+
+fn each_of(rt: &impl Abort, alloc: Global, row: &Row, world: &mut MemWorld) -> Result<(), Untried> {
+    for step in row.steps {
+        each_stop(rt, alloc, row.scene, world, step)?;
+    }
+    Ok(())
+}
+
+fn each_step(rt: &impl Abort, alloc: Global, row: &Row) -> Result<(), Untried> {
     let mut world = disk(alloc, row.slot0, &[], &[])?;
-    for &step in row.steps {
-        each_stop(rt, alloc, row, &mut world, step)?;
-    }
-    Ok(())
+    each_of(rt, alloc, row, &mut world)
 }
 
-fn each_row(rt: &impl Abort, alloc: Global, rows: &[Row]) -> Result<(), Fail> {
+fn each_row(rt: &impl Abort, alloc: Global, rows: &[Row]) -> Result<(), Untried> {
     for row in rows {
         each_step(rt, alloc, row)?;
     }
@@ -97,5 +120,6 @@ fn each_row(rt: &impl Abort, alloc: Global, rows: &[Row]) -> Result<(), Fail> {
 fn a_stop_at_any_call_leaves_the_view_before_the_input_or_with_it(
     rt: HostRuntime,
 ) -> Result<(), Fail> {
-    each_row(&rt, rt.alloc(), &ROWS)
+    each_row(&rt, rt.alloc(), &ROWS)?;
+    Ok(())
 }

@@ -1,8 +1,9 @@
 //! Inputs that an engine takes, and the engine that is loaded then.
 
 use crate::bytes::{BANS, OLD_VERSION, TICK};
-use crate::play::{as_shown, disk, has_either};
-use crate::steps::{Step, view_after};
+use crate::play::{Shown, as_shown, disk, has_either, same};
+use crate::steps::{Step, Untried, view_after, view_with};
+use f2b_mem::MemWorld;
 use std::alloc::Global;
 use std::process::Abort;
 use std::test::Fail;
@@ -58,15 +59,19 @@ const ROWS: [Row; 5] = [
     },
 ];
 
-fn is_kept(rt: &impl Abort, alloc: Global, row: &Row) -> Result<(), Fail> {
-    let mut world = disk(alloc, row.slot0, &[], &[])?;
-    let before = view_after(alloc, &mut world, row.limit, row.steps)?;
-    let again = has_either(alloc, &mut world, row.limit, (&before, &before));
-    assert_eq!(rt; again, Ok(true), "{}", row.name);
+fn keeps(rt: &impl Abort, alloc: Global, row: &Row, world: &mut MemWorld) -> Result<(), Untried> {
+    let before = view_after(alloc, world, row.limit, row.steps)?;
+    let again = has_either(alloc, world, row.limit, (&before, &before));
+    same(rt, &row.name, &again, &Ok(true));
     Ok(())
 }
 
-fn are_kept(rt: &impl Abort, alloc: Global, rows: &[Row]) -> Result<(), Fail> {
+fn is_kept(rt: &impl Abort, alloc: Global, row: &Row) -> Result<(), Untried> {
+    let mut world = disk(alloc, row.slot0, &[], &[])?;
+    keeps(rt, alloc, row, &mut world)
+}
+
+fn are_kept(rt: &impl Abort, alloc: Global, rows: &[Row]) -> Result<(), Untried> {
     for row in rows {
         is_kept(rt, alloc, row)?;
     }
@@ -75,14 +80,25 @@ fn are_kept(rt: &impl Abort, alloc: Global, rows: &[Row]) -> Result<(), Fail> {
 
 #[test]
 fn an_engine_that_is_loaded_again_has_the_view_that_it_had(rt: HostRuntime) -> Result<(), Fail> {
-    are_kept(&rt, rt.alloc(), &ROWS)
+    are_kept(&rt, rt.alloc(), &ROWS)?;
+    Ok(())
+}
+
+fn shown_with(alloc: Global, world: &mut MemWorld, step: &Step) -> Result<Shown, Untried> {
+    let view = view_with(alloc, world, 1000, step)?;
+    Ok(as_shown(&view))
+}
+
+// What an engine shows that is loaded of a slot 0 and takes an input.
+fn shown_behind(alloc: Global, slot0: &[u8], step: &Step) -> Result<Shown, Untried> {
+    let mut world = disk(alloc, slot0, &[], &[])?;
+    shown_with(alloc, &mut world, step)
 }
 
 #[test]
 fn a_ban_that_ended_behind_a_load_is_over(rt: HostRuntime) -> Result<(), Fail> {
-    let mut world = disk(rt.alloc(), &BANS, &[], &[])?;
-    let view = view_after(rt.alloc(), &mut world, 1000, &[Step::Tick(1100)])?;
-    let is = as_shown(&view);
-    assert_eq!(&rt; (is.at, is.failures, is.bans, is.past), (1100, 1, 0, 1));
+    let is = shown_behind(rt.alloc(), &BANS, &Step::Tick(1100))?;
+    let seen = (is.at, is.failures, is.bans, is.past);
+    same(&rt, &"a ban", &seen, &(1100, 1, 0, 1));
     Ok(())
 }

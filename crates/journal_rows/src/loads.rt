@@ -1,9 +1,9 @@
 //! What two slots mean.
 
 use crate::bytes::{BAD, BANS, LAST, NEWER, OLD_VERSION, PAST_LAST, SHUT, TICK};
-use crate::play::{NOTHING, Stored, stored_in};
+use crate::play::{NOTHING, Stored, same, stored_in};
 use ban_journal::LoadError;
-use f2b_base::Bytes;
+use f2b_base::{Bytes, NoMemory};
 use std::alloc::Global;
 use std::process::Abort;
 use std::test::Fail;
@@ -139,33 +139,33 @@ const ROWS: [Row; 15] = [
     },
 ];
 
-fn mean(rt: &impl Abort, alloc: Global, rows: &[Row]) -> Result<(), Fail> {
+fn mean(rt: &impl Abort, alloc: Global, rows: &[Row]) {
     for row in rows {
-        let is = stored_in(alloc, row.slot0, row.slot1)?;
-        assert_eq!(rt; is, row.want, "{}", row.name);
+        let is = stored_in(alloc, row.slot0, row.slot1);
+        same(rt, &row.name, &is, &row.want);
     }
-    Ok(())
 }
 
 #[test]
-fn the_open_slot_of_the_greater_generation_counts(rt: HostRuntime) -> Result<(), Fail> {
-    mean(&rt, rt.alloc(), &ROWS)
+fn the_open_slot_of_the_greater_generation_counts(rt: HostRuntime) {
+    mean(&rt, rt.alloc(), &ROWS);
 }
 
-// How many inputs two slots have stored, or the place where one of them is bad.
-fn inputs_in(alloc: Global, slot0: &[u8], slot1: &[u8]) -> Result<Result<u64, u64>, Fail> {
-    match stored_in(alloc, slot0, slot1)? {
+// How many inputs are stored, or the place where a slot is bad.
+fn inputs_or_place(stored: Result<Stored, LoadError>) -> Result<Result<u64, u64>, LoadError> {
+    match stored {
         Ok(stored) => Ok(Ok(stored.inputs)),
         Err(LoadError::NotAJournal { at, .. }) => Ok(Err(at)),
-        Err(_) => Err("not read".into()),
+        Err(error) => Err(error),
     }
 }
 
 // The same of a slot, whichever of the two it is.
-fn has(rt: &impl Abort, alloc: Global, slot: &[u8], want: Result<u64, u64>) -> Result<(), Fail> {
-    assert_eq!(rt; inputs_in(alloc, slot, &[])?, want, "{slot:?} as slot 0");
-    assert_eq!(rt; inputs_in(alloc, &[], slot)?, want, "{slot:?} as slot 1");
-    Ok(())
+fn has(rt: &impl Abort, alloc: Global, slot: &[u8], want: Result<u64, u64>) {
+    let first = inputs_or_place(stored_in(alloc, slot, &[]));
+    same(rt, &(0, slot), &first, &Ok(want));
+    let second = inputs_or_place(stored_in(alloc, &[], slot));
+    same(rt, &(1, slot), &second, &Ok(want));
 }
 
 // The bans, cut behind so many bytes: how many inputs there are, or the place that is bad.
@@ -217,24 +217,21 @@ const CUT: [Result<u64, u64>; 45] = [
     Ok(2),
 ];
 
-fn are_cut(
-    rt: &impl Abort,
-    alloc: Global,
-    bytes: &[u8],
-    rows: &[Result<u64, u64>],
-) -> Result<(), Fail> {
+fn is_cut(rt: &impl Abort, alloc: Global, bytes: &[u8], len: usize, want: Result<u64, u64>) {
+    let front = bytes.get(..len).unwrap_or(&[]);
+    same(rt, &"so many bytes are left", &front.len(), &len);
+    has(rt, alloc, front, want);
+}
+
+fn are_cut(rt: &impl Abort, alloc: Global, bytes: &[u8], rows: &[Result<u64, u64>]) {
     for (len, want) in rows.iter().enumerate() {
-        let front = bytes.get(..len).ok_or("too short")?;
-        has(rt, alloc, front, *want)?;
+        is_cut(rt, alloc, bytes, len, *want);
     }
-    Ok(())
 }
 
 #[test]
-fn a_slot_that_is_cut_is_empty_or_bad_where_the_field_begins_that_is_cut(
-    rt: HostRuntime,
-) -> Result<(), Fail> {
-    are_cut(&rt, rt.alloc(), &BANS, &CUT)
+fn a_slot_that_is_cut_is_empty_or_bad_where_the_field_begins_that_is_cut(rt: HostRuntime) {
+    are_cut(&rt, rt.alloc(), &BANS, &CUT);
 }
 
 // The bans with the byte at each place turned in its lowest bit: how many inputs there are, or the place that is bad.
@@ -334,13 +331,27 @@ const HIGH_TURNED: [Result<u64, u64>; 44] = [
 ];
 
 // The bytes with the one at that place turned.
-fn turned(alloc: Global, bytes: &[u8], at: usize, turn: u8) -> Result<Bytes, Fail> {
-    let (front, rest) = bytes.split_at_checked(at).ok_or("past the end")?;
-    let (first, behind) = rest.split_first().ok_or("past the end")?;
+fn turned(alloc: Global, bytes: &[u8], at: usize, turn: u8) -> Result<Bytes, NoMemory> {
+    let (front, rest) = bytes.split_at_checked(at).unwrap_or((bytes, &[]));
     let mut turned = Bytes::from_slice(alloc, front)?;
-    turned.push(*first ^ turn)?;
-    turned.push_slice(behind)?;
+    if let Some((first, behind)) = rest.split_first() {
+        turned.push(*first ^ turn)?;
+        turned.push_slice(behind)?;
+    }
     Ok(turned)
+}
+
+fn is_turned(
+    rt: &impl Abort,
+    alloc: Global,
+    bytes: &[u8],
+    (at, turn): (usize, u8),
+    want: Result<u64, u64>,
+) -> Result<(), NoMemory> {
+    same(rt, &"the place is there", &(at < bytes.len()), &true);
+    let slot = turned(alloc, bytes, at, turn)?;
+    has(rt, alloc, slot.as_slice(), want);
+    Ok(())
 }
 
 fn are_turned(
@@ -349,18 +360,22 @@ fn are_turned(
     bytes: &[u8],
     turn: u8,
     rows: &[Result<u64, u64>],
-) -> Result<(), Fail> {
+) -> Result<(), NoMemory> {
     for (at, want) in rows.iter().enumerate() {
-        let slot = turned(alloc, bytes, at, turn)?;
-        has(rt, alloc, slot.as_slice(), *want)?;
+        is_turned(rt, alloc, bytes, (at, turn), *want)?;
     }
     Ok(())
 }
 
+fn both_turned(rt: &impl Abort, alloc: Global, bytes: &[u8]) -> Result<(), NoMemory> {
+    are_turned(rt, alloc, bytes, 1, &LOW_TURNED)?;
+    are_turned(rt, alloc, bytes, 0x80, &HIGH_TURNED)
+}
+
 #[test]
 fn a_slot_with_a_turned_byte_is_another_one_or_bad(rt: HostRuntime) -> Result<(), Fail> {
-    are_turned(&rt, rt.alloc(), &BANS, 1, &LOW_TURNED)?;
-    are_turned(&rt, rt.alloc(), &BANS, 0x80, &HIGH_TURNED)
+    both_turned(&rt, rt.alloc(), &BANS)?;
+    Ok(())
 }
 
 // Bytes that nobody wrote, and the place that is bad: the generation, the version, and the name of the first of 77 jails.
@@ -391,24 +406,20 @@ const NOISE: [([u8; 40], u64); 3] = [
     ),
 ];
 
-fn noise(rt: &impl Abort, alloc: Global, bytes: &[u8], place: u64) -> Result<(), Fail> {
+fn noise(rt: &impl Abort, alloc: Global, bytes: &[u8], place: u64) {
     for len in 0..=bytes.len() {
         let want = if len <= 16 { Ok(0) } else { Err(place) };
-        has(rt, alloc, &bytes[..len], want)?;
+        has(rt, alloc, &bytes[..len], want);
     }
-    Ok(())
 }
 
-fn each_noise(rt: &impl Abort, alloc: Global, rows: &[([u8; 40], u64)]) -> Result<(), Fail> {
+fn each_noise(rt: &impl Abort, alloc: Global, rows: &[([u8; 40], u64)]) {
     for (bytes, place) in rows {
-        noise(rt, alloc, bytes, *place)?;
+        noise(rt, alloc, bytes, *place);
     }
-    Ok(())
 }
 
 #[test]
-fn bytes_that_nobody_wrote_are_no_journal_from_the_seventeenth_on(
-    rt: HostRuntime,
-) -> Result<(), Fail> {
-    each_noise(&rt, rt.alloc(), &NOISE)
+fn bytes_that_nobody_wrote_are_no_journal_from_the_seventeenth_on(rt: HostRuntime) {
+    each_noise(&rt, rt.alloc(), &NOISE);
 }

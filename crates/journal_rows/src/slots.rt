@@ -2,8 +2,8 @@
 ghost use Rattle.slot_reader.specs.Windows.{Shows};
 
 use crate::bytes::{BAD, BANS, OLD_VERSION, SHUT, TICK};
-use crate::play::disk;
-use f2b_base::{Bytes, Input, What};
+use crate::play::{disk, same};
+use f2b_base::{Bytes, Input, NoMemory, What};
 use f2b_world::Disk;
 use journal_slots::Head;
 use slot_reader::{Checked, Fault, Next, OpenSlot, Opening, SlotReader, Version, check, open};
@@ -12,9 +12,9 @@ use std::process::Abort;
 use std::test::Fail;
 
 // What slot 0 is, to its end, on a disk whose calls at these places fail.
-fn checked(alloc: Global, bytes: &[u8], fails: &[u64]) -> Result<Result<Checked, Fault>, Fail> {
+fn checked(alloc: Global, bytes: &[u8], fails: &[u64]) -> Result<Checked, Fault> {
     let mut world = disk(alloc, bytes, &[], fails)?;
-    Ok(check(alloc, &mut world, 0))
+    check(alloc, &mut world, 0)
 }
 
 // A slot, and what it is to its end.
@@ -55,16 +55,15 @@ const SLOTS: [(&[u8], Checked); 7] = [
     ),
 ];
 
-fn are_checked(rt: &impl Abort, alloc: Global, rows: &[(&[u8], Checked)]) -> Result<(), Fail> {
-    for &(bytes, want) in rows {
-        assert_eq!(rt; checked(alloc, bytes, &[])?, Ok(want), "{bytes:?}");
+fn are_checked(rt: &impl Abort, alloc: Global, rows: &[(&[u8], Checked)]) {
+    for (bytes, want) in rows {
+        same(rt, bytes, &checked(alloc, bytes, &[]), &Ok(*want));
     }
-    Ok(())
 }
 
 #[test]
-fn a_slot_is_empty_or_open_up_to_its_closed_gate_or_bad(rt: HostRuntime) -> Result<(), Fail> {
-    are_checked(&rt, rt.alloc(), &SLOTS)
+fn a_slot_is_empty_or_open_up_to_its_closed_gate_or_bad(rt: HostRuntime) {
+    are_checked(&rt, rt.alloc(), &SLOTS);
 }
 
 /// What came of a slot behind its view.
@@ -108,24 +107,27 @@ fn two_came<D: Disk>(alloc: Global, disk: &mut D, reader: SlotReader) -> Result<
 fn all_came<D: Disk>(alloc: Global, disk: &mut D) -> Result<Option<(u64, (Came, Came))>, Fault> {
     match open(alloc, disk, 0)? {
         Opening::Open(reader, view) => {
+            let purge = view.defs.purge;
             let came = two_came(alloc, disk, reader)?;
-            Ok(Some((view.defs.purge, came)))
+            Ok(Some((purge, came)))
         }
         _ => Ok(None),
     }
 }
 
+fn came_in(alloc: Global, bytes: &[u8]) -> Result<Option<(u64, (Came, Came))>, Fault> {
+    let mut world = disk(alloc, bytes, &[], &[])?;
+    all_came(alloc, &mut world)
+}
+
 #[test]
-fn a_view_and_its_inputs_come_one_by_one(rt: HostRuntime) -> Result<(), Fail> {
-    let mut world = disk(rt.alloc(), &TICK, &[], &[])?;
-    let is = all_came(rt.alloc(), &mut world);
+fn a_view_and_its_inputs_come_one_by_one(rt: HostRuntime) {
     let want = (86_400, (Came::Tick(100), Came::Closed));
-    assert_eq!(&rt; is, Ok(Some(want)));
-    Ok(())
+    same(&rt, &"a tick", &came_in(rt.alloc(), &TICK), &Ok(Some(want)));
 }
 
 // A slot with so many ticks, which is longer than a piece that is read at once.
-fn ticks(alloc: Global, count: u32) -> Result<Bytes, Fail> {
+fn ticks(alloc: Global, count: u32) -> Result<Bytes, NoMemory> {
     let mut bytes = Bytes::from_slice(alloc, &TICK[..21])?;
     for _ in 0..count {
         bytes.push_slice(&TICK[21..25])?;
@@ -134,30 +136,40 @@ fn ticks(alloc: Global, count: u32) -> Result<Bytes, Fail> {
     Ok(bytes)
 }
 
-#[test]
-fn inputs_across_the_seam_of_two_pieces_are_read(rt: HostRuntime) -> Result<(), Fail> {
-    let bytes = ticks(rt.alloc(), 20_000)?;
-    let is = checked(rt.alloc(), bytes.as_slice(), &[])?;
-    let open = OpenSlot {
+fn is_checked_across(rt: &impl Abort, alloc: Global) -> Result<(), NoMemory> {
+    let bytes = ticks(alloc, 20_000)?;
+    let want = OpenSlot {
         generation: 1,
         version: Version::Two,
         gate: 80_021,
     };
-    assert_eq!(rt; is, Ok(Checked::Open(open)));
+    let is = checked(alloc, bytes.as_slice(), &[]);
+    same(rt, &"two pieces", &is, &Ok(Checked::Open(want)));
+    Ok(())
+}
+
+#[test]
+fn inputs_across_the_seam_of_two_pieces_are_read(rt: HostRuntime) -> Result<(), Fail> {
+    is_checked_across(&rt, rt.alloc())?;
     Ok(())
 }
 
 // The calls that check a slot of two pieces: its length, a piece, and another piece.
-fn each_call_fails(rt: &impl Abort, alloc: Global, bytes: &[u8]) -> Result<(), Fail> {
+fn each_call_fails(rt: &impl Abort, alloc: Global, bytes: &[u8]) {
     for call in 0..3 {
-        let is = checked(alloc, bytes, &[call])?;
-        assert_eq!(rt; is, Err(Fault::Disk), "{call}");
+        let is = checked(alloc, bytes, &[call]);
+        same(rt, &call, &is, &Err(Fault::Disk));
     }
+}
+
+fn each_call_fails_across(rt: &impl Abort, alloc: Global) -> Result<(), NoMemory> {
+    let bytes = ticks(alloc, 20_000)?;
+    each_call_fails(rt, alloc, bytes.as_slice());
     Ok(())
 }
 
 #[test]
 fn a_disk_that_fails_at_any_call_is_told(rt: HostRuntime) -> Result<(), Fail> {
-    let bytes = ticks(rt.alloc(), 20_000)?;
-    each_call_fails(&rt, rt.alloc(), bytes.as_slice())
+    each_call_fails_across(&rt, rt.alloc())?;
+    Ok(())
 }

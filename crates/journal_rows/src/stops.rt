@@ -1,9 +1,9 @@
 //! An input that is written, and a stop or a fault of the disk at each call.
 
 use crate::bytes::{NEWER, OLD_VERSION, SHUT, TICK};
-use crate::play::{NOTHING, Stored, Tear, after_stop, all_stored, disk};
+use crate::play::{NOTHING, Stored, Tear, after_stop, all_stored, disk, same};
 use crate::writes::write;
-use ban_journal::AppendError;
+use ban_journal::{AppendError, LoadError};
 use f2b_mem::MemWorld;
 use std::alloc::Global;
 use std::process::Abort;
@@ -243,6 +243,10 @@ const TEARS: [Tear; 7] = [
     },
 ];
 
+fn all_tears() -> &'static [Tear] {
+    &TEARS
+}
+
 // What is stored once so many of the calls were done. An open gate that is not synced is lost where nothing is kept and all is 0.
 fn wanted(scene: &Scene, calls: u64, tear: Tear) -> Stored {
     let done = calls.saturating_sub(u64::from(tear.keep == 0 && tear.fill == 0));
@@ -255,6 +259,15 @@ fn wanted(scene: &Scene, calls: u64, tear: Tear) -> Stored {
     }
 }
 
+// Whether the input is stored behind what was stored, or behind the new view.
+fn is_behind(is: Result<Stored, LoadError>, stored: Stored) -> bool {
+    let turned = Stored {
+        generation: stored.generation.saturating_add(1),
+        ..FIRST_INPUT
+    };
+    is == Ok(appended(stored)) || is == Ok(turned)
+}
+
 // The input is written to what a stop left, behind what is stored there or behind the new view.
 fn goes_on(
     rt: &impl Abort,
@@ -262,59 +275,87 @@ fn goes_on(
     scene: &Scene,
     world: &mut MemWorld,
     stored: Stored,
-) -> Result<(), Fail> {
+) -> Result<(), LoadError> {
     let (_begin, written) = write(alloc, world, scene.limit)?;
-    assert_eq!(rt; written, Ok(()), "{}, {stored:?}", scene.name);
+    same(rt, &(scene.name, stored), &written, &Ok(()));
     let is = all_stored(alloc, world);
-    let turned = Stored {
-        generation: stored.generation.saturating_add(1),
-        ..FIRST_INPUT
-    };
-    assert!(rt;
-        is == Ok(appended(stored)) || is == Ok(turned),
-        "{}, {stored:?}",
-        scene.name
-    );
+    let behind = is_behind(is, stored);
+    same(rt, &(scene.name, stored, is), &behind, &true);
     Ok(())
 }
 
-// A stop behind the call at that place is opened again, where so many of the calls count as done.
+/// A stop behind the call at a place, where so many of the calls that write the input count as done.
+#[derive(Clone, Copy)]
+struct Stop {
+    at: u64,
+    calls: u64,
+}
+
+fn is_torn(
+    rt: &impl Abort,
+    alloc: Global,
+    scene: &Scene,
+    world: &MemWorld,
+    stop: Stop,
+    tear: Tear,
+) -> Result<(), LoadError> {
+    let mut torn = after_stop(alloc, world, stop.at, tear)?;
+    let want = wanted(scene, stop.calls, tear);
+    let is = all_stored(alloc, &mut torn);
+    same(rt, &(scene.name, stop.calls, tear), &is, &Ok(want));
+    goes_on(rt, alloc, scene, &mut torn, want)
+}
+
+// What a stop left is opened again, however it was torn.
 fn is_stopped(
     rt: &impl Abort,
     alloc: Global,
     scene: &Scene,
     world: &MemWorld,
-    at: u64,
-    calls: u64,
-) -> Result<(), Fail> {
-    for &tear in &TEARS {
-        let mut torn = after_stop(alloc, world, at, tear)?;
-        let is = all_stored(alloc, &mut torn);
-        let want = wanted(scene, calls, tear);
-        assert_eq!(rt; is, Ok(want), "{}, {calls}, {tear:?}", scene.name);
-        goes_on(rt, alloc, scene, &mut torn, want)?;
+    stop: Stop,
+) -> Result<(), LoadError> {
+    for tear in all_tears() {
+        is_torn(rt, alloc, scene, world, stop, *tear)?;
+    }
+    Ok(())
+}
+
+// How many calls loaded the journal to which the input was written.
+fn is_written(
+    rt: &impl Abort,
+    alloc: Global,
+    scene: &Scene,
+    world: &mut MemWorld,
+) -> Result<u64, LoadError> {
+    let (begin, written) = write(alloc, world, scene.limit)?;
+    same(rt, &scene.name, &written, &Ok(()));
+    let end = begin.saturating_add(scene.calls);
+    same(rt, &scene.name, &(world.events().len() as u64), &end);
+    Ok(begin)
+}
+
+fn is_stopped_anywhere(
+    rt: &impl Abort,
+    alloc: Global,
+    scene: &Scene,
+    world: &MemWorld,
+    begin: u64,
+) -> Result<(), LoadError> {
+    for calls in 0..=scene.calls {
+        let at = begin.saturating_add(calls);
+        is_stopped(rt, alloc, scene, world, Stop { at, calls })?;
     }
     Ok(())
 }
 
 // The input is written, and each call of it may be the last.
-fn each_stop(rt: &impl Abort, alloc: Global, scene: &Scene) -> Result<(), Fail> {
+fn each_stop(rt: &impl Abort, alloc: Global, scene: &Scene) -> Result<(), LoadError> {
     let mut world = disk(alloc, scene.slot0, scene.slot1, &[])?;
-    let (begin, written) = write(alloc, &mut world, scene.limit)?;
-    assert_eq!(rt; written, Ok(()), "{}", scene.name);
-    assert_eq!(rt;
-        world.events().len() as u64,
-        begin.saturating_add(scene.calls),
-        "{}",
-        scene.name
-    );
-    for calls in 0..=scene.calls {
-        is_stopped(rt, alloc, scene, &world, begin.saturating_add(calls), calls)?;
-    }
-    Ok(())
+    let begin = is_written(rt, alloc, scene, &mut world)?;
+    is_stopped_anywhere(rt, alloc, scene, &world, begin)
 }
 
-fn each_scene(rt: &impl Abort, alloc: Global, scenes: &[Scene]) -> Result<(), Fail> {
+fn each_scene(rt: &impl Abort, alloc: Global, scenes: &[Scene]) -> Result<(), LoadError> {
     for scene in scenes {
         each_stop(rt, alloc, scene)?;
     }
@@ -325,46 +366,66 @@ fn each_scene(rt: &impl Abort, alloc: Global, scenes: &[Scene]) -> Result<(), Fa
 fn a_stop_at_any_call_leaves_what_was_stored_or_that_and_the_input(
     rt: HostRuntime,
 ) -> Result<(), Fail> {
-    each_scene(&rt, rt.alloc(), &SCENES)
+    each_scene(&rt, rt.alloc(), &SCENES)?;
+    Ok(())
 }
 
-// A call that writes the input fails, counted from 0. What was written and not synced may be there or not.
+// How many calls count as done where one fails, counted from 0. What was written and not synced may be there or not.
+fn done_at(call: u64) -> u64 {
+    if call % 2 == 0 {
+        call.saturating_add(1)
+    } else {
+        call
+    }
+}
+
+// The input is not written, as the call at that place failed, which is the last.
+fn is_ended(
+    rt: &impl Abort,
+    alloc: Global,
+    scene: &Scene,
+    world: &mut MemWorld,
+    at: u64,
+) -> Result<(), LoadError> {
+    let (_begin, written) = write(alloc, world, scene.limit)?;
+    let want = Err(AppendError::DiskFault);
+    same(rt, &(scene.name, at), &written, &want);
+    same(rt, &(scene.name, at), &(world.events().len() as u64), &at);
+    Ok(())
+}
+
+// A call that writes the input fails, counted from 0.
 fn fails_at(
     rt: &impl Abort,
     alloc: Global,
     scene: &Scene,
     begin: u64,
     call: u64,
-) -> Result<(), Fail> {
+) -> Result<(), LoadError> {
     let place = begin.saturating_add(call);
-    let mut world = disk(alloc, scene.slot0, scene.slot1, &[place])?;
-    let (_begin, written) = write(alloc, &mut world, scene.limit)?;
-    assert_eq!(rt;
-        written,
-        Err(AppendError::DiskFault),
-        "{}, {call}",
-        scene.name
-    );
     let at = place.saturating_add(1);
-    assert_eq!(rt; world.events().len() as u64, at, "{}, {call}", scene.name);
-    let done = if call % 2 == 0 {
-        call.saturating_add(1)
-    } else {
-        call
-    };
-    is_stopped(rt, alloc, scene, &world, at, done)
+    let mut world = disk(alloc, scene.slot0, scene.slot1, &[place])?;
+    is_ended(rt, alloc, scene, &mut world, at)?;
+    let calls = done_at(call);
+    is_stopped(rt, alloc, scene, &world, Stop { at, calls })
 }
 
-fn each_fault(rt: &impl Abort, alloc: Global, scene: &Scene) -> Result<(), Fail> {
+// How many calls load the journal of a scene.
+fn begin_of(alloc: Global, scene: &Scene) -> Result<u64, LoadError> {
     let mut world = disk(alloc, scene.slot0, scene.slot1, &[])?;
     let (begin, _written) = write(alloc, &mut world, scene.limit)?;
+    Ok(begin)
+}
+
+fn each_fault(rt: &impl Abort, alloc: Global, scene: &Scene) -> Result<(), LoadError> {
+    let begin = begin_of(alloc, scene)?;
     for call in 0..scene.calls {
         fails_at(rt, alloc, scene, begin, call)?;
     }
     Ok(())
 }
 
-fn each_scene_fails(rt: &impl Abort, alloc: Global, scenes: &[Scene]) -> Result<(), Fail> {
+fn each_scene_fails(rt: &impl Abort, alloc: Global, scenes: &[Scene]) -> Result<(), LoadError> {
     for scene in scenes {
         each_fault(rt, alloc, scene)?;
     }
@@ -375,5 +436,6 @@ fn each_scene_fails(rt: &impl Abort, alloc: Global, scenes: &[Scene]) -> Result<
 fn a_disk_that_fails_at_any_call_ends_the_input_and_keeps_what_was_stored(
     rt: HostRuntime,
 ) -> Result<(), Fail> {
-    each_scene_fails(&rt, rt.alloc(), &SCENES)
+    each_scene_fails(&rt, rt.alloc(), &SCENES)?;
+    Ok(())
 }

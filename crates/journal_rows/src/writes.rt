@@ -1,10 +1,14 @@
 //! An input that is written, and one that is not.
+ghost use Rattle.std.specs.Prelude.{◌≡◌, false, IfOk};
+ghost use Rattle.ban_journal.specs.Places.{IsPlaced};
+ghost use Rattle.slot_writes.specs.Entries.{fits};
 
 use crate::bytes::{LAST, OLD_VERSION, TICK};
-use crate::play::disk;
-use ban_journal::{AppendError, Journal, Loaded};
+use crate::play::{disk, same};
+use ban_journal::{AppendError, Journal, LoadError};
 use f2b_base::{DEFAULT_PURGE, Defs, Input, Seq, View, What};
 use f2b_mem::MemWorld;
+use f2b_world::Disk;
 use std::alloc::Global;
 use std::process::Abort;
 use std::test::Fail;
@@ -35,27 +39,56 @@ fn view(alloc: Global) -> View {
     }
 }
 
+fn journal_of<D: Disk>(alloc: Global, disk: &mut D, limit: u64) -> Result<Journal, LoadError>
+    ensures { IfOk result (λ journal. IsPlaced journal (D.stands disk.new).told) }
+{
+    let loaded = Journal::load(alloc, disk, limit)?;
+    Ok(loaded.journal)
+}
+
+fn turn_over<D: Disk>(
+    alloc: Global,
+    disk: &mut D,
+    journal: Journal,
+    input: &Input,
+) -> Result<Journal, AppendError>
+    requires full { fits journal input.now ≡ false }
+    requires placed { IsPlaced journal (D.stands disk.old).told }
+{
+    journal.turn_over(alloc, disk, &view(alloc), input)
+}
+
+fn put_input<D: Disk>(
+    alloc: Global,
+    disk: &mut D,
+    journal: Journal,
+    input: &Input,
+) -> Result<Journal, AppendError>
+    requires { IsPlaced journal (D.stands disk.old).told }
+{
+    if journal.fits(input) {
+        journal.append(alloc, disk, input)
+    } else {
+        turn_over(alloc, disk, journal, input)
+    }
+}
+
+fn put<D: Disk>(alloc: Global, disk: &mut D, journal: Journal) -> Result<(), AppendError>
+    requires { IsPlaced journal (D.stands disk.old).told }
+{
+    let _after = put_input(alloc, disk, journal, &input())?;
+    Ok(())
+}
+
 /// Loads a journal and writes the input: how many calls loaded it, and what came of the input.
 pub(crate) fn write(
     alloc: Global,
     world: &mut MemWorld,
     limit: u64,
-) -> Result<(u64, Result<(), AppendError>), Fail> {
-    let Ok(loaded) = Journal::load(alloc, world, limit) else {
-        return Err("not loaded".into());
-    };
-    let Loaded { journal, .. } = loaded;
+) -> Result<(u64, Result<(), AppendError>), LoadError> {
+    let journal = journal_of(alloc, world, limit)?;
     let begin = world.events().len() as u64;
-    let input = input();
-    let written = if journal.fits(&input) {
-        journal.append(alloc, world, &input)
-    } else {
-        journal.turn_over(alloc, world, &view(alloc), &input)
-    };
-    match written {
-        Ok(_) => Ok((begin, Ok(()))),
-        Err(error) => Ok((begin, Err(error))),
-    }
+    Ok((begin, put(alloc, world, journal)))
 }
 
 // A slot 0, the limit of a slot, and why the input is not written.
@@ -88,27 +121,38 @@ const REFUSED: [(&[u8], u64, AppendError); 5] = [
     (&LAST, 30, AppendError::Spent),
 ];
 
+// The input is not written for that cause, and no call is made but those that load.
+fn refuses(
+    rt: &impl Abort,
+    alloc: Global,
+    world: &mut MemWorld,
+    limit: u64,
+    want: AppendError,
+) -> Result<(), LoadError> {
+    let (begin, written) = write(alloc, world, limit)?;
+    same(rt, &limit, &written, &Err(want));
+    same(rt, &limit, &(world.events().len() as u64), &begin);
+    Ok(())
+}
+
 fn is_refused(
     rt: &impl Abort,
     alloc: Global,
     slot0: &[u8],
     limit: u64,
     want: AppendError,
-) -> Result<(), Fail> {
+) -> Result<(), LoadError> {
     let mut world = disk(alloc, slot0, &[], &[])?;
-    let (begin, written) = write(alloc, &mut world, limit)?;
-    assert_eq!(rt; written, Err(want), "{slot0:?}, {limit}");
-    assert_eq!(rt; world.events().len() as u64, begin, "{slot0:?}, {limit}");
-    Ok(())
+    refuses(rt, alloc, &mut world, limit, want)
 }
 
 fn are_refused(
     rt: &impl Abort,
     alloc: Global,
     rows: &[(&[u8], u64, AppendError)],
-) -> Result<(), Fail> {
-    for &(slot0, limit, want) in rows {
-        is_refused(rt, alloc, slot0, limit, want)?;
+) -> Result<(), LoadError> {
+    for (slot0, limit, want) in rows {
+        is_refused(rt, alloc, slot0, *limit, *want)?;
     }
     Ok(())
 }
@@ -117,5 +161,6 @@ fn are_refused(
 fn an_input_without_room_or_a_generation_is_refused_before_any_call(
     rt: HostRuntime,
 ) -> Result<(), Fail> {
-    are_refused(&rt, rt.alloc(), &REFUSED)
+    are_refused(&rt, rt.alloc(), &REFUSED)?;
+    Ok(())
 }
