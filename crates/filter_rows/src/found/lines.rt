@@ -91,30 +91,41 @@ fn are_found(
     searcher: &mut Searcher<'_>,
     ignore: &IgnoreSet,
     rows: &[(&str, Finding)],
-) -> Result<(), Fail> {
+) -> Result<(), NoMemory> {
     for (line, finding) in rows {
-        assert_eq!(rt; searcher.found(ignore, line, NOW, 600)?, *finding, "{line}");
+        same(rt, line, &searcher.found(ignore, line, NOW, 600)?, finding);
     }
     Ok(())
 }
 
-/// The same, of a searcher of a jail and the masks of hosts that are never banned.
-fn jail_finds(
+/// The same, of a filter and the masks of hosts that are never banned.
+fn filter_finds(
     rt: &impl Abort,
     alloc: Global,
-    parts: Parts<'_>,
+    filter: &Filter,
     masks: &str,
     rows: &[(&str, Finding)],
-) -> Result<(), Fail> {
-    let filter = filter(alloc, parts)?;
+) -> Result<(), NoMemory> {
+    let ignore = ignoring(rt, alloc, masks)?;
     let mut searcher = filter.searcher(alloc)?;
-    let ignore = ignoring(alloc, masks)?;
     are_found(rt, &mut searcher, &ignore, rows)
 }
 
+/// The same, of the filter of a jail.
+fn jail_finds(
+    rt: &impl Abort,
+    alloc: Global,
+    parts: &Parts<'_>,
+    masks: &str,
+    rows: &[(&str, Finding)],
+) -> Result<(), NoMemory> {
+    let filter = filter(rt, alloc, parts)?;
+    filter_finds(rt, alloc, &filter, masks, rows)
+}
+
 #[test]
-fn lines_of_sshd(rt: HostRuntime) -> Result<(), Fail> {
-    jail_finds(&rt, rt.alloc(), SSHD, "10.0.0.0/8\n::1", &LINES_OF_SSHD)
+fn lines_of_sshd(rt: HostRuntime) -> Result<(), NoMemory> {
+    jail_finds(&rt, rt.alloc(), &SSHD, "10.0.0.0/8\n::1", &LINES_OF_SSHD)
 }
 
 const LINE: &str = "1700000100 fail from 192.0.2.7";
@@ -177,43 +188,53 @@ const TIMES: [(&str, u64, u64, Finding); 8] = [
     (EARLY, 600, 600, Finding::TooOld(1)),
 ];
 
+fn found_then(
+    rt: &impl Abort,
+    searcher: &mut Searcher<'_>,
+    ignore: &IgnoreSet,
+    line: &str,
+    now: u64,
+    findtime: u64,
+) -> Result<Finding, NoMemory> {
+    is_so(rt, line, now <= LAST_MOMENT);
+    searcher.found(ignore, line, now, findtime)
+}
+
 /// Rows of a line, now, a findtime, and what a searcher finds in the line.
 fn are_found_then(
     rt: &impl Abort,
     searcher: &mut Searcher<'_>,
     ignore: &IgnoreSet,
     rows: &[(&str, u64, u64, Finding)],
-) -> Result<(), Fail> {
+) -> Result<(), NoMemory> {
     for (line, now, findtime, finding) in rows {
-        assert!(rt; *now <= LAST_MOMENT);
-        assert_eq!(rt;
-            searcher.found(ignore, line, *now, *findtime)?,
-            *finding,
-            "{line} at {now}"
-        );
+        let found = found_then(rt, searcher, ignore, line, *now, *findtime)?;
+        same(rt, &(line, now), &found, finding);
     }
     Ok(())
 }
 
-/// The same, of a jail with one pattern.
+/// The same, of a filter.
 fn times_are(
     rt: &impl Abort,
     alloc: Global,
+    filter: &Filter,
     rows: &[(&str, u64, u64, Finding)],
-) -> Result<(), Fail> {
-    let parts = Parts {
-        fail: "^ fail from <IP4>$",
-        ..NONE
-    };
-    let filter = filter(alloc, parts)?;
+) -> Result<(), NoMemory> {
+    let none = ignoring(rt, alloc, "")?;
     let mut searcher = filter.searcher(alloc)?;
-    let none = ignoring(alloc, "")?;
     are_found_then(rt, &mut searcher, &none, rows)
 }
 
+const FROM_IPV4: Parts<'static> = Parts {
+    fail: "^ fail from <IP4>$",
+    ..NONE
+};
+
 #[test]
-fn times(rt: HostRuntime) -> Result<(), Fail> {
-    times_are(&rt, rt.alloc(), &TIMES)
+fn times(rt: HostRuntime) -> Result<(), NoMemory> {
+    let filter = filter(&rt, rt.alloc(), &FROM_IPV4)?;
+    times_are(&rt, rt.alloc(), &filter, &TIMES)
 }
 
 const IGNORED_ADDRESSES: [(&str, Finding); 6] = [
@@ -258,30 +279,12 @@ const FROM_A_HOST: Parts<'static> = Parts {
 };
 
 #[test]
-fn ignored_addresses(rt: HostRuntime) -> Result<(), Fail> {
-    let alloc = rt.alloc();
-    jail_finds(&rt, alloc, FROM_A_HOST, "10.0.0.0/8", &IGNORED_ADDRESSES)?;
-    jail_finds(
-        &rt,
-        alloc,
-        FROM_A_HOST,
-        "11.0.0.0/8",
-        &IGNORED_BY_ANOTHER_LIST,
-    )
-}
-
-fn found(alloc: Global, pref: &str, line: &str) -> Result<Finding, Fail> {
-    let filter = filter(
-        alloc,
-        Parts {
-            dated: Dated::NoDate,
-            pref,
-            fail: "^from <HOST>$",
-            ..NONE
-        },
-    )?;
-    let none = ignoring(alloc, "")?;
-    Ok(filter.found(alloc, &none, line, NOW, 600)?)
+fn ignored_addresses(rt: HostRuntime) -> Result<(), NoMemory> {
+    let filter = filter(&rt, rt.alloc(), &FROM_A_HOST)?;
+    let of_ten = &IGNORED_ADDRESSES;
+    filter_finds(&rt, rt.alloc(), &filter, "10.0.0.0/8", of_ten)?;
+    let of_eleven = &IGNORED_BY_ANOTHER_LIST;
+    filter_finds(&rt, rt.alloc(), &filter, "11.0.0.0/8", of_eleven)
 }
 
 const PREFIXES: [(&str, &str, Finding); 4] = [
@@ -317,19 +320,37 @@ const PREFIXES: [(&str, &str, Finding); 4] = [
     ),
 ];
 
+fn is_found_behind(
+    rt: &impl Abort,
+    alloc: Global,
+    pref: &str,
+    line: &str,
+    finding: &Finding,
+) -> Result<(), NoMemory> {
+    let parts = Parts {
+        dated: Dated::NoDate,
+        pref,
+        fail: "^from <HOST>$",
+        ..NONE
+    };
+    let found = found_in(rt, alloc, &parts, line, NOW, 600)?;
+    same(rt, &(pref, line), &found, finding);
+    Ok(())
+}
+
 /// Rows of a pattern that comes first, a line, and what is found.
 fn are_found_behind(
     rt: &impl Abort,
     alloc: Global,
     rows: &[(&str, &str, Finding)],
-) -> Result<(), Fail> {
+) -> Result<(), NoMemory> {
     for (pref, line, finding) in rows {
-        assert_eq!(rt; found(alloc, pref, line)?, *finding, "{pref} at {line}");
+        is_found_behind(rt, alloc, pref, line, finding)?;
     }
     Ok(())
 }
 
 #[test]
-fn prefixes(rt: HostRuntime) -> Result<(), Fail> {
+fn prefixes(rt: HostRuntime) -> Result<(), NoMemory> {
     are_found_behind(&rt, rt.alloc(), &PREFIXES)
 }
