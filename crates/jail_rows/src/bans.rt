@@ -7,7 +7,6 @@ use ban_table::{BanLists, BanTable};
 use f2b_base::{Addr, Ban, LAST_MOMENT, NoMemory, Past, Seq, Until};
 use std::alloc::Global;
 use std::process::Abort;
-use std::test::Fail;
 
 /// A table in which these bans began one after the other, with serials from 0 on. Who is banned is passed over.
 fn table_of(alloc: Global, bans: &[(Addr, Until)]) -> Result<BanTable, NoMemory> {
@@ -93,7 +92,7 @@ fn are_ended(
     alloc: Global,
     table: &mut BanTable,
     rows: &[(u64, &[u64])],
-) -> Result<(), Fail> {
+) -> Result<(), NoMemory> {
     for &(now, serials) in rows {
         let ended = ended_at(alloc, table, now.min(LAST_MOMENT))?;
         same(rt, now, ended.as_slice(), serials);
@@ -122,7 +121,7 @@ fn have_ended(
     table: &BanTable,
     at: u64,
     want: &[u64],
-) -> Result<(), Fail> {
+) -> Result<(), NoMemory> {
     let ends = past_ends(alloc, table)?;
     same(rt, at, ends.as_slice(), want);
     Ok(())
@@ -158,15 +157,18 @@ const ENDED: [(u64, &[u64]); 6] = [
 
 const LEFT: [(Addr, bool); 2] = [(Addr::V4(3), true), (Addr::V4(2), false)];
 
-#[test]
-fn bans_end_by_end_and_then_by_serial(rt: HostRuntime) -> Result<(), Fail> {
-    let mut table = table_of(rt.alloc(), &FIVE_BANS)?;
-    are_ended(&rt, rt.alloc(), &mut table, &ENDED)?;
-    have_ended(&rt, rt.alloc(), &table, LAST_MOMENT, &[10, 10, 25, 40])?;
-    same(&rt, "active", active_count(&table)?, 1);
-    are_banned(&rt, &table, &LEFT);
-    same(&rt, "ended", table.end(Addr::V4(2), 50), None);
+fn end_in_order(rt: &impl Abort, alloc: Global, table: &mut BanTable) -> Result<(), NoMemory> {
+    are_ended(rt, alloc, table, &ENDED)?;
+    have_ended(rt, alloc, table, LAST_MOMENT, &[10, 10, 25, 40])?;
+    same(rt, "active", active_count(table)?, 1);
+    are_banned(rt, table, &LEFT);
+    same(rt, "ended", table.end(Addr::V4(2), 50), None);
     Ok(())
+}
+
+#[test]
+fn bans_end_by_end_and_then_by_serial(rt: HostRuntime) -> Result<(), NoMemory> {
+    end_in_order(&rt, rt.alloc(), &mut table_of(rt.alloc(), &FIVE_BANS)?)
 }
 
 /// How many past bans the first two addresses have.
@@ -180,7 +182,7 @@ fn are_counted(
     alloc: Global,
     table: &mut BanTable,
     rows: &[(u64, u32, u32, u64)],
-) -> Result<(), Fail> {
+) -> Result<(), NoMemory> {
     for &(now, first, second, limit) in rows {
         let _ = ended_at(alloc, table, now.min(LAST_MOMENT))?;
         table.purge(limit);
@@ -199,7 +201,7 @@ const PURGED: [(u64, u32, u32, u64); 4] = [
 ];
 
 #[test]
-fn past_entries_count_until_they_are_purged(rt: HostRuntime) -> Result<(), Fail> {
+fn past_entries_count_until_they_are_purged(rt: HostRuntime) -> Result<(), NoMemory> {
     let mut table = table_of(rt.alloc(), &TWO_BANS)?;
     are_counted(&rt, rt.alloc(), &mut table, &PURGED)
 }
@@ -267,7 +269,7 @@ fn ban_count(table: &BanTable) -> Result<usize, NoMemory> {
 }
 
 #[test]
-fn each_address_has_its_own_past_bans(rt: HostRuntime) -> Result<(), Fail> {
+fn each_address_has_its_own_past_bans(rt: HostRuntime) -> Result<(), NoMemory> {
     let mut table = table_of_all(rt.alloc())?;
     are_left_each(&rt, &mut table, &GONE);
     same(&rt, "bans", ban_count(&table)?, 67);
@@ -302,7 +304,7 @@ fn are_purged(
     alloc: Global,
     table: &mut BanTable,
     rows: &[(u64, &[u64], [u32; 3])],
-) -> Result<(), Fail> {
+) -> Result<(), NoMemory> {
     for &(limit, left, counts) in rows {
         table.purge(limit);
         have_ended(rt, alloc, table, limit, left)?;
@@ -322,38 +324,40 @@ const UNORDERED_PURGED: [(u64, &[u64], [u32; 3]); 5] = [
 ];
 
 #[test]
-fn entries_in_another_order_are_purged_too(rt: HostRuntime) -> Result<(), Fail> {
+fn entries_in_another_order_are_purged_too(rt: HostRuntime) -> Result<(), NoMemory> {
     let mut table = table_of_past(rt.alloc(), &UNORDERED)?;
     are_purged(&rt, rt.alloc(), &mut table, &UNORDERED_PURGED)
 }
 
-/// The lists of two active bans and a past one, and a table of them.
-fn table_of_lists(alloc: Global) -> Result<(BanLists, BanTable), NoMemory> {
-    let mut active = Seq::new(alloc);
-    active.push(Ban {
+const TWO_ACTIVE: [Ban; 2] = [
+    Ban {
         serial: 3,
         addr: Addr::V4(1),
         begin: 0,
         until: Until::At(20),
         count: 0,
         failures: 5,
-    })?;
-    active.push(Ban {
+    },
+    Ban {
         serial: 7,
         addr: Addr::V4(2),
         begin: 6,
         until: Until::At(10),
         count: 1,
         failures: 0,
-    })?;
-    let mut past = Seq::new(alloc);
-    past.push(Past {
-        addr: Addr::V4(2),
-        end: 4,
-    })?;
-    let lists = BanLists { active, past };
-    let table = BanTable::of(alloc, &lists)?;
-    Ok((lists, table))
+    },
+];
+
+const ONE_PAST: [Past; 1] = [Past {
+    addr: Addr::V4(2),
+    end: 4,
+}];
+
+/// The lists of two active bans and a past one.
+fn two_lists(alloc: Global) -> Result<BanLists, NoMemory> {
+    let active = Seq::from(TWO_ACTIVE.to_vec(alloc)?);
+    let past = Seq::from(ONE_PAST.to_vec(alloc)?);
+    Ok(BanLists { active, past })
 }
 
 const ASKED: [Addr; 4] = [Addr::V4(2), Addr::V6(1), Addr::V4(1), Addr::V4(2)];
@@ -364,20 +368,27 @@ fn has_lists(rt: &impl Abort, table: &BanTable, want: &BanLists) -> Result<(), N
     Ok(())
 }
 
-fn has_bans(rt: &impl Abort, table: &BanTable, want: &Seq<Ban>) -> Result<(), NoMemory> {
-    let bans = table.bans()?;
-    same(rt, "bans", &bans, want);
+fn has_asked(rt: &impl Abort, table: &BanTable, want: &Seq<Ban>) -> Result<(), NoMemory> {
     let asked = table.bans_of(&ASKED)?;
     same(rt, "asked", &asked, want);
     Ok(())
 }
 
+fn has_bans(rt: &impl Abort, table: &BanTable, want: &Seq<Ban>) -> Result<(), NoMemory> {
+    let bans = table.bans()?;
+    same(rt, "bans", &bans, want);
+    has_asked(rt, table, want)
+}
+
+fn stand(rt: &impl Abort, lists: &BanLists, table: &BanTable) -> Result<(), NoMemory> {
+    has_lists(rt, table, lists)?;
+    has_bans(rt, table, &lists.active)
+}
+
 #[test]
-fn a_table_of_lists_stands_as_they_do(rt: HostRuntime) -> Result<(), Fail> {
-    let (lists, table) = table_of_lists(rt.alloc())?;
-    has_lists(&rt, &table, &lists)?;
-    has_bans(&rt, &table, &lists.active)?;
-    Ok(())
+fn a_table_of_lists_stands_as_they_do(rt: HostRuntime) -> Result<(), NoMemory> {
+    let lists = two_lists(rt.alloc())?;
+    stand(&rt, &lists, &BanTable::of(rt.alloc(), &lists)?)
 }
 
 /// The serial of the first ban from a serial on.
@@ -409,7 +420,7 @@ const FOUND: [(u64, Option<u64>); 5] = [
 ];
 
 #[test]
-fn active_bans_are_found_from_a_serial_on(rt: HostRuntime) -> Result<(), Fail> {
+fn active_bans_are_found_from_a_serial_on(rt: HostRuntime) -> Result<(), NoMemory> {
     let mut table = table_of(rt.alloc(), &FOUR_BANS)?;
     let _ = table.end(Addr::V4(2), 10);
     are_found(&rt, &table, &FOUND);
@@ -443,7 +454,7 @@ fn table_of_million(alloc: Global) -> Result<BanTable, NoMemory> {
 }
 
 #[test]
-fn a_million_bans_end_in_order(rt: HostRuntime) -> Result<(), Fail> {
+fn a_million_bans_end_in_order(rt: HostRuntime) -> Result<(), NoMemory> {
     let mut table = table_of_million(rt.alloc())?;
     million_ends(&rt, rt.alloc(), &mut table)?;
     same(&rt, "past", past_count(&table)?, 1_000_000);
