@@ -329,35 +329,33 @@ fn entries_in_another_order_are_purged_too(rt: HostRuntime) -> Result<(), NoMemo
     are_purged(&rt, rt.alloc(), &mut table, &UNORDERED_PURGED)
 }
 
-const TWO_ACTIVE: [Ban; 2] = [
-    Ban {
+/// The lists of two active bans and a past one, and a table of them.
+fn table_of_lists(alloc: Global) -> Result<(BanLists, BanTable), NoMemory> {
+    let mut active = Seq::new(alloc);
+    active.push(Ban {
         serial: 3,
         addr: Addr::V4(1),
         begin: 0,
         until: Until::At(20),
         count: 0,
         failures: 5,
-    },
-    Ban {
+    })?;
+    active.push(Ban {
         serial: 7,
         addr: Addr::V4(2),
         begin: 6,
         until: Until::At(10),
         count: 1,
         failures: 0,
-    },
-];
-
-const ONE_PAST: [Past; 1] = [Past {
-    addr: Addr::V4(2),
-    end: 4,
-}];
-
-/// The lists of two active bans and a past one.
-fn two_lists(alloc: Global) -> Result<BanLists, NoMemory> {
-    let active = Seq::from(TWO_ACTIVE.to_vec(alloc)?);
-    let past = Seq::from(ONE_PAST.to_vec(alloc)?);
-    Ok(BanLists { active, past })
+    })?;
+    let mut past = Seq::new(alloc);
+    past.push(Past {
+        addr: Addr::V4(2),
+        end: 4,
+    })?;
+    let lists = BanLists { active, past };
+    let table = BanTable::of(alloc, &lists)?;
+    Ok((lists, table))
 }
 
 const ASKED: [Addr; 4] = [Addr::V4(2), Addr::V6(1), Addr::V4(1), Addr::V4(2)];
@@ -387,8 +385,8 @@ fn stand(rt: &impl Abort, lists: &BanLists, table: &BanTable) -> Result<(), NoMe
 
 #[test]
 fn a_table_of_lists_stands_as_they_do(rt: HostRuntime) -> Result<(), NoMemory> {
-    let lists = two_lists(rt.alloc())?;
-    stand(&rt, &lists, &BanTable::of(rt.alloc(), &lists)?)
+    let (lists, table) = table_of_lists(rt.alloc())?;
+    stand(&rt, &lists, &table)
 }
 
 /// The serial of the first ban from a serial on.
