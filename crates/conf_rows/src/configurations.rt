@@ -65,12 +65,12 @@ fn counts(jail: &JailDef) -> (usize, usize, usize) {
 }
 
 fn is_as_worked(rt: &impl Abort, jail: &JailDef) {
-    same(rt, &"name", &jail.name.as_str(), &"sshd");
-    same(rt, &"pref", &jail.pref.is_some(), &true);
-    same(rt, &"counts", &counts(jail), &(3, 0, 4));
-    same(rt, &"findtime", &jail.findtime, &600);
-    same(rt, &"most", &most(jail), &(3, 3));
-    same(rt, &"base", &jail.rule.base, &600);
+    same(rt, "name", jail.name.as_str(), "sshd");
+    same(rt, "pref", jail.pref.is_some(), true);
+    same(rt, "counts", counts(jail), (3, 0, 4));
+    same(rt, "findtime", jail.findtime, 600);
+    same(rt, "most", most(jail), (3, 3));
+    same(rt, "base", jail.rule.base, 600);
 }
 
 fn first_path(watches: &[WatchDef]) -> Option<&str> {
@@ -79,26 +79,26 @@ fn first_path(watches: &[WatchDef]) -> Option<&str> {
 }
 
 fn log_is_as_worked(rt: &impl Abort, watches: &[WatchDef]) {
-    same(rt, &"logs", &watches.len(), &1);
-    same(rt, &"log", &first_path(watches), &Some("/var/log/auth.log"));
+    same(rt, "logs", watches.len(), 1);
+    same(rt, "log", first_path(watches), Some("/var/log/auth.log"));
 }
 
 fn is_worked(rt: &impl Abort, action: &ActionDef) {
-    same(rt, &"start", &action.start.as_str(), &"echo start sshd");
+    same(rt, "start", action.start.as_str(), "echo start sshd");
     let ban = "echo ban <ip> ssh <failures> <bantime>";
-    same(rt, &"ban", &action.ban.as_str(), &ban);
-    same(rt, &"timeout", &action.timeout, &60);
+    same(rt, "ban", action.ban.as_str(), ban);
+    same(rt, "timeout", action.timeout, 60);
 }
 
 fn action_is_as_worked(rt: &impl Abort, actions: &[ActionDef]) {
-    same(rt, &"actions", &actions.len(), &1);
+    same(rt, "actions", actions.len(), 1);
     for action in actions {
         is_worked(rt, action);
     }
 }
 
 fn jails_are_as_worked(rt: &impl Abort, jails: &[JailDef]) {
-    same(rt, &"jails", &jails.len(), &1);
+    same(rt, "jails", jails.len(), 1);
     for jail in jails {
         is_as_worked(rt, jail);
         log_is_as_worked(rt, jail.watches.as_slice());
@@ -108,15 +108,15 @@ fn jails_are_as_worked(rt: &impl Abort, jails: &[JailDef]) {
 
 fn settings_are_as_worked(rt: &impl Abort, settings: &Settings) {
     let socket = "/var/run/fail2ban/fail2ban.sock";
-    same(rt, &"socket", &settings.socket.as_str(), &socket);
-    same(rt, &"purge", &settings.defs.purge, &86_400);
+    same(rt, "socket", settings.socket.as_str(), socket);
+    same(rt, "purge", settings.defs.purge, 86_400);
     jails_are_as_worked(rt, settings.defs.jails.as_slice());
 }
 
 fn is_read_as_worked(rt: &impl Abort, told: &Told) {
     match told {
         Ok(settings) => settings_are_as_worked(rt, settings),
-        Err(_) => same(rt, &"told", &"refused", &"read"),
+        Err(_) => same(rt, "told", "refused", "read"),
     }
 }
 
@@ -135,31 +135,16 @@ const LINES: (&str, &str) = ("filter.d/f.conf", "[Definition]\nmaxlines = 2\n");
 
 const PREFIX: (&str, &str) = ("filter.d/p.conf", "[Definition]\nprefregex = <HOST>\n");
 
-/// An enabled jail with these items.
-fn jail_of(alloc: Global, items: &str) -> Result<String, NoMemory> {
-    Ok(format!(in alloc; "[j]\nenabled = on\n{items}\n")?)
-}
-
-/// That is told of an enabled jail with these items.
-fn is_told_of_jail(
-    rt: &impl Abort,
-    alloc: Global,
-    items: &str,
-    want: &str,
-) -> Result<(), NoMemory> {
-    let jail = jail_of(alloc, items)?;
-    let files = [BAN, NEVER, LINES, PREFIX, ("jail.conf", jail.as_str())];
-    is_told(rt, alloc, &items, &files, want)
-}
-
-/// Rows of a jail's items, and what is told of it.
+/// Rows of the items of an enabled jail, and what is told of it.
 fn are_told_of_jails(
     rt: &impl Abort,
     alloc: Global,
     rows: &[(&str, &str)],
 ) -> Result<(), NoMemory> {
-    for (items, want) in rows {
-        is_told_of_jail(rt, alloc, items, want)?;
+    for &(items, want) in rows {
+        let jail = format!(in alloc; "[j]\nenabled = on\n{items}\n")?;
+        let files = [BAN, NEVER, LINES, PREFIX, ("jail.conf", jail.as_str())];
+        is_told(rt, alloc, items, &files, want)?;
     }
     Ok(())
 }
@@ -214,7 +199,7 @@ fn are_told_of_two(
 ) -> Result<(), NoMemory> {
     for &(server, jails, want) in rows {
         let files = [("fail2ban.conf", server), ("jail.conf", jails)];
-        is_told(rt, alloc, &jails, &files, want)?;
+        is_told(rt, alloc, jails, &files, want)?;
     }
     Ok(())
 }

@@ -2,12 +2,12 @@
 
 use crate::trees::{is_told, read_bytes, tells};
 use f2b_base::NoMemory;
-use std::alloc::Global;
+use std::alloc::{AllocError, Global};
 use std::process::Abort;
 
 /// That is told of a configuration that is this `jail.conf`.
 fn is_told_of(rt: &impl Abort, alloc: Global, jail: &str, want: &str) -> Result<(), NoMemory> {
-    is_told(rt, alloc, &jail, &[("jail.conf", jail)], want)
+    is_told(rt, alloc, jail, &[("jail.conf", jail)], want)
 }
 
 /// Rows of a `jail.conf`, and what is told of it.
@@ -46,17 +46,10 @@ fn tells_faults_of_files(rt: HostRuntime) -> Result<(), NoMemory> {
     are_told(&rt, rt.alloc(), &FAULTS)
 }
 
-/// Writes an item that refers to the next one.
-fn write_item(alloc: Global, jail: &mut String, place: u32, next: u32) -> Result<(), NoMemory> {
-    let item = format!(in alloc; "x{place} = %(x{next})s\n")?;
-    jail.push_str(item.as_str())?;
-    Ok(())
-}
-
-/// Writes the last item, to which no other one is next.
-fn write_last(alloc: Global, jail: &mut String, depth: u32) -> Result<(), NoMemory> {
-    let item = format!(in alloc; "x{depth} = on\n")?;
-    jail.push_str(item.as_str())?;
+/// Writes a line.
+fn write(all: &mut String, line: Result<String, AllocError>) -> Result<(), NoMemory> {
+    let line = line?;
+    all.push_str(line.as_str())?;
     Ok(())
 }
 
@@ -64,9 +57,10 @@ fn write_last(alloc: Global, jail: &mut String, depth: u32) -> Result<(), NoMemo
 fn deep_jail(alloc: Global, depth: u32) -> Result<String, NoMemory> {
     let mut jail = String::from_str(alloc, "[j]\nenabled = %(x1)s\n")?;
     for place in 1..depth {
-        write_item(alloc, &mut jail, place, place + 1)?;
+        let next = place + 1;
+        write(&mut jail, format!(in alloc; "x{place} = %(x{next})s\n"))?;
     }
-    write_last(alloc, &mut jail, depth)?;
+    write(&mut jail, format!(in alloc; "x{depth} = on\n"))?;
     Ok(jail)
 }
 
@@ -87,18 +81,11 @@ fn refers_ten_deep(rt: HostRuntime) -> Result<(), NoMemory> {
     is_told_of_depth(&rt, rt.alloc(), 11, want)
 }
 
-/// Writes the head of a jail.
-fn write_head(alloc: Global, jails: &mut String, number: u32) -> Result<(), NoMemory> {
-    let jail = format!(in alloc; "[j{number}]\n")?;
-    jails.push_str(jail.as_str())?;
-    Ok(())
-}
-
 /// The jails `j1` to `j256` are on, and `off` is not.
 fn full_of_jails(alloc: Global) -> Result<String, NoMemory> {
     let mut jails = String::from_str(alloc, "[DEFAULT]\nenabled = on\n[off]\nenabled = off\n")?;
     for number in 1..257_u32 {
-        write_head(alloc, &mut jails, number)?;
+        write(&mut jails, format!(in alloc; "[j{number}]\n"))?;
     }
     Ok(jails)
 }
@@ -124,7 +111,7 @@ fn is_full(
     is_told(
         rt,
         alloc,
-        &more,
+        more,
         &[("jail.conf", full), ("jail.local", more)],
         want,
     )
@@ -145,19 +132,6 @@ fn takes_512_patterns(rt: HostRuntime) -> Result<(), NoMemory> {
     is_full(&rt, rt.alloc(), jail.as_str(), more, want)
 }
 
-/// Writes a line of an item: this text, a number, and what stands behind it.
-fn write_line(
-    alloc: Global,
-    jail: &mut String,
-    line: &str,
-    number: u32,
-    end: &str,
-) -> Result<(), NoMemory> {
-    let listed = format!(in alloc; " {line}{number}{end}\n")?;
-    jail.push_str(listed.as_str())?;
-    Ok(())
-}
-
 /// A jail with an item of so many lines, each this text and its number.
 fn jail_of_lines(
     alloc: Global,
@@ -168,7 +142,7 @@ fn jail_of_lines(
 ) -> Result<String, NoMemory> {
     let mut jail = format!(in alloc; "[j]\nenabled = on\n{item} =\n")?;
     for number in 0..count {
-        write_line(alloc, &mut jail, line, number, end)?;
+        write(&mut jail, format!(in alloc; " {line}{number}{end}\n"))?;
     }
     Ok(jail)
 }
@@ -196,7 +170,7 @@ fn is_told_of_actions(
     is_told(
         rt,
         alloc,
-        &count,
+        count,
         &[ACTION, ("jail.conf", jail.as_str())],
         want,
     )
@@ -217,7 +191,7 @@ fn is_told_of_bytes(
     want: &str,
 ) -> Result<(), NoMemory> {
     let told = read_bytes(alloc, path, bytes);
-    tells(rt, alloc, &bytes, &told, want)
+    tells(rt, alloc, bytes, &told, want)
 }
 
 #[test]

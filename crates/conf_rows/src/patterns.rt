@@ -1,7 +1,7 @@
 //! Patterns, with what they are read as.
 
 use crate::rows::same;
-use crate::trees::{Told, are_told_with, is_told, is_told_with, jail_in, read, read_with, tells};
+use crate::trees::{Told, are_told, are_told_with, is_told, jail_in, read, read_with, tells};
 use f2b_base::NoMemory;
 use std::alloc::Global;
 use std::process::Abort;
@@ -23,22 +23,22 @@ fn counts(told: &Told) -> Option<(usize, usize)> {
 }
 
 /// One pattern of failures is read from this text.
-fn is_pattern(rt: &impl Abort, alloc: Global, text: &str) -> Result<(), NoMemory> {
+fn is_pattern(rt: &impl Abort, alloc: Global, text: &str) {
     let told = read_with(alloc, "failregex", text);
-    same(rt, &text, &counts(&told), &Some((1, 0)));
-    Ok(())
+    same(rt, text, counts(&told), Some((1, 0)));
 }
 
 fn is_longest(rt: &impl Abort, alloc: Global) -> Result<(), NoMemory> {
     let text = repeated(alloc, "a", 8_186, "<HOST>")?;
-    same(rt, &"longest", &text.as_str().len(), &8_192);
-    is_pattern(rt, alloc, text.as_str())
+    same(rt, "longest", text.as_str().len(), 8_192);
+    is_pattern(rt, alloc, text.as_str());
+    Ok(())
 }
 
 fn is_longer(rt: &impl Abort, alloc: Global) -> Result<(), NoMemory> {
     let text = repeated(alloc, "a", 8_187, "<HOST>")?;
     let want = "jail.conf|j|failregex|TooMany";
-    is_told_with(rt, alloc, "failregex", text.as_str(), want)
+    are_told_with(rt, alloc, "failregex", &[text.as_str()], want)
 }
 
 #[test]
@@ -67,7 +67,7 @@ fn are_counted(
     want: (usize, usize),
 ) -> Result<(), NoMemory> {
     let told = read_lines(alloc, fail, ignore);
-    same(rt, &(fail.len(), ignore.len()), &counts(&told), &Some(want));
+    same(rt, (fail.len(), ignore.len()), counts(&told), Some(want));
     Ok(())
 }
 
@@ -75,7 +75,7 @@ fn are_counted(
 fn are_too_many(rt: &impl Abort, alloc: Global, fail: &str, ignore: &str) -> Result<(), NoMemory> {
     let told = read_lines(alloc, fail, ignore);
     let at = (fail.len(), ignore.len());
-    tells(rt, alloc, &at, &told, "jail.conf|j|ignoreregex|TooMany")
+    tells(rt, alloc, at, &told, "jail.conf|j|ignoreregex|TooMany")
 }
 
 const HOST_LINE: &str = " <HOST>\n";
@@ -126,31 +126,30 @@ const BAD_TAGS: [&str; 9] = [
     "<F-CONTENT>",
 ];
 
-/// Rows of a text and what is told of a jail with it as its pattern of failures.
-fn are_refused_for_hosts(
-    rt: &impl Abort,
-    alloc: Global,
-    rows: &[(&str, &str)],
-) -> Result<(), NoMemory> {
-    for (text, want) in rows {
-        is_told_with(rt, alloc, "failregex", text, want)?;
-    }
-    Ok(())
-}
-
-const BAD_HOSTS: [(&str, &str); 5] = [
-    ("a", "jail.conf|j|failregex|NoHost"),
-    ("a<SKIPLINES>", "jail.conf|j|failregex|NoHost"),
-    ("<HOST> <ADDR> <SUBNET>", "jail.conf|j|failregex|TwoHosts"),
-    ("<HOST> <SUBNET>", "jail.conf|j|failregex|BadTag"),
-    ("<HOST>\n a\n <SUBNET>", "jail.conf|j|failregex|NoHost"),
+const BAD_HOSTS: [(&str, &str, &str); 5] = [
+    ("failregex", "a", "jail.conf|j|failregex|NoHost"),
+    ("failregex", "a<SKIPLINES>", "jail.conf|j|failregex|NoHost"),
+    (
+        "failregex",
+        "<HOST> <ADDR> <SUBNET>",
+        "jail.conf|j|failregex|TwoHosts",
+    ),
+    (
+        "failregex",
+        "<HOST> <SUBNET>",
+        "jail.conf|j|failregex|BadTag",
+    ),
+    (
+        "failregex",
+        "<HOST>\n a\n <SUBNET>",
+        "jail.conf|j|failregex|NoHost",
+    ),
 ];
 
-fn are_patterns(rt: &impl Abort, alloc: Global, texts: &[&str]) -> Result<(), NoMemory> {
+fn are_patterns(rt: &impl Abort, alloc: Global, texts: &[&str]) {
     for text in texts {
-        is_pattern(rt, alloc, text)?;
+        is_pattern(rt, alloc, text);
     }
-    Ok(())
 }
 
 const PATTERNS: [&str; 4] = [
@@ -164,33 +163,23 @@ const PATTERNS: [&str; 4] = [
 fn refuses_patterns(rt: HostRuntime) -> Result<(), NoMemory> {
     let want = "jail.conf|j|ignoreregex|BadTag";
     are_told_with(&rt, rt.alloc(), "ignoreregex", &BAD_TAGS, want)?;
-    are_refused_for_hosts(&rt, rt.alloc(), &BAD_HOSTS)?;
-    are_patterns(&rt, rt.alloc(), &PATTERNS)
-}
-
-/// A filter with this pattern of what a line has to match first.
-fn filter_of(alloc: Global, text: &str) -> Result<String, NoMemory> {
-    Ok(format!(in alloc; "[Definition]\nprefregex = {text}\n")?)
+    are_patterns(&rt, rt.alloc(), &PATTERNS);
+    are_told(&rt, rt.alloc(), &BAD_HOSTS)
 }
 
 const FILTERED: (&str, &str) = ("jail.conf", "[j]\nenabled = on\nfilter = f\n");
 
-/// That is told of a jail with such a filter.
-fn is_prefix(rt: &impl Abort, alloc: Global, text: &str, want: &str) -> Result<(), NoMemory> {
-    let filter = filter_of(alloc, text)?;
-    let files = [("filter.d/f.conf", filter.as_str()), FILTERED];
-    is_told(rt, alloc, &text, &files, want)
-}
-
-/// Texts of which that is told.
+/// Patterns of what a line has to match first, of which that is told.
 fn are_prefixes(
     rt: &impl Abort,
     alloc: Global,
     texts: &[&str],
     want: &str,
 ) -> Result<(), NoMemory> {
-    for text in texts {
-        is_prefix(rt, alloc, text, want)?;
+    for &text in texts {
+        let filter = format!(in alloc; "[Definition]\nprefregex = {text}\n")?;
+        let files = [("filter.d/f.conf", filter.as_str()), FILTERED];
+        is_told(rt, alloc, text, &files, want)?;
     }
     Ok(())
 }

@@ -15,18 +15,12 @@ fn printed(alloc: Global, told: &Told) -> Result<Text, NoMemory> {
     }
 }
 
-/// That is printed of a configuration with this `jail.conf`.
-fn is_printed(rt: &impl Abort, alloc: Global, jail: &str, want: &str) -> Result<(), NoMemory> {
-    let told = read(alloc, &[("jail.conf", jail)]);
-    let text = printed(alloc, &told)?;
-    same(rt, &jail, &text.as_str(), &want);
-    Ok(())
-}
-
 /// Rows of a `jail.conf`, and what is printed of it.
 fn are_printed(rt: &impl Abort, alloc: Global, rows: &[(&str, &str)]) -> Result<(), NoMemory> {
-    for (jail, want) in rows {
-        is_printed(rt, alloc, jail, want)?;
+    for &(jail, want) in rows {
+        let told = read(alloc, &[("jail.conf", jail)]);
+        let text = printed(alloc, &told)?;
+        same(rt, jail, text.as_str(), want);
     }
     Ok(())
 }
@@ -69,7 +63,7 @@ fn prints_a_refusal_with_its_place(rt: HostRuntime) -> Result<(), NoMemory> {
 }
 
 fn helps(rt: &impl Abort, kind: &ConfKind, want: &str) {
-    same(rt, kind, &kind.help(), &want);
+    same(rt, "help", kind.help(), want);
 }
 
 #[test]

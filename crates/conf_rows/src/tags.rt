@@ -76,34 +76,6 @@ fn items(rt: &impl Abort, alloc: Global) -> Result<Sections, NoMemory> {
     Ok(items)
 }
 
-/// A text comes to that.
-fn is_replaced(
-    rt: &impl Abort,
-    alloc: Global,
-    items: &Sections,
-    scope: &Seq<Text>,
-    text: &str,
-    want: &str,
-) -> Result<(), NoMemory> {
-    let answer = substitute(alloc, text, items, scope);
-    let shown = shown(alloc, &answer)?;
-    same(rt, &text, &shown.as_str(), &want);
-    Ok(())
-}
-
-fn are_replaced_in(
-    rt: &impl Abort,
-    alloc: Global,
-    items: &Sections,
-    scope: &Seq<Text>,
-    rows: &[(&str, &str)],
-) -> Result<(), NoMemory> {
-    for (text, want) in rows {
-        is_replaced(rt, alloc, items, scope, text, want)?;
-    }
-    Ok(())
-}
-
 /// Rows of a text and what it comes to.
 fn are_replaced(
     rt: &impl Abort,
@@ -112,7 +84,12 @@ fn are_replaced(
     rows: &[(&str, &str)],
 ) -> Result<(), NoMemory> {
     let scope = texts(alloc, &SCOPE)?;
-    are_replaced_in(rt, alloc, items, &scope, rows)
+    for &(text, want) in rows {
+        let answer = substitute(alloc, text, items, &scope);
+        let shown = shown(alloc, &answer)?;
+        same(rt, text, shown.as_str(), want);
+    }
+    Ok(())
 }
 
 /// The same of the items with options.
@@ -254,13 +231,8 @@ fn replaces_ten_deep(rt: HostRuntime) -> Result<(), NoMemory> {
 }
 
 /// What a ban's tags stand for.
-fn fill_of(
-    alloc: Global,
-    ip: Option<Addr>,
-    family: Family,
-    bantime: i64,
-    matches: &str,
-) -> Result<Fill, NoMemory> {
+fn fill_of(alloc: Global, ban: Ban, matches: &str) -> Result<Fill, NoMemory> {
+    let (ip, family, bantime) = ban;
     Ok(Fill {
         ip,
         family,
@@ -272,46 +244,23 @@ fn fill_of(
     })
 }
 
-/// That is rendered of a template.
-fn is_filled(
-    rt: &impl Abort,
-    alloc: Global,
-    fill: &Fill,
-    template: &str,
-    want: &str,
-) -> Result<(), NoMemory> {
-    let text = render(alloc, template, fill)?;
-    same(rt, &template, &text.as_str(), &want);
-    Ok(())
-}
-
-/// Rows of a template and what is rendered of it.
-fn are_filled(
-    rt: &impl Abort,
-    alloc: Global,
-    fill: &Fill,
-    rows: &[(&str, &str)],
-) -> Result<(), NoMemory> {
-    for (template, want) in rows {
-        is_filled(rt, alloc, fill, template, want)?;
-    }
-    Ok(())
-}
-
 /// A ban, by its address, its family and its seconds.
 type Ban = (Option<Addr>, Family, i64);
 
-/// The same of a ban with these lines.
-fn are_filled_of(
+/// Rows of a template and what is rendered of it for a ban with these lines.
+fn are_filled(
     rt: &impl Abort,
     alloc: Global,
     ban: Ban,
     matches: &str,
     rows: &[(&str, &str)],
 ) -> Result<(), NoMemory> {
-    let (ip, family, bantime) = ban;
-    let fill = fill_of(alloc, ip, family, bantime, matches)?;
-    are_filled(rt, alloc, &fill, rows)
+    let fill = fill_of(alloc, ban, matches)?;
+    for &(template, want) in rows {
+        let text = render(alloc, template, &fill)?;
+        same(rt, template, text.as_str(), want);
+    }
+    Ok(())
 }
 
 const DYNAMIC_TAGS: [(&str, &str); 18] = [
@@ -340,7 +289,7 @@ const OF_IPV4: Ban = (Some(Addr::V4(0xc000_0207)), Family::Inet4, 600);
 #[test]
 fn fills_dynamic_tags_in(rt: HostRuntime) -> Result<(), NoMemory> {
     let safe = escape(rt.alloc(), "a;b $c")?;
-    are_filled_of(&rt, rt.alloc(), OF_IPV4, safe.as_str(), &DYNAMIC_TAGS)
+    are_filled(&rt, rt.alloc(), OF_IPV4, safe.as_str(), &DYNAMIC_TAGS)
 }
 
 const OTHER_BANS: [(&str, &str); 4] = [
@@ -364,21 +313,15 @@ const OF_NONE: Ban = (None, Family::Both, 0);
 
 #[test]
 fn fills_in_other_bans(rt: HostRuntime) -> Result<(), NoMemory> {
-    are_filled_of(&rt, rt.alloc(), OF_IPV6, "<ip>$(x)", &OTHER_BANS)?;
-    are_filled_of(&rt, rt.alloc(), OF_NONE, "", &NO_ADDRESS)
-}
-
-/// That is safe of a text.
-fn is_escaped(rt: &impl Abort, alloc: Global, text: &str, want: &str) -> Result<(), NoMemory> {
-    let safe = escape(alloc, text)?;
-    same(rt, &text, &safe.as_str(), &want);
-    Ok(())
+    are_filled(&rt, rt.alloc(), OF_IPV6, "<ip>$(x)", &OTHER_BANS)?;
+    are_filled(&rt, rt.alloc(), OF_NONE, "", &NO_ADDRESS)
 }
 
 /// Rows of a text and what is safe of it.
 fn are_escaped(rt: &impl Abort, alloc: Global, rows: &[(&str, &str)]) -> Result<(), NoMemory> {
-    for (text, want) in rows {
-        is_escaped(rt, alloc, text, want)?;
+    for &(text, want) in rows {
+        let safe = escape(alloc, text)?;
+        same(rt, text, safe.as_str(), want);
     }
     Ok(())
 }

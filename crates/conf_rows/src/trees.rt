@@ -64,23 +64,23 @@ fn text_of(alloc: Global, told: &Told) -> Result<String, NoMemory> {
 }
 
 /// Fails at this row unless that is told of a configuration.
-pub(crate) fn tells<A: Debug>(
+pub(crate) fn tells<A: Copy + Debug>(
     rt: &impl Abort,
     alloc: Global,
-    at: &A,
+    at: A,
     told: &Told,
     want: &str,
 ) -> Result<(), NoMemory> {
     let text = text_of(alloc, told)?;
-    same(rt, at, &text.as_str(), &want);
+    same(rt, at, text.as_str(), want);
     Ok(())
 }
 
 /// Fails at this row unless that is told of the configuration of these files.
-pub(crate) fn is_told<A: Debug>(
+pub(crate) fn is_told<A: Copy + Debug>(
     rt: &impl Abort,
     alloc: Global,
-    at: &A,
+    at: A,
     files: &[(&str, &str)],
     want: &str,
 ) -> Result<(), NoMemory> {
@@ -110,19 +110,7 @@ pub(crate) fn read_with(alloc: Global, name: &str, text: &str) -> Told {
     read(alloc, &[("jail.conf", jail.as_str())])
 }
 
-/// Fails unless that is told of a jail with this item.
-pub(crate) fn is_told_with(
-    rt: &impl Abort,
-    alloc: Global,
-    name: &str,
-    text: &str,
-    want: &str,
-) -> Result<(), NoMemory> {
-    let told = read_with(alloc, name, text);
-    tells(rt, alloc, &(name, text), &told, want)
-}
-
-/// The same of each of these texts.
+/// Fails unless that is told of a jail with this item, for each of these texts.
 pub(crate) fn are_told_with(
     rt: &impl Abort,
     alloc: Global,
@@ -130,8 +118,22 @@ pub(crate) fn are_told_with(
     texts: &[&str],
     want: &str,
 ) -> Result<(), NoMemory> {
-    for text in texts {
-        is_told_with(rt, alloc, name, text, want)?;
+    for &text in texts {
+        let told = read_with(alloc, name, text);
+        tells(rt, alloc, (name, text), &told, want)?;
+    }
+    Ok(())
+}
+
+/// Rows of an item's name, its text, and what is told of a jail with it.
+pub(crate) fn are_told(
+    rt: &impl Abort,
+    alloc: Global,
+    rows: &[(&str, &str, &str)],
+) -> Result<(), NoMemory> {
+    for &(name, text, want) in rows {
+        let told = read_with(alloc, name, text);
+        tells(rt, alloc, (name, text), &told, want)?;
     }
     Ok(())
 }
