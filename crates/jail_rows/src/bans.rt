@@ -7,6 +7,7 @@ use ban_table::{BanLists, BanTable};
 use f2b_base::{Addr, Ban, LAST_MOMENT, NoMemory, Past, Seq, Until};
 use std::alloc::Global;
 use std::process::Abort;
+use std::test::Fail;
 
 /// A table in which these bans began one after the other, with serials from 0 on. Who is banned is passed over.
 fn table_of(alloc: Global, bans: &[(Addr, Until)]) -> Result<BanTable, NoMemory> {
@@ -92,7 +93,7 @@ fn are_ended(
     alloc: Global,
     table: &mut BanTable,
     rows: &[(u64, &[u64])],
-) -> Result<(), NoMemory> {
+) -> Result<(), Fail> {
     for &(now, serials) in rows {
         let ended = ended_at(alloc, table, now.min(LAST_MOMENT))?;
         same(rt, now, ended.as_slice(), serials);
@@ -121,7 +122,7 @@ fn have_ended(
     table: &BanTable,
     at: u64,
     want: &[u64],
-) -> Result<(), NoMemory> {
+) -> Result<(), Fail> {
     let ends = past_ends(alloc, table)?;
     same(rt, at, ends.as_slice(), want);
     Ok(())
@@ -157,18 +158,15 @@ const ENDED: [(u64, &[u64]); 6] = [
 
 const LEFT: [(Addr, bool); 2] = [(Addr::V4(3), true), (Addr::V4(2), false)];
 
-fn end_in_order(rt: &impl Abort, alloc: Global, table: &mut BanTable) -> Result<(), NoMemory> {
-    are_ended(rt, alloc, table, &ENDED)?;
-    have_ended(rt, alloc, table, LAST_MOMENT, &[10, 10, 25, 40])?;
-    same(rt, "active", active_count(table)?, 1);
-    are_banned(rt, table, &LEFT);
-    same(rt, "ended", table.end(Addr::V4(2), 50), None);
-    Ok(())
-}
-
 #[test]
-fn bans_end_by_end_and_then_by_serial(rt: HostRuntime) -> Result<(), NoMemory> {
-    end_in_order(&rt, rt.alloc(), &mut table_of(rt.alloc(), &FIVE_BANS)?)
+fn bans_end_by_end_and_then_by_serial(rt: HostRuntime) -> Result<(), Fail> {
+    let mut table = table_of(rt.alloc(), &FIVE_BANS)?;
+    are_ended(&rt, rt.alloc(), &mut table, &ENDED)?;
+    have_ended(&rt, rt.alloc(), &table, LAST_MOMENT, &[10, 10, 25, 40])?;
+    same(&rt, "active", active_count(&table)?, 1);
+    are_banned(&rt, &table, &LEFT);
+    same(&rt, "ended", table.end(Addr::V4(2), 50), None);
+    Ok(())
 }
 
 /// How many past bans the first two addresses have.
@@ -182,7 +180,7 @@ fn are_counted(
     alloc: Global,
     table: &mut BanTable,
     rows: &[(u64, u32, u32, u64)],
-) -> Result<(), NoMemory> {
+) -> Result<(), Fail> {
     for &(now, first, second, limit) in rows {
         let _ = ended_at(alloc, table, now.min(LAST_MOMENT))?;
         table.purge(limit);
@@ -201,7 +199,7 @@ const PURGED: [(u64, u32, u32, u64); 4] = [
 ];
 
 #[test]
-fn past_entries_count_until_they_are_purged(rt: HostRuntime) -> Result<(), NoMemory> {
+fn past_entries_count_until_they_are_purged(rt: HostRuntime) -> Result<(), Fail> {
     let mut table = table_of(rt.alloc(), &TWO_BANS)?;
     are_counted(&rt, rt.alloc(), &mut table, &PURGED)
 }
@@ -269,7 +267,7 @@ fn ban_count(table: &BanTable) -> Result<usize, NoMemory> {
 }
 
 #[test]
-fn each_address_has_its_own_past_bans(rt: HostRuntime) -> Result<(), NoMemory> {
+fn each_address_has_its_own_past_bans(rt: HostRuntime) -> Result<(), Fail> {
     let mut table = table_of_all(rt.alloc())?;
     are_left_each(&rt, &mut table, &GONE);
     same(&rt, "bans", ban_count(&table)?, 67);
@@ -304,7 +302,7 @@ fn are_purged(
     alloc: Global,
     table: &mut BanTable,
     rows: &[(u64, &[u64], [u32; 3])],
-) -> Result<(), NoMemory> {
+) -> Result<(), Fail> {
     for &(limit, left, counts) in rows {
         table.purge(limit);
         have_ended(rt, alloc, table, limit, left)?;
@@ -324,7 +322,7 @@ const UNORDERED_PURGED: [(u64, &[u64], [u32; 3]); 5] = [
 ];
 
 #[test]
-fn entries_in_another_order_are_purged_too(rt: HostRuntime) -> Result<(), NoMemory> {
+fn entries_in_another_order_are_purged_too(rt: HostRuntime) -> Result<(), Fail> {
     let mut table = table_of_past(rt.alloc(), &UNORDERED)?;
     are_purged(&rt, rt.alloc(), &mut table, &UNORDERED_PURGED)
 }
@@ -366,27 +364,20 @@ fn has_lists(rt: &impl Abort, table: &BanTable, want: &BanLists) -> Result<(), N
     Ok(())
 }
 
-fn has_asked(rt: &impl Abort, table: &BanTable, want: &Seq<Ban>) -> Result<(), NoMemory> {
+fn has_bans(rt: &impl Abort, table: &BanTable, want: &Seq<Ban>) -> Result<(), NoMemory> {
+    let bans = table.bans()?;
+    same(rt, "bans", &bans, want);
     let asked = table.bans_of(&ASKED)?;
     same(rt, "asked", &asked, want);
     Ok(())
 }
 
-fn has_bans(rt: &impl Abort, table: &BanTable, want: &Seq<Ban>) -> Result<(), NoMemory> {
-    let bans = table.bans()?;
-    same(rt, "bans", &bans, want);
-    has_asked(rt, table, want)
-}
-
-fn stand(rt: &impl Abort, lists: &BanLists, table: &BanTable) -> Result<(), NoMemory> {
-    has_lists(rt, table, lists)?;
-    has_bans(rt, table, &lists.active)
-}
-
 #[test]
-fn a_table_of_lists_stands_as_they_do(rt: HostRuntime) -> Result<(), NoMemory> {
+fn a_table_of_lists_stands_as_they_do(rt: HostRuntime) -> Result<(), Fail> {
     let (lists, table) = table_of_lists(rt.alloc())?;
-    stand(&rt, &lists, &table)
+    has_lists(&rt, &table, &lists)?;
+    has_bans(&rt, &table, &lists.active)?;
+    Ok(())
 }
 
 /// The serial of the first ban from a serial on.
@@ -418,7 +409,7 @@ const FOUND: [(u64, Option<u64>); 5] = [
 ];
 
 #[test]
-fn active_bans_are_found_from_a_serial_on(rt: HostRuntime) -> Result<(), NoMemory> {
+fn active_bans_are_found_from_a_serial_on(rt: HostRuntime) -> Result<(), Fail> {
     let mut table = table_of(rt.alloc(), &FOUR_BANS)?;
     let _ = table.end(Addr::V4(2), 10);
     are_found(&rt, &table, &FOUND);
@@ -452,7 +443,7 @@ fn table_of_million(alloc: Global) -> Result<BanTable, NoMemory> {
 }
 
 #[test]
-fn a_million_bans_end_in_order(rt: HostRuntime) -> Result<(), NoMemory> {
+fn a_million_bans_end_in_order(rt: HostRuntime) -> Result<(), Fail> {
     let mut table = table_of_million(rt.alloc())?;
     million_ends(&rt, rt.alloc(), &mut table)?;
     same(&rt, "past", past_count(&table)?, 1_000_000);

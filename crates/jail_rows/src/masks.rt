@@ -5,40 +5,37 @@ use f2b_base::{Addr, Cidr, NoMemory, Seq};
 use ignore_set::IgnoreSet;
 use std::alloc::Global;
 use std::process::Abort;
+use std::test::Fail;
 
-fn address(rt: &impl Abort, text: &str) -> Addr {
+fn address(text: &str) -> Result<Addr, Fail> {
     match Addr::read(text.as_bytes()) {
-        Some(addr) => addr,
-        None => panic!(rt; "no address"),
+        Some(addr) => Ok(addr),
+        None => Err(Fail::from("no address")),
     }
 }
 
-fn mask(rt: &impl Abort, text: &str) -> Cidr {
+fn mask(text: &str) -> Result<Cidr, Fail> {
     match Cidr::read(text.as_bytes()) {
-        Some(mask) => mask,
-        None => panic!(rt; "no mask"),
+        Some(mask) => Ok(mask),
+        None => Err(Fail::from("no mask")),
     }
-}
-
-fn masks(rt: &impl Abort, alloc: Global, texts: &[&str]) -> Result<Seq<Cidr>, NoMemory> {
-    let mut masks = Seq::new(alloc);
-    for text in texts {
-        masks.push(mask(rt, text))?;
-    }
-    Ok(masks)
 }
 
 /// A set of masks.
-fn set_of(rt: &impl Abort, alloc: Global, texts: &[&str]) -> Result<IgnoreSet, NoMemory> {
-    let masks = masks(rt, alloc, texts)?;
-    IgnoreSet::new(alloc, &masks)
+fn set_of(alloc: Global, texts: &[&str]) -> Result<IgnoreSet, Fail> {
+    let mut list = Seq::new(alloc);
+    for text in texts {
+        list.push(mask(text)?)?;
+    }
+    Ok(IgnoreSet::new(alloc, &list)?)
 }
 
 /// Rows of an address and whether the set holds it.
-fn are_held(rt: &impl Abort, set: &IgnoreSet, rows: &[(&str, bool)]) {
+fn are_held(rt: &impl Abort, set: &IgnoreSet, rows: &[(&str, bool)]) -> Result<(), Fail> {
     for &(text, want) in rows {
-        same(rt, text, set.holds(address(rt, text)), want);
+        same(rt, text, set.holds(address(text)?), want);
     }
+    Ok(())
 }
 
 const ADDRESSES: [(&str, bool); 7] = [
@@ -52,10 +49,9 @@ const ADDRESSES: [(&str, bool); 7] = [
 ];
 
 #[test]
-fn holds_what_a_mask_holds(rt: HostRuntime) -> Result<(), NoMemory> {
-    let set = set_of(&rt, rt.alloc(), &["10.0.0.0/8", "::1"])?;
-    are_held(&rt, &set, &ADDRESSES);
-    Ok(())
+fn holds_what_a_mask_holds(rt: HostRuntime) -> Result<(), Fail> {
+    let set = set_of(rt.alloc(), &["10.0.0.0/8", "::1"])?;
+    are_held(&rt, &set, &ADDRESSES)
 }
 
 const MANY: u32 = 1_000_000;
@@ -81,7 +77,7 @@ fn holds_the_even(set: &IgnoreSet) -> bool {
 }
 
 #[test]
-fn asks_a_million_masks_at_once(rt: HostRuntime) -> Result<(), NoMemory> {
+fn asks_a_million_masks_at_once(rt: HostRuntime) -> Result<(), Fail> {
     let set = even_addresses(rt.alloc())?;
     same(&rt, "a million", holds_the_even(&set), true);
     Ok(())

@@ -6,6 +6,7 @@ use f2b_base::{Addr, Failure, NoMemory, Seq, Text};
 use fail_window::Window;
 use std::alloc::Global;
 use std::process::Abort;
+use std::test::Fail;
 
 const ADDR: Addr = Addr::V4(0xc000_0207);
 
@@ -62,7 +63,7 @@ fn are_filled(
     rt: &impl Abort,
     alloc: Global,
     rows: &[(u64, u32, &[(u64, u64, &str)], Option<usize>)],
-) -> Result<(), NoMemory> {
+) -> Result<(), Fail> {
     for &(findtime, maxretry, failures, place) in rows {
         let (_, at) = filled(alloc, findtime, maxretry, failures)?;
         same(rt, failures, at, place);
@@ -130,7 +131,7 @@ const FILLS: [(u64, u32, &[(u64, u64, &str)], Option<usize>); 10] = [
 ];
 
 #[test]
-fn fills_where_maxretry_failures_are_within_findtime(rt: HostRuntime) -> Result<(), NoMemory> {
+fn fills_where_maxretry_failures_are_within_findtime(rt: HostRuntime) -> Result<(), Fail> {
     are_filled(&rt, rt.alloc(), &FILLS)
 }
 
@@ -159,23 +160,14 @@ fn are_handed_out(rt: &impl Abort, window: Window) -> Result<Seq<Failure>, NoMem
     Ok(failures)
 }
 
-fn have_lines(
-    rt: &impl Abort,
-    alloc: Global,
-    failures: &[Failure],
-    want: &str,
-) -> Result<(), NoMemory> {
-    let lines = lines(alloc, failures)?;
-    same(rt, "lines", lines.as_str(), want);
-    Ok(())
-}
-
 #[test]
-fn equal_times_stand_in_order_of_arrival(rt: HostRuntime) -> Result<(), NoMemory> {
+fn equal_times_stand_in_order_of_arrival(rt: HostRuntime) -> Result<(), Fail> {
     let (window, _) = fed(rt.alloc(), 600, 9, &EQUAL_TIMES)?;
     same(&rt, "count", window.len(), 5);
     let failures = are_handed_out(&rt, window)?;
-    have_lines(&rt, rt.alloc(), failures.as_slice(), "bdace")
+    let lines = lines(rt.alloc(), failures.as_slice())?;
+    same(&rt, "lines", lines.as_str(), "bdace");
+    Ok(())
 }
 
 /// Rows of a moment and whether the window is recent at it.
@@ -190,9 +182,7 @@ const LATE: [(u64, u64, &str); 3] = [(100, 100, ""), (300, 300, ""), (200, 301, 
 const RECENT: [(u64, bool); 4] = [(301, true), (899, true), (900, false), (5000, false)];
 
 #[test]
-fn a_window_is_recent_until_its_last_failure_is_findtime_old(
-    rt: HostRuntime,
-) -> Result<(), NoMemory> {
+fn a_window_is_recent_until_its_last_failure_is_findtime_old(rt: HostRuntime) -> Result<(), Fail> {
     let (window, _) = fed(rt.alloc(), 600, 9, &LATE)?;
     are_recent(&rt, &window, &RECENT);
     are_recent(&rt, &Window::new(rt.alloc(), 600, 9), &[(0, false)]);
@@ -208,16 +198,12 @@ fn one_a_second(alloc: Global, count: u64) -> Result<Vec<(u64, u64, &'static str
     Ok(rows)
 }
 
-fn are_fast(rt: &impl Abort, alloc: Global, rows: &[(u64, u64, &str)]) -> Result<(), NoMemory> {
-    let full = filled(alloc, 100_000, 100_000, rows)?;
-    same(rt, "full", full, (100_000, Some(99_999)));
-    let open = filled(alloc, 99_999, 100_000, rows)?;
-    same(rt, "open", open, (199_998, None));
-    Ok(())
-}
-
 #[test]
-fn a_large_window_is_fast(rt: HostRuntime) -> Result<(), NoMemory> {
+fn a_large_window_is_fast(rt: HostRuntime) -> Result<(), Fail> {
     let rows = one_a_second(rt.alloc(), 500_000)?;
-    are_fast(&rt, rt.alloc(), rows.as_slice())
+    let full = filled(rt.alloc(), 100_000, 100_000, rows.as_slice())?;
+    same(&rt, "full", full, (100_000, Some(99_999)));
+    let open = filled(rt.alloc(), 99_999, 100_000, rows.as_slice())?;
+    same(&rt, "open", open, (199_998, None));
+    Ok(())
 }

@@ -1,13 +1,12 @@
 //! Checks: which jobs have one, and what is left and ordered where one fails.
 
 use crate::orders::{ENDLESS, Held, SHORT, Step, Telling, play_up};
-use f2b_base::{Family, NoMemory, Outcome};
+use f2b_base::{Family, Outcome};
+use std::test::Fail;
 
 const ONE: Held = &[("sshd", &[SHORT])];
 
 const TWO: Held = &[("sshd", &[SHORT, ENDLESS])];
-
-const HELD: Held = &[("sshd", &[ENDLESS])];
 
 const CHECK: Option<&str> = Some("test -e /x <family>");
 
@@ -29,7 +28,7 @@ const ANEW: [Step; 9] = [
 ];
 
 #[test]
-fn a_failed_check_starts_its_lane_anew(rt: HostRuntime) -> Result<(), NoMemory> {
+fn a_failed_check_starts_its_lane_anew(rt: HostRuntime) -> Result<(), Fail> {
     play_up(&rt, rt.alloc(), &[Family::Both], ONE, &ANEW)
 }
 
@@ -46,7 +45,7 @@ const ABOUT_TO_STOP: [Step; 9] = [
 ];
 
 #[test]
-fn a_lane_that_is_about_to_stop_stays_so(rt: HostRuntime) -> Result<(), NoMemory> {
+fn a_lane_that_is_about_to_stop_stays_so(rt: HostRuntime) -> Result<(), Fail> {
     play_up(&rt, rt.alloc(), &[Family::Both], ONE, &ABOUT_TO_STOP)
 }
 
@@ -62,7 +61,8 @@ const OF_SIX: [Step; 2] = [
 ];
 
 #[test]
-fn a_check_is_written_for_its_lane(rt: HostRuntime) -> Result<(), NoMemory> {
-    play_up(&rt, rt.alloc(), &[Family::Both], HELD, &OF_BOTH)?;
-    play_up(&rt, rt.alloc(), &[Family::Inet6], HELD, &OF_SIX)
+fn a_check_is_written_for_its_lane(rt: HostRuntime) -> Result<(), Fail> {
+    let held = [("sshd", [ENDLESS].as_slice())];
+    play_up(&rt, rt.alloc(), &[Family::Both], &held, &OF_BOTH)?;
+    play_up(&rt, rt.alloc(), &[Family::Inet6], &held, &OF_SIX)
 }

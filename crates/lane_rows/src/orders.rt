@@ -3,12 +3,13 @@
 use crate::rows::same;
 use f2b_base::{
     ActionDef, Addr, Ban, BanRule, DateSpec, Defs, Family, JailDef, Job, NoMemory, Outcome, Seq,
-    Text, Until, UpLane,
+    Text, Until,
 };
 use f2b_model::{Happening, JailBans, LaneHappening};
 use lane_moves::LaneBook;
 use std::alloc::Global;
 use std::process::Abort;
+use std::test::Fail;
 
 /// A ban of 192.0.2.1 for ten minutes.
 pub(crate) const SHORT: Ban = Ban {
@@ -35,37 +36,34 @@ fn command(alloc: Global, word: &str, rest: &str) -> Result<Text, NoMemory> {
     Ok(Text::from(format!(in alloc; "{word} {rest}")?))
 }
 
-/// An action without a command.
-fn bare(alloc: Global, family: Family) -> ActionDef {
-    ActionDef {
-        name: Text::new(alloc),
+/// An action that starts and stops, and has no other command.
+fn bare(alloc: Global, family: Family, word: &str) -> Result<ActionDef, NoMemory> {
+    Ok(ActionDef {
+        name: Text::from_str(alloc, "nft")?,
         family,
-        start: Text::new(alloc),
-        stop: Text::new(alloc),
+        start: command(alloc, word, "start <family>")?,
+        stop: command(alloc, word, "stop <family>")?,
         ban: Text::new(alloc),
         unban: Text::new(alloc),
         check: Text::new(alloc),
         timeout: 60,
-    }
+    })
 }
 
 const BAN: &str = "ban <ip> <family> <failures> <time> <bantime> <bancount>:<matches>";
 
-/// Gives an action its name, and commands that begin with a word.
-fn name_action(alloc: Global, action: &mut ActionDef, word: &str) -> Result<(), NoMemory> {
-    action.name.push_str("nft")?;
-    action.start = command(alloc, word, "start <family>")?;
-    action.stop = command(alloc, word, "stop <family>")?;
-    action.ban = command(alloc, word, BAN)?;
-    action.unban = command(alloc, word, "unban <ip>")?;
-    action.check.push_str("test -e /x <family>")
-}
-
 /// An action whose commands begin with a word.
 fn action(alloc: Global, family: Family, word: &str) -> Result<ActionDef, NoMemory> {
-    let mut action = bare(alloc, family);
-    name_action(alloc, &mut action, word)?;
-    Ok(action)
+    let ban = command(alloc, word, BAN)?;
+    let unban = command(alloc, word, "unban <ip>")?;
+    let check = Text::from_str(alloc, "test -e /x <family>")?;
+    let bare = bare(alloc, family, word)?;
+    Ok(ActionDef {
+        ban,
+        unban,
+        check,
+        ..bare
+    })
 }
 
 /// Actions whose commands begin with a word.
@@ -75,17 +73,6 @@ fn actions(alloc: Global, families: &[Family], word: &str) -> Result<Seq<ActionD
         actions.push(action(alloc, family, word)?)?;
     }
     Ok(actions)
-}
-
-fn rule(alloc: Global) -> BanRule {
-    BanRule {
-        base: 600,
-        increment: false,
-        factor: 1000,
-        multipliers: Seq::new(alloc),
-        maxtime: 600,
-        rndtime: 0,
-    }
 }
 
 /// A jail with those actions.
@@ -102,22 +89,24 @@ fn jail_of(alloc: Global, name: Text, actions: Seq<ActionDef>) -> JailDef {
         findtime: 600,
         maxretry: 3,
         maxmatches: 0,
-        rule: rule(alloc),
+        rule: BanRule {
+            base: 600,
+            increment: false,
+            factor: 1000,
+            multipliers: Seq::new(alloc),
+            maxtime: 600,
+            rndtime: 0,
+        },
         actions,
     }
 }
 
-/// The jail `sshd` with those actions.
-fn jail(alloc: Global, families: &[Family], word: &str) -> Result<JailDef, NoMemory> {
-    let name = Text::from_str(alloc, "sshd")?;
-    let actions = actions(alloc, families, word)?;
-    Ok(jail_of(alloc, name, actions))
-}
-
 /// One jail `sshd` with those actions.
 fn defs_of(alloc: Global, families: &[Family], word: &str) -> Result<Defs, NoMemory> {
+    let name = Text::from_str(alloc, "sshd")?;
+    let actions = actions(alloc, families, word)?;
     let mut jails = Seq::new(alloc);
-    jails.push(jail(alloc, families, word)?)?;
+    jails.push(jail_of(alloc, name, actions))?;
     Ok(Defs { purge: 0, jails })
 }
 
@@ -143,21 +132,17 @@ pub(crate) enum Telling {
     Ends(&'static str, Ban),
 }
 
-fn beginning(alloc: Global, jail: &str, ban: Ban, lines: &str) -> Result<Happening, NoMemory> {
-    let jail = Text::from_str(alloc, jail)?;
-    let matches = Text::from_str(alloc, lines)?;
-    Ok(Happening::Begins { jail, ban, matches })
-}
-
-fn ending(alloc: Global, jail: &str, ban: Ban) -> Result<Happening, NoMemory> {
-    let jail = Text::from_str(alloc, jail)?;
-    Ok(Happening::Ends { jail, ban })
-}
-
 fn happening(alloc: Global, telling: &Telling) -> Result<Happening, NoMemory> {
     match telling {
-        Telling::Begins(jail, ban, lines) => beginning(alloc, jail, *ban, lines),
-        Telling::Ends(jail, ban) => ending(alloc, jail, *ban),
+        Telling::Begins(jail, ban, lines) => Ok(Happening::Begins {
+            jail: Text::from_str(alloc, jail)?,
+            ban: *ban,
+            matches: Text::from_str(alloc, lines)?,
+        }),
+        Telling::Ends(jail, ban) => Ok(Happening::Ends {
+            jail: Text::from_str(alloc, jail)?,
+            ban: *ban,
+        }),
     }
 }
 
@@ -190,15 +175,10 @@ fn shown(alloc: Global, jobs: &[Job]) -> Result<String, NoMemory> {
 }
 
 /// The jobs are these, one a line.
-fn expect_jobs(
-    rt: &impl Abort,
-    alloc: Global,
-    book: &LaneBook,
-    want: &str,
-) -> Result<(), NoMemory> {
+fn expect_jobs(rt: &impl Abort, alloc: Global, book: &LaneBook, want: &str) -> Result<(), Fail> {
     let jobs = book.jobs().jobs(alloc)?;
     let lines = shown(alloc, jobs.as_slice())?;
-    same(rt, &"jobs", &lines.as_str(), &want);
+    same(rt, "jobs", lines.as_str(), want);
     Ok(())
 }
 
@@ -234,9 +214,9 @@ fn expect_said(
     alloc: Global,
     told: &Seq<LaneHappening>,
     want: &str,
-) -> Result<(), NoMemory> {
+) -> Result<(), Fail> {
     let lines = lines_of(alloc, told.as_slice())?;
-    same(rt, &"told", &lines.as_str(), &want);
+    same(rt, "told", lines.as_str(), want);
     Ok(())
 }
 
@@ -286,12 +266,8 @@ impl Scene {
     fn configure(&mut self, lanes: Lanes, held: Held, at: u64) -> Result<(), NoMemory> {
         let defs = defs_of(self.alloc, lanes.0, lanes.1)?;
         let held = held_of(self.alloc, held)?;
-        self.configure_to(held.as_slice(), &defs, at)
-    }
-
-    fn configure_to(&mut self, held: &[JailBans], defs: &Defs, at: u64) -> Result<(), NoMemory> {
-        self.book.others_down(held, defs, at)?;
-        self.book.missing_up(held, defs, at)
+        self.book.others_down(held.as_slice(), &defs, at)?;
+        self.book.missing_up(held.as_slice(), &defs, at)
     }
 
     fn tell(&mut self, tellings: &[Telling], at: u64) -> Result<(), NoMemory> {
@@ -336,14 +312,9 @@ impl Scene {
         Some(lane.action.check.as_str())
     }
 
-    fn expect_check_text(
-        &self,
-        rt: &impl Abort,
-        job: u64,
-        want: Option<&str>,
-    ) -> Result<(), NoMemory> {
+    fn expect_check_text(&self, rt: &impl Abort, job: u64, want: Option<&str>) -> Result<(), Fail> {
         let text = self.book.check_text(job)?;
-        same(rt, &job, &text_of(&text), &want);
+        same(rt, job, text_of(&text), want);
         Ok(())
     }
 
@@ -353,9 +324,9 @@ impl Scene {
         families: &[Family],
         word: &str,
         want: bool,
-    ) -> Result<(), NoMemory> {
+    ) -> Result<(), Fail> {
         let defs = defs_of(self.alloc, families, word)?;
-        same(rt, &word, &self.book.are_just(&defs), &want);
+        same(rt, word, self.book.are_just(&defs), want);
         Ok(())
     }
 
@@ -364,14 +335,14 @@ impl Scene {
     }
 
     /// Asserts what is expected.
-    fn expect(&self, rt: &impl Abort, step: &Step) -> Result<(), NoMemory> {
+    fn expect(&self, rt: &impl Abort, step: &Step) -> Result<(), Fail> {
         match *step {
             Step::AreJust((families, word), want) => {
                 return self.expect_just(rt, families, word, want);
             }
-            Step::NextJob(want) => same(rt, &"next job", &self.book.next_job(), &want),
-            Step::Stopped => same(rt, &"stopped", &self.is_stopped(), &true),
-            Step::CheckOf(job, want) => same(rt, &job, &self.check_of(job), &want),
+            Step::NextJob(want) => same(rt, "next job", self.book.next_job(), want),
+            Step::Stopped => same(rt, "stopped", self.is_stopped(), true),
+            Step::CheckOf(job, want) => same(rt, job, self.check_of(job), want),
             Step::CheckText(job, want) => return self.expect_check_text(rt, job, want),
             Step::Jobs(want) => return expect_jobs(rt, self.alloc, &self.book, want),
             Step::Said(want) => return expect_said(rt, self.alloc, &self.said, want),
@@ -389,7 +360,9 @@ fn text_of(text: &Option<Text>) -> Option<&str> {
 }
 
 /// Takes these steps, one after the other.
-fn play_in(rt: &impl Abort, scene: &mut Scene, steps: &[Step]) -> Result<(), NoMemory> {
+fn play(rt: &impl Abort, alloc: Global, book: LaneBook, steps: &[Step]) -> Result<(), Fail> {
+    let said = Seq::new(alloc);
+    let mut scene = Scene { alloc, book, said };
     for step in steps {
         scene.take(step)?;
         scene.expect(rt, step)?;
@@ -397,32 +370,16 @@ fn play_in(rt: &impl Abort, scene: &mut Scene, steps: &[Step]) -> Result<(), NoM
     Ok(())
 }
 
-/// The same, where nothing was told before.
-fn play(rt: &impl Abort, alloc: Global, book: LaneBook, steps: &[Step]) -> Result<(), NoMemory> {
-    let said = Seq::new(alloc);
-    play_in(rt, &mut Scene { alloc, book, said }, steps)
-}
-
-/// The lanes of the jail come up with these bans at 900.
-fn raise(
-    alloc: Global,
-    book: &mut LaneBook,
-    families: &[Family],
-    held: &[(&str, &[Ban])],
-) -> Result<(), NoMemory> {
-    let defs = defs_of(alloc, families, "old")?;
-    let held = held_of(alloc, held)?;
-    book.missing_up(held.as_slice(), &defs, 900)
-}
-
-/// The lanes of the jail, which come up with these bans.
+/// The lanes of the jail, which come up with these bans at 900.
 fn lanes_up(
     alloc: Global,
     families: &[Family],
     held: &[(&str, &[Ban])],
 ) -> Result<LaneBook, NoMemory> {
+    let defs = defs_of(alloc, families, "old")?;
+    let held = held_of(alloc, held)?;
     let mut book = LaneBook::new(alloc);
-    raise(alloc, &mut book, families, held)?;
+    book.missing_up(held.as_slice(), &defs, 900)?;
     Ok(book)
 }
 
@@ -433,7 +390,7 @@ pub(crate) fn play_up(
     families: &[Family],
     held: &[(&str, &[Ban])],
     steps: &[Step],
-) -> Result<(), NoMemory> {
+) -> Result<(), Fail> {
     play(rt, alloc, lanes_up(alloc, families, held)?, steps)
 }
 
@@ -467,7 +424,7 @@ const TO_TWO_LANES: [Step; 2] = [
 ];
 
 #[test]
-fn a_ban_goes_to_the_lanes_that_take_it(rt: HostRuntime) -> Result<(), NoMemory> {
+fn a_ban_goes_to_the_lanes_that_take_it(rt: HostRuntime) -> Result<(), Fail> {
     play_up(&rt, rt.alloc(), &[Family::Both], &[], &TO_ONE_LANE)?;
     play_up(
         &rt,
@@ -501,7 +458,7 @@ const CHANGED_ACTION: [Step; 6] = [
 ];
 
 #[test]
-fn a_changed_action_goes_down_and_comes_up(rt: HostRuntime) -> Result<(), NoMemory> {
+fn a_changed_action_goes_down_and_comes_up(rt: HostRuntime) -> Result<(), Fail> {
     play_up(
         &rt,
         rt.alloc(),
@@ -511,15 +468,10 @@ fn a_changed_action_goes_down_and_comes_up(rt: HostRuntime) -> Result<(), NoMemo
     )
 }
 
-/// The lane of IPv6.
-fn lane_of_six(alloc: Global) -> Result<Seq<UpLane>, NoMemory> {
-    let book = lanes_up(alloc, &[Family::Inet6], &[])?;
-    Ok(Seq::from(book.up().to_vec(alloc)?))
-}
-
 /// The lane of IPv6 is up, it has no job, and the next job is 70.
 fn going_on(alloc: Global) -> Result<LaneBook, NoMemory> {
-    let up = lane_of_six(alloc)?;
+    let before = lanes_up(alloc, &[Family::Inet6], &[])?;
+    let up = Seq::from(before.up().to_vec(alloc)?);
     LaneBook::of(alloc, &up, false, &Seq::new(alloc), 70)
 }
 
@@ -544,7 +496,7 @@ const STOP_AND_FAILED_TRIES: [Step; 10] = [
 ];
 
 #[test]
-fn a_stop_and_failed_tries(rt: HostRuntime) -> Result<(), NoMemory> {
+fn a_stop_and_failed_tries(rt: HostRuntime) -> Result<(), Fail> {
     let book = going_on(rt.alloc())?;
     play(&rt, rt.alloc(), book, &STOP_AND_FAILED_TRIES)
 }

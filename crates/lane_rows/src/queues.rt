@@ -5,9 +5,10 @@ mod many;
 
 use crate::rows::{is_so, same};
 use action_queue::Lanes;
-use f2b_base::{Family, Job, JobKind, LAST_MOMENT, LaneId, NoMemory, Outcome, Settled, Text};
+use f2b_base::{Family, Job, JobKind, LAST_MOMENT, LaneId, Outcome, Settled, Text};
 use std::alloc::Global;
 use std::process::Abort;
+use std::test::Fail;
 
 /// What a row does, and what it wants to see.
 #[derive(Clone, Copy)]
@@ -23,7 +24,7 @@ enum Step {
 }
 
 // The lane of an action in the jail sshd.
-pub(crate) fn lane_of(alloc: Global, action: &str) -> Result<LaneId, NoMemory> {
+pub(crate) fn lane_of(alloc: Global, action: &str) -> Result<LaneId, Fail> {
     Ok(LaneId {
         jail: Text::from_str(alloc, "sshd")?,
         action: Text::from_str(alloc, action)?,
@@ -50,9 +51,9 @@ pub(crate) fn push(
     alloc: Global,
     lanes: &mut Lanes,
     job: Job,
-) -> Result<(), NoMemory> {
+) -> Result<(), Fail> {
     is_so(rt, job.id, lanes.is_above_all(job.id));
-    lanes.push(alloc, job)
+    Ok(lanes.push(alloc, job)?)
 }
 
 // Ends a try of a job, which is the first of its lane.
@@ -76,7 +77,7 @@ fn push_into(
     id: u64,
     action: &str,
     due: u64,
-) -> Result<(), NoMemory> {
+) -> Result<(), Fail> {
     let lane = lane_of(alloc, action)?;
     push(rt, alloc, lanes, job_of(alloc, id, lane, due))
 }
@@ -93,39 +94,34 @@ fn take_step(
     lanes: &mut Lanes,
     step: Step,
     name: &str,
-) -> Result<(), NoMemory> {
+) -> Result<(), Fail> {
     match step {
         Step::Push(id, action, due) => return push_into(rt, alloc, lanes, id, action, due),
         Step::Ends(id, outcome, now, want) => {
-            let settled = settle(rt, lanes, id, outcome, now);
-            same(rt, &(name, id, now), &settled, &want);
+            same(
+                rt,
+                (name, id, now),
+                settle(rt, lanes, id, outcome, now),
+                want,
+            );
         }
         Step::Next(now, running, want) => {
-            same(rt, &(name, now), &next_of(lanes, now, running), &want);
+            same(rt, (name, now), next_of(lanes, now, running), want);
         }
-        Step::Count(want) => same(rt, &name, &lanes.count(), &want),
+        Step::Count(want) => same(rt, name, lanes.count(), want),
     }
     Ok(())
 }
 
-fn take_steps(
-    rt: &impl Abort,
-    alloc: Global,
-    lanes: &mut Lanes,
-    steps: &[Step],
-    name: &str,
-) -> Result<(), NoMemory> {
+fn take_row(rt: &impl Abort, alloc: Global, name: &str, steps: &[Step]) -> Result<(), Fail> {
+    let mut lanes = Lanes::new(alloc);
     for &step in steps {
-        take_step(rt, alloc, lanes, step, name)?;
+        take_step(rt, alloc, &mut lanes, step, name)?;
     }
     Ok(())
 }
 
-fn take_row(rt: &impl Abort, alloc: Global, name: &str, steps: &[Step]) -> Result<(), NoMemory> {
-    take_steps(rt, alloc, &mut Lanes::new(alloc), steps, name)
-}
-
-fn take_rows(rt: &impl Abort, alloc: Global, rows: &[(&str, &[Step])]) -> Result<(), NoMemory> {
+fn take_rows(rt: &impl Abort, alloc: Global, rows: &[(&str, &[Step])]) -> Result<(), Fail> {
     for (name, steps) in rows {
         take_row(rt, alloc, name, steps)?;
     }
@@ -137,7 +133,7 @@ const FAILED: Outcome = Outcome::Status(1);
 const SUCCEEDED: Outcome = Outcome::Status(0);
 
 #[test]
-fn a_job_has_three_tries(rt: HostRuntime) -> Result<(), NoMemory> {
+fn a_job_has_three_tries(rt: HostRuntime) -> Result<(), Fail> {
     use Step::{Count, Ends, Next, Push};
     const ROWS: [(&str, &[Step]); 4] = [
         (
@@ -197,7 +193,7 @@ fn a_job_has_three_tries(rt: HostRuntime) -> Result<(), NoMemory> {
 }
 
 #[test]
-fn lanes_do_not_wait_for_each_other(rt: HostRuntime) -> Result<(), NoMemory> {
+fn lanes_do_not_wait_for_each_other(rt: HostRuntime) -> Result<(), Fail> {
     use Step::{Count, Ends, Next, Push};
     const ROWS: [(&str, &[Step]); 4] = [
         (
@@ -274,7 +270,7 @@ enum Which {
     OfOtherFamily,
 }
 
-fn lane(alloc: Global, which: Which) -> Result<LaneId, NoMemory> {
+fn lane(alloc: Global, which: Which) -> Result<LaneId, Fail> {
     let mut lane = lane_of(alloc, "a")?;
     match which {
         Which::Named => (),
@@ -284,25 +280,15 @@ fn lane(alloc: Global, which: Which) -> Result<LaneId, NoMemory> {
     Ok(lane)
 }
 
-fn push_one(
-    rt: &impl Abort,
-    alloc: Global,
-    lanes: &mut Lanes,
-    id: u64,
-    which: Which,
-) -> Result<(), NoMemory> {
-    let lane = lane(alloc, which)?;
-    push(rt, alloc, lanes, job_of(alloc, id, lane, 100))
-}
-
 fn push_each(
     rt: &impl Abort,
     alloc: Global,
     lanes: &mut Lanes,
     rows: &[(u64, Which)],
-) -> Result<(), NoMemory> {
+) -> Result<(), Fail> {
     for &(id, which) in rows {
-        push_one(rt, alloc, lanes, id, which)?;
+        let lane = lane(alloc, which)?;
+        push(rt, alloc, lanes, job_of(alloc, id, lane, 100))?;
     }
     Ok(())
 }
@@ -319,17 +305,17 @@ fn are_heads(
     alloc: Global,
     lanes: &Lanes,
     rows: &[(Which, u64)],
-) -> Result<(), NoMemory> {
+) -> Result<(), Fail> {
     for &(which, want) in rows {
         let lane = lane(alloc, which)?;
-        same(rt, &want, &head_of(lanes, &lane), &Some(want));
+        same(rt, want, head_of(lanes, &lane), Some(want));
     }
     Ok(())
 }
 
 fn are_each(rt: &impl Abort, jobs: &[Job], rows: &[(u64, u8, u64)]) {
     for (job, row) in jobs.iter().zip(rows) {
-        same(rt, &job.id, &(job.id, job.tries, job.due), row);
+        same(rt, job.id, (job.id, job.tries, job.due), *row);
     }
 }
 
@@ -339,9 +325,9 @@ fn are_jobs(
     alloc: Global,
     lanes: &Lanes,
     rows: &[(u64, u8, u64)],
-) -> Result<(), NoMemory> {
+) -> Result<(), Fail> {
     let jobs = lanes.jobs(alloc)?;
-    same(rt, &"count", &jobs.len(), &rows.len());
+    same(rt, "count", jobs.len(), rows.len());
     are_each(rt, jobs.as_slice(), rows);
     Ok(())
 }
@@ -361,29 +347,16 @@ const HEADS: [(Which, u64); 3] = [
 
 const JOBS: [(u64, u8, u64); 4] = [(1, 1, 102), (2, 0, 100), (3, 0, 100), (9, 0, 100)];
 
-/// A lane without a job has no first one.
-fn has_no_head(
-    rt: &impl Abort,
-    alloc: Global,
-    lanes: &Lanes,
-    action: &str,
-) -> Result<(), NoMemory> {
-    let unused = lane_of(alloc, action)?;
-    same(rt, &action, &head_of(lanes, &unused), &None);
-    Ok(())
-}
-
-fn have_heads(rt: &impl Abort, alloc: Global, lanes: &mut Lanes) -> Result<(), NoMemory> {
-    push_each(rt, alloc, lanes, &PUSHED)?;
-    are_heads(rt, alloc, lanes, &HEADS)?;
-    has_no_head(rt, alloc, lanes, "b")?;
-    settle(rt, lanes, 1, FAILED, 100);
-    are_jobs(rt, alloc, lanes, &JOBS)
-}
-
 #[test]
-fn finds_heads_of_lanes(rt: HostRuntime) -> Result<(), NoMemory> {
-    have_heads(&rt, rt.alloc(), &mut Lanes::new(rt.alloc()))
+fn finds_heads_of_lanes(rt: HostRuntime) -> Result<(), Fail> {
+    let alloc = rt.alloc();
+    let mut lanes = Lanes::new(alloc);
+    push_each(&rt, alloc, &mut lanes, &PUSHED)?;
+    are_heads(&rt, alloc, &lanes, &HEADS)?;
+    let unused = lane_of(alloc, "b")?;
+    same(&rt, "b", lanes.head(&unused), None);
+    settle(&rt, &mut lanes, 1, FAILED, 100);
+    are_jobs(&rt, alloc, &lanes, &JOBS)
 }
 
 /// The id of a job.
@@ -396,7 +369,7 @@ fn found(lanes: &Lanes, id: u64) -> Option<u64> {
 fn are_found(rt: &impl Abort, lanes: &Lanes, rows: &[(u64, Option<u64>, bool, bool)]) {
     for &(id, want, is_head, is_above) in rows {
         let facts = (found(lanes, id), lanes.is_head(id), lanes.is_above_all(id));
-        same(rt, &id, &facts, &(want, is_head, is_above));
+        same(rt, id, facts, (want, is_head, is_above));
     }
 }
 
@@ -407,9 +380,10 @@ const FOUND: [(u64, Option<u64>, bool, bool); 3] = [
 ];
 
 #[test]
-fn finds_jobs(rt: HostRuntime) -> Result<(), NoMemory> {
-    let mut lanes = Lanes::new(rt.alloc());
-    push_each(&rt, rt.alloc(), &mut lanes, &PUSHED)?;
+fn finds_jobs(rt: HostRuntime) -> Result<(), Fail> {
+    let alloc = rt.alloc();
+    let mut lanes = Lanes::new(alloc);
+    push_each(&rt, alloc, &mut lanes, &PUSHED)?;
     are_found(&rt, &lanes, &FOUND);
     Ok(())
 }

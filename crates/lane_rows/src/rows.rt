@@ -4,9 +4,13 @@ ghost use Rattle.std.specs.Prelude.{◌≡◌, true};
 use std::fmt::Debug;
 use std::process::Abort;
 
-/// Fails at this row unless what was seen is what is wanted.
-pub(crate) fn same<A: Debug, T: PartialEq + Debug>(rt: &impl Abort, at: &A, saw: &T, want: &T) {
-    assert!(rt; *saw == *want, "at {at:?}: {saw:?}, not {want:?}");
+/// What was seen at a row is what was wanted.
+pub(crate) fn same<A, T>(rt: &impl Abort, at: A, saw: T, want: T)
+where
+    A: Copy + Debug,
+    T: Copy + PartialEq + Debug,
+{
+    assert_eq!(rt; saw, want, "at {at:?}");
 }
 
 /// It is so at a row.

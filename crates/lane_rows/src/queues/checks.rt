@@ -3,9 +3,10 @@
 use crate::queues::{job_of, lane_of, push, settle};
 use crate::rows::same;
 use action_queue::{CheckEnd, Lanes};
-use f2b_base::{Job, JobKind, NoMemory, Outcome};
+use f2b_base::{Job, JobKind, Outcome};
 use std::alloc::Global;
 use std::process::Abort;
+use std::test::Fail;
 
 /// What a row does, and what it wants to see.
 #[derive(Clone, Copy)]
@@ -26,7 +27,7 @@ enum Step {
 
 fn have_ids(rt: &impl Abort, jobs: &[Job], want: &[u64], name: &str) {
     for (job, &id) in jobs.iter().zip(want) {
-        same(rt, &name, &job.id, &id);
+        same(rt, name, job.id, id);
     }
 }
 
@@ -36,32 +37,20 @@ fn see_left(
     lanes: &Lanes,
     want: &[u64],
     name: &str,
-) -> Result<(), NoMemory> {
+) -> Result<(), Fail> {
     let jobs = lanes.jobs(alloc)?;
-    same(rt, &(name, "jobs"), &jobs.len(), &want.len());
+    same(rt, (name, "jobs"), jobs.len(), want.len());
     have_ids(rt, jobs.as_slice(), want, name);
     Ok(())
 }
 
-fn job(alloc: Global, id: u64, action: &str, kind: JobKind) -> Result<Job, NoMemory> {
+fn job(alloc: Global, id: u64, action: &str, kind: JobKind) -> Result<Job, Fail> {
     let mut job = job_of(alloc, id, lane_of(alloc, action)?, 1000);
     job.kind = kind;
     Ok(job)
 }
 
-fn push_one(
-    rt: &impl Abort,
-    alloc: Global,
-    lanes: &mut Lanes,
-    id: u64,
-    action: &str,
-    kind: JobKind,
-) -> Result<(), NoMemory> {
-    let job = job(alloc, id, action, kind)?;
-    push(rt, alloc, lanes, job)
-}
-
-fn is_closing(alloc: Global, lanes: &Lanes, action: &str) -> Result<bool, NoMemory> {
+fn is_closing(alloc: Global, lanes: &Lanes, action: &str) -> Result<bool, Fail> {
     let lane = lane_of(alloc, action)?;
     Ok(lanes.closing(&lane))
 }
@@ -72,41 +61,33 @@ fn take_step(
     lanes: &mut Lanes,
     step: Step,
     name: &str,
-) -> Result<(), NoMemory> {
+) -> Result<(), Fail> {
     match step {
-        Step::Push(id, action, kind) => return push_one(rt, alloc, lanes, id, action, kind),
+        Step::Push(id, action, kind) => {
+            return push(rt, alloc, lanes, job(alloc, id, action, kind)?);
+        }
         Step::Ends(id, status) => {
             settle(rt, lanes, id, Outcome::Status(status), 1000);
         }
-        Step::Fails(id, want) => same(rt, &(name, id), &lanes.check_failed(id), &want),
-        Step::Checked(id, want) => same(rt, &(name, id), &lanes.checked(id).is_some(), &want),
+        Step::Fails(id, want) => same(rt, (name, id), lanes.check_failed(id), want),
+        Step::Checked(id, want) => same(rt, (name, id), lanes.checked(id).is_some(), want),
         Step::Closing(action, want) => {
-            let saw = is_closing(alloc, lanes, action)?;
-            same(rt, &(name, action), &saw, &want);
+            same(rt, (name, action), is_closing(alloc, lanes, action)?, want);
         }
         Step::Left(want) => return see_left(rt, alloc, lanes, want, name),
     }
     Ok(())
 }
 
-fn take_steps(
-    rt: &impl Abort,
-    alloc: Global,
-    lanes: &mut Lanes,
-    steps: &[Step],
-    name: &str,
-) -> Result<(), NoMemory> {
+fn take_row(rt: &impl Abort, alloc: Global, name: &str, steps: &[Step]) -> Result<(), Fail> {
+    let mut lanes = Lanes::new(alloc);
     for &step in steps {
-        take_step(rt, alloc, lanes, step, name)?;
+        take_step(rt, alloc, &mut lanes, step, name)?;
     }
     Ok(())
 }
 
-fn take_row(rt: &impl Abort, alloc: Global, name: &str, steps: &[Step]) -> Result<(), NoMemory> {
-    take_steps(rt, alloc, &mut Lanes::new(alloc), steps, name)
-}
-
-fn take_rows(rt: &impl Abort, alloc: Global, rows: &[(&str, &[Step])]) -> Result<(), NoMemory> {
+fn take_rows(rt: &impl Abort, alloc: Global, rows: &[(&str, &[Step])]) -> Result<(), Fail> {
     for (name, steps) in rows {
         take_row(rt, alloc, name, steps)?;
     }
@@ -114,7 +95,7 @@ fn take_rows(rt: &impl Abort, alloc: Global, rows: &[(&str, &[Step])]) -> Result
 }
 
 #[test]
-fn a_failed_check_voids_its_lane_up_to_a_stop(rt: HostRuntime) -> Result<(), NoMemory> {
+fn a_failed_check_voids_its_lane_up_to_a_stop(rt: HostRuntime) -> Result<(), Fail> {
     use JobKind::{Ban, Reban, Start, Stop, Unban};
     use Step::{Checked, Closing, Ends, Fails, Left, Push};
     const ROWS: [(&str, &[Step]); 4] = [

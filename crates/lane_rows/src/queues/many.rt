@@ -6,6 +6,7 @@ use action_queue::Lanes;
 use f2b_base::{LaneId, NoMemory, Outcome, Plain, Settled};
 use std::alloc::Global;
 use std::process::Abort;
+use std::test::Fail;
 
 const JOBS: u64 = 1_000_000;
 
@@ -28,7 +29,7 @@ fn start(lanes: &Lanes, running: &mut Vec<u64>) -> Result<(), NoMemory> {
     Ok(())
 }
 
-fn lanes_of(alloc: Global, actions: &[&str]) -> Result<Vec<LaneId>, NoMemory> {
+fn lanes_of(alloc: Global, actions: &[&str]) -> Result<Vec<LaneId>, Fail> {
     let mut ids: Vec<LaneId> = Vec::new(alloc);
     for action in actions {
         ids.push(lane_of(alloc, action)?)?;
@@ -36,40 +37,28 @@ fn lanes_of(alloc: Global, actions: &[&str]) -> Result<Vec<LaneId>, NoMemory> {
     Ok(ids)
 }
 
-// Pushes a job into a lane.
+// Pushes a job into the lane whose turn it is.
 fn push_into(
     rt: &impl Abort,
     alloc: Global,
     lanes: &mut Lanes,
-    lane: &LaneId,
-    id: u64,
-) -> Result<(), NoMemory> {
-    let lane = lane.copy()?;
-    push(rt, alloc, lanes, job_of(alloc, id, lane, 1000))
-}
-
-// Pushes all jobs into the lanes in turn.
-fn push_all(
-    rt: &impl Abort,
-    alloc: Global,
-    lanes: &mut Lanes,
     ids: &[LaneId],
-) -> Result<(), NoMemory> {
-    for id in 0..JOBS {
-        match ids.get((id % 32) as usize) {
-            Some(lane) => push_into(rt, alloc, lanes, lane, id)?,
-            None => same(rt, &id, &"no lane", &"a lane"),
-        }
+    id: u64,
+) -> Result<(), Fail> {
+    match ids.get((id % 32) as usize) {
+        Some(lane) => push(rt, alloc, lanes, job_of(alloc, id, lane.copy()?, 1000)),
+        None => Err(Fail::from("no lane")),
     }
-    same(rt, &"count", &lanes.count(), &JOBS);
-    Ok(())
 }
 
 // All jobs, pushed into the lanes in turn.
-fn all_pushed(rt: &impl Abort, alloc: Global) -> Result<Lanes, NoMemory> {
+fn all_pushed(rt: &impl Abort, alloc: Global) -> Result<Lanes, Fail> {
     let ids = lanes_of(alloc, &ACTIONS)?;
     let mut lanes = Lanes::new(alloc);
-    push_all(rt, alloc, &mut lanes, ids.as_slice())?;
+    for id in 0..JOBS {
+        push_into(rt, alloc, &mut lanes, ids.as_slice(), id)?;
+    }
+    same(rt, "count", lanes.count(), JOBS);
     Ok(lanes)
 }
 
@@ -79,26 +68,23 @@ fn settle_next(
     lanes: &mut Lanes,
     running: &mut Vec<u64>,
     want: u64,
-) -> Result<(), NoMemory> {
+) -> Result<(), Fail> {
     start(lanes, running)?;
     is_so(rt, want, !running.is_empty());
     let id = running.remove(0);
-    same(rt, &"id", &id, &want);
+    same(rt, "id", id, want);
     let settled = settle(rt, lanes, id, Outcome::Status(0), 1000);
-    same(rt, &want, &settled, &Settled::Done);
-    Ok(())
-}
-
-fn settle_all(rt: &impl Abort, lanes: &mut Lanes, running: &mut Vec<u64>) -> Result<(), NoMemory> {
-    for want in 0..JOBS {
-        settle_next(rt, lanes, running, want)?;
-    }
-    same(rt, &"left", &lanes.count(), &0);
+    same(rt, want, settled, Settled::Done);
     Ok(())
 }
 
 #[test]
-fn a_million_jobs_settle_within_seconds(rt: HostRuntime) -> Result<(), NoMemory> {
+fn a_million_jobs_settle_within_seconds(rt: HostRuntime) -> Result<(), Fail> {
     let mut lanes = all_pushed(&rt, rt.alloc())?;
-    settle_all(&rt, &mut lanes, &mut Vec::new(rt.alloc()))
+    let mut running = Vec::new(rt.alloc());
+    for want in 0..JOBS {
+        settle_next(&rt, &mut lanes, &mut running, want)?;
+    }
+    same(&rt, "left", lanes.count(), 0);
+    Ok(())
 }
