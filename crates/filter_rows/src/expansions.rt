@@ -5,26 +5,16 @@ use host_ident::{HostGroups, expand, host_of, hosts};
 use std::alloc::Global;
 use std::process::Abort;
 
-fn is_expanded(
-    rt: &impl Abort,
-    alloc: Global,
-    pattern: &str,
-    expanded: &str,
-) -> Result<(), NoMemory> {
-    let text = expand(alloc, pattern)?;
-    same(rt, &pattern, &text.as_str(), &expanded);
-    Ok(())
-}
-
 /// Rows of a pattern, what it is expanded to, and how many hosts it has.
 fn are_expanded(
     rt: &impl Abort,
     alloc: Global,
     rows: &[(&str, &str, u32)],
 ) -> Result<(), NoMemory> {
-    for (pattern, expanded, count) in rows {
-        is_expanded(rt, alloc, pattern, expanded)?;
-        same(rt, pattern, &hosts(pattern), count);
+    for &(pattern, expanded, count) in rows {
+        let text = expand(alloc, pattern)?;
+        same(rt, pattern, text.as_str(), expanded);
+        same(rt, pattern, hosts(pattern), count);
     }
     Ok(())
 }

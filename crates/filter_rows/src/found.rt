@@ -88,17 +88,12 @@ fn mask(rt: &impl Abort, text: &str) -> Cidr {
     }
 }
 
-fn masks(rt: &impl Abort, alloc: Global, list: &str) -> Result<Seq<Cidr>, NoMemory> {
+/// The addresses that are never banned, by masks in lines.
+fn ignoring(rt: &impl Abort, alloc: Global, list: &str) -> Result<IgnoreSet, NoMemory> {
     let mut masks = Seq::new(alloc);
     for text in list.lines() {
         masks.push(mask(rt, text))?;
     }
-    Ok(masks)
-}
-
-/// The addresses that are never banned, by masks in lines.
-fn ignoring(rt: &impl Abort, alloc: Global, list: &str) -> Result<IgnoreSet, NoMemory> {
-    let masks = masks(rt, alloc, list)?;
     IgnoreSet::new(alloc, &masks)
 }
 
@@ -220,21 +215,7 @@ fn filter(rt: &impl Abort, alloc: Global, parts: &Parts<'_>) -> Result<Filter, N
     Ok(built(rt, alloc, &jail))
 }
 
-/// What a filter finds in a line, where no address is ignored.
-fn found_by(
-    rt: &impl Abort,
-    alloc: Global,
-    filter: &Filter,
-    line: &str,
-    now: u64,
-    findtime: u64,
-) -> Result<Finding, NoMemory> {
-    is_so(rt, line, now <= LAST_MOMENT);
-    let none = ignoring(rt, alloc, "")?;
-    filter.found(alloc, &none, line, now, findtime)
-}
-
-/// The same, of the filter of a jail.
+/// What the filter of a jail finds in a line, where no address is ignored.
 fn found_in(
     rt: &impl Abort,
     alloc: Global,
@@ -243,8 +224,10 @@ fn found_in(
     now: u64,
     findtime: u64,
 ) -> Result<Finding, NoMemory> {
+    is_so(rt, line, now <= LAST_MOMENT);
     let filter = filter(rt, alloc, parts)?;
-    found_by(rt, alloc, &filter, line, now, findtime)
+    let none = ignoring(rt, alloc, "")?;
+    filter.found(alloc, &none, line, now, findtime)
 }
 
 /// 192.0.2.7.

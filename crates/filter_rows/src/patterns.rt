@@ -16,8 +16,8 @@ fn answer(alloc: Global, text: &str) -> &'static str {
 
 /// Rows of a text and what building it answers.
 fn are_answered(rt: &impl Abort, alloc: Global, rows: &[(&str, &str)]) {
-    for (text, want) in rows {
-        same(rt, text, &answer(alloc, text), want);
+    for &(text, want) in rows {
+        same(rt, text, answer(alloc, text), want);
     }
 }
 
@@ -56,8 +56,8 @@ fn have_groups(
     rows: &[(&str, Option<Groups>)],
 ) -> Result<(), NoMemory> {
     let mut matcher = pattern.matcher(alloc)?;
-    for (line, want) in rows {
-        same(rt, line, &groups_in(&mut matcher, line), want);
+    for &(line, want) in rows {
+        same(rt, line, groups_in(&mut matcher, line), want);
     }
     Ok(())
 }
@@ -108,8 +108,8 @@ fn have_numbered(
     rows: &[(&str, Option<Cuts>)],
 ) -> Result<(), NoMemory> {
     let mut matcher = pattern.matcher(alloc)?;
-    for (line, want) in rows {
-        same(rt, line, &cuts_in(&mut matcher, line), want);
+    for &(line, want) in rows {
+        same(rt, line, cuts_in(&mut matcher, line), want);
     }
     Ok(())
 }
@@ -170,8 +170,8 @@ fn do_match_in(
     rows: &[(&str, bool)],
 ) -> Result<(), NoMemory> {
     let mut matcher = set.matcher(alloc)?;
-    for (line, want) in rows {
-        same(rt, line, &matcher.any(line), want);
+    for &(line, want) in rows {
+        same(rt, line, matcher.any(line), want);
     }
     Ok(())
 }

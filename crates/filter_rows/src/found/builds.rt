@@ -105,25 +105,15 @@ fn refusal(
     Ok((error_of(&built), library.asked))
 }
 
-fn is_refused(
-    rt: &impl Abort,
-    alloc: Global,
-    row: &(Parts<'_>, PatternPlace, BuildKind, u64),
-) -> Result<(), NoMemory> {
-    let (parts, place, kind, asked) = *row;
-    let error = PatternError::Refused { place, kind };
-    let saw = refusal(rt, alloc, &parts)?;
-    same(rt, &parts.fail, &saw, &(Some(error), asked));
-    Ok(())
-}
-
 fn are_refused(
     rt: &impl Abort,
     alloc: Global,
     rows: &[(Parts<'_>, PatternPlace, BuildKind, u64)],
 ) -> Result<(), NoMemory> {
-    for row in rows {
-        is_refused(rt, alloc, row)?;
+    for &(parts, place, kind, asked) in rows {
+        let error = PatternError::Refused { place, kind };
+        let saw = refusal(rt, alloc, &parts)?;
+        same(rt, parts.fail, saw, (Some(error), asked));
     }
     Ok(())
 }

@@ -22,7 +22,7 @@ fn is_found(
     alloc: Global,
     dated: Dated<'_>,
     line: &str,
-    finding: &Finding,
+    finding: Finding,
 ) -> Result<(), NoMemory> {
     let parts = Parts {
         dated,
@@ -30,7 +30,7 @@ fn is_found(
         ..NONE
     };
     let found = found_in(rt, alloc, &parts, line, NOW, 7200)?;
-    same(rt, &line, &found, finding);
+    same(rt, line, found, finding);
     Ok(())
 }
 
@@ -41,7 +41,7 @@ fn are_found(
     dated: Dated<'_>,
     rows: &[(&str, Finding)],
 ) -> Result<(), NoMemory> {
-    for (line, finding) in rows {
+    for &(line, finding) in rows {
         is_found(rt, alloc, dated, line, finding)?;
     }
     Ok(())
@@ -53,8 +53,8 @@ fn are_found_as_dated(
     alloc: Global,
     rows: &[(Dated<'_>, &str, Finding)],
 ) -> Result<(), NoMemory> {
-    for (dated, line, finding) in rows {
-        is_found(rt, alloc, *dated, line, finding)?;
+    for &(dated, line, finding) in rows {
+        is_found(rt, alloc, dated, line, finding)?;
     }
     Ok(())
 }

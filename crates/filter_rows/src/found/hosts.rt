@@ -12,27 +12,16 @@ fn wanted(text: &str) -> Option<Finding> {
     }
 }
 
-fn is_found(
-    rt: &impl Abort,
-    alloc: Global,
-    pattern: &str,
-    line: &str,
-    want: &str,
-) -> Result<(), NoMemory> {
-    let parts = Parts {
-        dated: Dated::NoDate,
-        fail: pattern,
-        ..NONE
-    };
-    let found = found_in(rt, alloc, &parts, line, NOW, 600)?;
-    same(rt, &(pattern, line), &Some(found), &wanted(want));
-    Ok(())
-}
-
 /// Rows of a pattern, a line, and what is found.
 fn are_found(rt: &impl Abort, alloc: Global, rows: &[(&str, &str, &str)]) -> Result<(), NoMemory> {
-    for (pattern, line, want) in rows {
-        is_found(rt, alloc, pattern, line, want)?;
+    for &(pattern, line, want) in rows {
+        let parts = Parts {
+            dated: Dated::NoDate,
+            fail: pattern,
+            ..NONE
+        };
+        let found = found_in(rt, alloc, &parts, line, NOW, 600)?;
+        same(rt, (pattern, line), Some(found), wanted(want));
     }
     Ok(())
 }

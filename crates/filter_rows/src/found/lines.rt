@@ -92,8 +92,8 @@ fn are_found(
     ignore: &IgnoreSet,
     rows: &[(&str, Finding)],
 ) -> Result<(), NoMemory> {
-    for (line, finding) in rows {
-        same(rt, line, &searcher.found(ignore, line, NOW, 600)?, finding);
+    for &(line, finding) in rows {
+        same(rt, line, searcher.found(ignore, line, NOW, 600)?, finding);
     }
     Ok(())
 }
@@ -111,21 +111,11 @@ fn filter_finds(
     are_found(rt, &mut searcher, &ignore, rows)
 }
 
-/// The same, of the filter of a jail.
-fn jail_finds(
-    rt: &impl Abort,
-    alloc: Global,
-    parts: &Parts<'_>,
-    masks: &str,
-    rows: &[(&str, Finding)],
-) -> Result<(), NoMemory> {
-    let filter = filter(rt, alloc, parts)?;
-    filter_finds(rt, alloc, &filter, masks, rows)
-}
-
 #[test]
 fn lines_of_sshd(rt: HostRuntime) -> Result<(), NoMemory> {
-    jail_finds(&rt, rt.alloc(), &SSHD, "10.0.0.0/8\n::1", &LINES_OF_SSHD)
+    let filter = filter(&rt, rt.alloc(), &SSHD)?;
+    let masks = "10.0.0.0/8\n::1";
+    filter_finds(&rt, rt.alloc(), &filter, masks, &LINES_OF_SSHD)
 }
 
 const LINE: &str = "1700000100 fail from 192.0.2.7";
@@ -188,18 +178,6 @@ const TIMES: [(&str, u64, u64, Finding); 8] = [
     (EARLY, 600, 600, Finding::TooOld(1)),
 ];
 
-fn found_then(
-    rt: &impl Abort,
-    searcher: &mut Searcher<'_>,
-    ignore: &IgnoreSet,
-    line: &str,
-    now: u64,
-    findtime: u64,
-) -> Result<Finding, NoMemory> {
-    is_so(rt, line, now <= LAST_MOMENT);
-    searcher.found(ignore, line, now, findtime)
-}
-
 /// Rows of a line, now, a findtime, and what a searcher finds in the line.
 fn are_found_then(
     rt: &impl Abort,
@@ -207,9 +185,10 @@ fn are_found_then(
     ignore: &IgnoreSet,
     rows: &[(&str, u64, u64, Finding)],
 ) -> Result<(), NoMemory> {
-    for (line, now, findtime, finding) in rows {
-        let found = found_then(rt, searcher, ignore, line, *now, *findtime)?;
-        same(rt, &(line, now), &found, finding);
+    for &(line, now, findtime, finding) in rows {
+        is_so(rt, line, now <= LAST_MOMENT);
+        let found = searcher.found(ignore, line, now, findtime)?;
+        same(rt, (line, now), found, finding);
     }
     Ok(())
 }
@@ -320,32 +299,21 @@ const PREFIXES: [(&str, &str, Finding); 4] = [
     ),
 ];
 
-fn is_found_behind(
-    rt: &impl Abort,
-    alloc: Global,
-    pref: &str,
-    line: &str,
-    finding: &Finding,
-) -> Result<(), NoMemory> {
-    let parts = Parts {
-        dated: Dated::NoDate,
-        pref,
-        fail: "^from <HOST>$",
-        ..NONE
-    };
-    let found = found_in(rt, alloc, &parts, line, NOW, 600)?;
-    same(rt, &(pref, line), &found, finding);
-    Ok(())
-}
-
 /// Rows of a pattern that comes first, a line, and what is found.
 fn are_found_behind(
     rt: &impl Abort,
     alloc: Global,
     rows: &[(&str, &str, Finding)],
 ) -> Result<(), NoMemory> {
-    for (pref, line, finding) in rows {
-        is_found_behind(rt, alloc, pref, line, finding)?;
+    for &(pref, line, finding) in rows {
+        let parts = Parts {
+            dated: Dated::NoDate,
+            pref,
+            fail: "^from <HOST>$",
+            ..NONE
+        };
+        let found = found_in(rt, alloc, &parts, line, NOW, 600)?;
+        same(rt, (pref, line), found, finding);
     }
     Ok(())
 }
