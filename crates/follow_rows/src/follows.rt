@@ -79,19 +79,10 @@ fn write_step(text: &mut String, step: &Step) -> Result<(), NoMemory> {
     Ok(())
 }
 
-fn step_of(
-    alloc: Global,
-    follower: &mut Follower,
-    file: &[u8],
-    most: usize,
-) -> Result<Step, NoMemory> {
-    let look = look_at(alloc, follower.ask(), file, most)?;
-    follower.take(alloc, &look)
-}
-
 /// Looks once at no more than so many bytes, and writes what came.
 fn look_on(alloc: Global, scene: &mut Scene, file: &[u8], most: usize) -> Result<(), NoMemory> {
-    let step = step_of(alloc, &mut scene.follower, file, most)?;
+    let look = look_at(alloc, scene.follower.ask(), file, most)?;
+    let step = scene.follower.take(alloc, &look)?;
     write_step(&mut scene.text, &step)
 }
 
@@ -105,15 +96,7 @@ fn look_at_each(alloc: Global, scene: &mut Scene, files: &[&[u8]]) -> Result<(),
 }
 
 fn has_told(rt: &impl Abort, scene: &Scene, wanted: &str) {
-    same(rt, &"told", &scene.text.as_str(), &wanted);
-}
-
-/// The looks at these files bring that.
-fn is_told(rt: &impl Abort, alloc: Global, files: &[&[u8]], wanted: &str) -> Result<(), NoMemory> {
-    let mut scene = from_start(alloc)?;
-    look_at_each(alloc, &mut scene, files)?;
-    has_told(rt, &scene, wanted);
-    Ok(())
+    same(rt, "told", scene.text.as_str(), wanted);
 }
 
 const FAILURE: &[u8] = b"1700000100 fail from 192.0.2.7\r\n";
@@ -144,30 +127,24 @@ fn is_at(
     beginning: &[u8],
 ) -> Result<(), NoMemory> {
     let place = follower.place(alloc)?;
-    same(
-        rt,
-        &"place",
-        &position_of(&place),
-        &Some((bytes, beginning)),
-    );
+    same(rt, "place", position_of(&place), Some((bytes, beginning)));
     Ok(())
-}
-
-fn comes_in_five(rt: &impl Abort, alloc: Global, scene: &mut Scene) -> Result<(), NoMemory> {
-    look_at_parts(alloc, scene, &[8, 20, 30, 31, 32])?;
-    has_told(rt, scene, ";;;;1700000100 fail from 192.0.2.7|;");
-    is_at(rt, alloc, &scene.follower, 32, FAILURE)
 }
 
 #[test]
 fn a_line_in_five_looks(rt: HostRuntime) -> Result<(), NoMemory> {
-    comes_in_five(&rt, rt.alloc(), &mut from_start(rt.alloc())?)
+    let mut scene = from_start(rt.alloc())?;
+    look_at_parts(rt.alloc(), &mut scene, &[8, 20, 30, 31, 32])?;
+    has_told(&rt, &scene, ";;;;1700000100 fail from 192.0.2.7|;");
+    is_at(&rt, rt.alloc(), &scene.follower, 32, FAILURE)
 }
 
 /// Rows of files, and what the looks at them bring.
 fn are_told(rt: &impl Abort, alloc: Global, rows: &[(&[&[u8]], &str)]) -> Result<(), NoMemory> {
-    for (files, wanted) in rows {
-        is_told(rt, alloc, files, wanted)?;
+    for &(files, wanted) in rows {
+        let mut scene = from_start(alloc)?;
+        look_at_each(alloc, &mut scene, files)?;
+        has_told(rt, &scene, wanted);
     }
     Ok(())
 }
@@ -213,9 +190,9 @@ fn are_asked(
     scene: &mut Scene,
     rows: &[(&[u8], u64)],
 ) -> Result<(), NoMemory> {
-    for (file, from) in rows {
+    for &(file, from) in rows {
         look_on(alloc, scene, file, 65_536)?;
-        same(rt, file, &scene.follower.ask().from, from);
+        same(rt, file, scene.follower.ask().from, from);
     }
     Ok(())
 }
@@ -240,19 +217,6 @@ fn look_at_log(alloc: Global, scene: &mut Scene, count: usize, end: &[u8]) -> Re
     look_on(alloc, scene, &log, 65_536)
 }
 
-/// What the look at such a log brings has so many bytes.
-fn brings_so_many(
-    rt: &impl Abort,
-    alloc: Global,
-    scene: &mut Scene,
-    end: &[u8],
-    wanted: usize,
-) -> Result<(), NoMemory> {
-    look_at_log(alloc, scene, 64, end)?;
-    same(rt, &end, &scene.text.as_str().len(), &wanted);
-    Ok(())
-}
-
 /// The look at such a log brings that alone.
 fn brings(
     rt: &impl Abort,
@@ -268,45 +232,30 @@ fn brings(
     Ok(())
 }
 
-fn are_told_apart(rt: &impl Abort, alloc: Global, scene: &mut Scene) -> Result<(), NoMemory> {
-    look_at_log(alloc, scene, 70, b"")?;
-    // The line of 70 bytes and a bar.
-    brings_so_many(rt, alloc, scene, b"bbbbbb\n", 71)?;
-    brings(rt, alloc, scene, 63, b"bbbbbbb\n", "(rotated)")
-}
-
 #[test]
 fn only_the_first_64_bytes_tell_logs_apart(rt: HostRuntime) -> Result<(), NoMemory> {
-    are_told_apart(&rt, rt.alloc(), &mut from_start(rt.alloc())?)
-}
-
-/// A follower is placed at the end of a log of a hundred bytes.
-fn is_placed(rt: &impl Abort, alloc: Global, scene: &mut Scene) -> Result<(), NoMemory> {
-    same(rt, &"from", &scene.follower.ask().from, &0);
-    brings(rt, alloc, scene, 100, b"", "(placed)")
+    let mut scene = from_start(rt.alloc())?;
+    look_at_log(rt.alloc(), &mut scene, 70, b"")?;
+    look_at_log(rt.alloc(), &mut scene, 64, b"bbbbbb\n")?;
+    // The line of 70 bytes and a bar.
+    same(&rt, "line", scene.text.as_str().len(), 71);
+    brings(&rt, rt.alloc(), &mut scene, 63, b"bbbbbbb\n", "(rotated)")
 }
 
 /// A follower that was placed at the end of a log of a hundred bytes.
 fn placed(rt: &impl Abort, alloc: Global) -> Result<Scene, NoMemory> {
     let mut scene = scene_at(alloc, &Place::Tail)?;
-    is_placed(rt, alloc, &mut scene)?;
+    same(rt, "from", scene.follower.ask().from, 0);
+    brings(rt, alloc, &mut scene, 100, b"", "(placed)")?;
     Ok(scene)
-}
-
-fn goes_on_from_its_end(rt: &impl Abort, alloc: Global, scene: &Scene) -> Result<(), NoMemory> {
-    let ask = scene.follower.ask();
-    same(
-        rt,
-        &"ask",
-        &(ask.head, ask.from, ask.max),
-        &(64, 100, 65_536),
-    );
-    is_at(rt, alloc, &scene.follower, 100, &[b'a'; 64])
 }
 
 #[test]
 fn a_log_is_followed_from_its_end(rt: HostRuntime) -> Result<(), NoMemory> {
-    goes_on_from_its_end(&rt, rt.alloc(), &placed(&rt, rt.alloc())?)
+    let scene = placed(&rt, rt.alloc())?;
+    let ask = scene.follower.ask();
+    same(&rt, "ask", (ask.head, ask.from, ask.max), (64, 100, 65_536));
+    is_at(&rt, rt.alloc(), &scene.follower, 100, &[b'a'; 64])
 }
 
 /// A follower that begins at the place of another one.
@@ -315,20 +264,13 @@ fn again(alloc: Global, follower: &Follower) -> Result<Scene, NoMemory> {
     scene_at(alloc, &place)
 }
 
-fn bring_what_came(rt: &impl Abort, alloc: Global, scene: &mut Scene) -> Result<(), NoMemory> {
-    brings(rt, alloc, scene, 100, b"yes\nno", "yes|")
-}
-
-/// What came behind its end is a line, also for who begins again at the place that was kept.
-fn goes_on_again(rt: &impl Abort, alloc: Global, scene: &mut Scene) -> Result<(), NoMemory> {
-    let mut other = again(alloc, &scene.follower)?;
-    bring_what_came(rt, alloc, scene)?;
-    bring_what_came(rt, alloc, &mut other)
-}
-
+// What came behind its end is a line, also for who begins again at the place that was kept.
 #[test]
 fn a_log_is_followed_on_from_its_end(rt: HostRuntime) -> Result<(), NoMemory> {
-    goes_on_again(&rt, rt.alloc(), &mut placed(&rt, rt.alloc())?)
+    let mut scene = placed(&rt, rt.alloc())?;
+    let mut other = again(rt.alloc(), &scene.follower)?;
+    brings(&rt, rt.alloc(), &mut scene, 100, b"yes\nno", "yes|")?;
+    brings(&rt, rt.alloc(), &mut other, 100, b"yes\nno", "yes|")
 }
 
 /// Looks at so many bytes of a log, one after the other, with an extra look at each.
@@ -347,21 +289,7 @@ fn look_in_parts(
     Ok(())
 }
 
-/// The lines of a log that grows in three parts are these.
-fn is_whole(
-    rt: &impl Abort,
-    alloc: Global,
-    log: &[u8],
-    ends: &[usize],
-    wanted: &str,
-) -> Result<(), NoMemory> {
-    let mut scene = from_start(alloc)?;
-    look_in_parts(alloc, &mut scene, log, ends, 2)?;
-    same(rt, &ends, &scene.text.as_str(), &wanted);
-    Ok(())
-}
-
-/// The lines of a log are these wherever it is cut behind its first part.
+/// The lines of a log that grows in three parts are these, wherever it is cut behind its first part.
 fn are_whole_from(
     rt: &impl Abort,
     alloc: Global,
@@ -370,7 +298,9 @@ fn are_whole_from(
     wanted: &str,
 ) -> Result<(), NoMemory> {
     for second in first..=log.len() {
-        is_whole(rt, alloc, log, &[first, second, log.len()], wanted)?;
+        let mut scene = from_start(alloc)?;
+        look_in_parts(alloc, &mut scene, log, &[first, second, log.len()], 2)?;
+        same(rt, (first, second), scene.text.as_str(), wanted);
     }
     Ok(())
 }
@@ -424,49 +354,27 @@ fn look_often(alloc: Global, scene: &mut Scene, log: &[u8], piece: usize) -> Res
     Ok(())
 }
 
-/// A log comes so by pieces of so many bytes.
-fn is_long(
-    rt: &impl Abort,
-    alloc: Global,
-    log: &[u8],
-    piece: usize,
-    wanted: &str,
-) -> Result<(), NoMemory> {
-    let mut scene = from_start(alloc)?;
-    look_often(alloc, &mut scene, log, piece)?;
-    same(rt, &(log.len(), piece), &scene.text.as_str(), &wanted);
-    Ok(())
-}
-
 /// A log comes so by pieces of these many bytes.
-fn is_long_in(
+fn is_long(
     rt: &impl Abort,
     alloc: Global,
     log: &[u8],
     pieces: &[usize],
     wanted: &str,
 ) -> Result<(), NoMemory> {
-    for piece in pieces {
-        is_long(rt, alloc, log, *piece, wanted)?;
+    for &piece in pieces {
+        let mut scene = from_start(alloc)?;
+        look_often(alloc, &mut scene, log, piece)?;
+        same(rt, (log.len(), piece), scene.text.as_str(), wanted);
     }
     Ok(())
-}
-
-fn is_long_line(
-    rt: &impl Abort,
-    alloc: Global,
-    line: usize,
-    end: &[u8],
-    wanted: &str,
-) -> Result<(), NoMemory> {
-    let log = long_log(alloc, line, end)?;
-    is_long_in(rt, alloc, &log, &[65_536, 65_535, 50_000], wanted)
 }
 
 /// Rows of the bytes of a line, what stands behind it, and what comes.
 fn are_long(rt: &impl Abort, alloc: Global, rows: &[(usize, &[u8], &str)]) -> Result<(), NoMemory> {
     for &(line, end, wanted) in rows {
-        is_long_line(rt, alloc, line, end, wanted)?;
+        let log = long_log(alloc, line, end)?;
+        is_long(rt, alloc, &log, &[65_536, 65_535, 50_000], wanted)?;
     }
     Ok(())
 }

@@ -9,7 +9,7 @@ use std::process::Abort;
 /// Rows of a pattern, a name, and whether it stands for it.
 fn are_matched(rt: &impl Abort, rows: &[(&str, &str, bool)]) {
     for &(pattern, name, wanted) in rows {
-        same(rt, &(pattern, name), &glob_match(pattern, name), &wanted);
+        same(rt, (pattern, name), glob_match(pattern, name), wanted);
     }
 }
 
@@ -51,17 +51,12 @@ fn repeated(alloc: Global, text: &str, end: &str) -> Result<String, NoMemory> {
     Ok(all)
 }
 
-/// Whether 200 stars with this behind them stand for a name of a thousand letters.
-fn do_stars_match(alloc: Global, end: &str) -> Result<bool, NoMemory> {
-    let pattern = repeated(alloc, "a*", end)?;
+/// Rows of what stands behind 200 stars, and whether they stand for a name of a thousand letters.
+fn do_stars_match(rt: &impl Abort, alloc: Global, rows: &[(&str, bool)]) -> Result<(), NoMemory> {
     let name = repeated(alloc, "aaaaa", "")?;
-    Ok(glob_match(pattern.as_str(), name.as_str()))
-}
-
-/// Rows of what stands behind many stars, and whether they stand for a name.
-fn do_all_match(rt: &impl Abort, alloc: Global, rows: &[(&str, bool)]) -> Result<(), NoMemory> {
-    for (end, wanted) in rows {
-        same(rt, end, &do_stars_match(alloc, end)?, wanted);
+    for &(end, wanted) in rows {
+        let pattern = repeated(alloc, "a*", end)?;
+        same(rt, end, glob_match(pattern.as_str(), name.as_str()), wanted);
     }
     Ok(())
 }
@@ -70,7 +65,7 @@ const STARS: [(&str, bool); 2] = [("", true), ("b", false)];
 
 #[test]
 fn many_stars_take_no_long_time(rt: HostRuntime) -> Result<(), NoMemory> {
-    do_all_match(&rt, rt.alloc(), &STARS)
+    do_stars_match(&rt, rt.alloc(), &STARS)
 }
 
 fn watch_of(alloc: Global, path: &str) -> Result<WatchDef, NoMemory> {
@@ -105,27 +100,21 @@ fn shown(alloc: Global, watches: &[WatchDef]) -> Result<String, NoMemory> {
     Ok(text)
 }
 
-/// A row of a path, the names that are listed, and what it stands for.
-fn is_expanded(
-    rt: &impl Abort,
-    alloc: Global,
-    path: &str,
-    names: &[&str],
-    wanted: &str,
-) -> Result<(), NoMemory> {
+/// The paths that a path stands for where these names are listed, with a bar behind each.
+fn told(alloc: Global, path: &str, names: &[&str]) -> Result<String, NoMemory> {
     let watches = expanded(alloc, path, names)?;
-    let text = shown(alloc, watches.as_slice())?;
-    same(rt, &path, &text.as_str(), &wanted);
-    Ok(())
+    shown(alloc, watches.as_slice())
 }
 
+/// Rows of a path, the names that are listed, and what it stands for.
 fn are_expanded(
     rt: &impl Abort,
     alloc: Global,
     rows: &[(&str, &[&str], &str)],
 ) -> Result<(), NoMemory> {
     for &(path, names, wanted) in rows {
-        is_expanded(rt, alloc, path, names, wanted)?;
+        let text = told(alloc, path, names)?;
+        same(rt, path, text.as_str(), wanted);
     }
     Ok(())
 }
@@ -145,22 +134,10 @@ const PATHS: [(&str, &[&str], &str); 6] = [
 
 const MANY: [&str; 70] = ["x"; 70];
 
-/// A path stands for logs whose paths have so many bytes, with a bar behind each.
-fn is_expanded_to(
-    rt: &impl Abort,
-    alloc: Global,
-    path: &str,
-    names: &[&str],
-    wanted: usize,
-) -> Result<(), NoMemory> {
-    let watches = expanded(alloc, path, names)?;
-    let text = shown(alloc, watches.as_slice())?;
-    same(rt, &path, &text.as_str().len(), &wanted);
-    Ok(())
-}
-
 #[test]
 fn a_path_stands_for_logs(rt: HostRuntime) -> Result<(), NoMemory> {
     are_expanded(&rt, rt.alloc(), &PATHS)?;
-    is_expanded_to(&rt, rt.alloc(), "/*", &MANY, 64 * 3)
+    let many = told(rt.alloc(), "/*", &MANY)?;
+    same(&rt, "many", many.as_str().len(), 64 * 3);
+    Ok(())
 }

@@ -87,16 +87,12 @@ fn action_of(alloc: Global, name: Text, ban: Text) -> ActionDef {
     }
 }
 
-/// An action with this command.
-fn action(alloc: Global, ban: &str) -> Result<ActionDef, NoMemory> {
+/// One action with this command.
+fn actions(alloc: Global, ban: &str) -> Result<Seq<ActionDef>, NoMemory> {
     let name = Text::from_str(alloc, "note")?;
     let ban = Text::from_str(alloc, ban)?;
-    Ok(action_of(alloc, name, ban))
-}
-
-fn actions(alloc: Global, ban: &str) -> Result<Seq<ActionDef>, NoMemory> {
     let mut actions = Seq::new(alloc);
-    actions.push(action(alloc, ban)?)?;
+    actions.push(action_of(alloc, name, ban))?;
     Ok(actions)
 }
 
@@ -294,7 +290,7 @@ fn is_told(
     want: &str,
 ) -> Result<(), NoMemory> {
     let text = told(rt, alloc, set, place, file)?;
-    same(rt, &(place, file), &text.as_str(), &want);
+    same(rt, (place, file), text.as_str(), want);
     Ok(())
 }
 
@@ -317,17 +313,13 @@ fn is_told_of_a_long_line(
 ) -> Result<(), NoMemory> {
     let file = long_line(alloc, count)?;
     let text = told(rt, alloc, set, 0, file.as_str())?;
-    same(rt, &count, &text.len(), &want);
+    same(rt, count, text.len(), want);
     Ok(())
-}
-
-fn masks_of(alloc: Global, masks: &[Cidr]) -> Result<Seq<Cidr>, NoMemory> {
-    Ok(Seq::from(masks.to_vec(alloc)?))
 }
 
 fn ignore(alloc: Global, set: &mut LogSet<'_>, jail: Jail, masks: &[Cidr]) -> Result<(), NoMemory> {
     let jail = name_of(alloc, jail)?;
-    let masks = masks_of(alloc, masks)?;
+    let masks = Seq::from(masks.to_vec(alloc)?);
     set.set_ignore(alloc, &jail, &masks)
 }
 
@@ -362,7 +354,7 @@ fn paths(alloc: Global, set: &LogSet<'_>) -> Result<String, NoMemory> {
 
 fn has_paths(rt: &impl Abort, alloc: Global, set: &LogSet<'_>, want: &str) -> Result<(), NoMemory> {
     let text = paths(alloc, set)?;
-    same(rt, &"paths", &text.as_str(), &want);
+    same(rt, "paths", text.as_str(), want);
     Ok(())
 }
 
@@ -400,7 +392,7 @@ fn take_step(
         Step::Findtime(jail, secs) => return set_findtime(alloc, set, jail, secs),
         Step::Idle(jail, idle) => return set_idle(alloc, set, jail, idle),
         Step::Paths(want) => return has_paths(rt, alloc, set, want),
-        Step::Jails(want) => same(rt, &"jails", &set.jails(), &want),
+        Step::Jails(want) => same(rt, "jails", set.jails(), want),
     }
     Ok(())
 }
@@ -424,19 +416,9 @@ fn set_of<'f>(alloc: Global, jails: &'f Jails, logs: &[Log]) -> Result<LogSet<'f
     Ok(set)
 }
 
-fn play_in(
-    rt: &impl Abort,
-    alloc: Global,
-    jails: &Jails,
-    logs: &[Log],
-    steps: &[Step],
-) -> Result<(), NoMemory> {
-    let mut set = set_of(alloc, jails, logs)?;
-    take_steps(rt, alloc, &mut set, steps)
-}
-
 /// Follows logs of the two jails from their start, and takes the steps.
 fn play(rt: &impl Abort, alloc: Global, logs: &[Log], steps: &[Step]) -> Result<(), NoMemory> {
     let jails = two_jails(rt, alloc)?;
-    play_in(rt, alloc, &jails, logs, steps)
+    let mut set = set_of(alloc, &jails, logs)?;
+    take_steps(rt, alloc, &mut set, steps)
 }

@@ -12,17 +12,13 @@ fn last_of(addr: Addr) -> u32 {
     }
 }
 
-/// A failure: the last number of its address, its time past 1,700,000,000, and its line.
-fn failure_text(alloc: Global, failure: &Failure) -> Result<String, NoMemory> {
-    let last = last_of(failure.addr);
-    let time = failure.time.saturating_sub(1_700_000_000);
-    let line = failure.line.as_str();
-    Ok(format!(in alloc; " {last}@{time}[{line}]")?)
-}
-
+/// Writes failures: of each the last number of its address, its time past 1,700,000,000, and its line.
 fn write_failures(alloc: Global, text: &mut String, failures: &[Failure]) -> Result<(), NoMemory> {
     for failure in failures {
-        let shown = failure_text(alloc, failure)?;
+        let last = last_of(failure.addr);
+        let time = failure.time.saturating_sub(1_700_000_000);
+        let line = failure.line.as_str();
+        let shown = format!(in alloc; " {last}@{time}[{line}]")?;
         text.push_str(shown.as_str())?;
     }
     Ok(())
@@ -60,19 +56,14 @@ fn write_what(alloc: Global, text: &mut String, what: &What) -> Result<(), NoMem
     Ok(())
 }
 
-fn write_taken(alloc: Global, text: &mut String, taken: &Taken) -> Result<(), NoMemory> {
-    if taken.rotated {
-        text.push_str("rotated ")?;
-    }
-    match &taken.read {
-        Some(what) => write_what(alloc, text, what),
-        None => Ok(()),
-    }
-}
-
 /// What is taken of a look.
 pub(crate) fn shown(alloc: Global, taken: &Taken) -> Result<String, NoMemory> {
     let mut text = String::new(alloc);
-    write_taken(alloc, &mut text, taken)?;
+    if taken.rotated {
+        text.push_str("rotated ")?;
+    }
+    if let Some(what) = &taken.read {
+        write_what(alloc, &mut text, what)?;
+    }
     Ok(text)
 }
