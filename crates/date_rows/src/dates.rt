@@ -81,7 +81,7 @@ fn are_found(
     let mut searcher = dates.searcher(alloc)?;
     for &(line, now, zone, found) in rows {
         let saw = searcher.found(line, now, zone);
-        same(rt, &(line, now, zone), &saw, &wanted(found));
+        same(rt, (line, now, zone), saw, wanted(found));
     }
     Ok(())
 }
@@ -368,7 +368,7 @@ fn is_found_by(
 {
     let dates = built(rt, alloc, spec);
     let found = dates.find(alloc, THREE_FORMS, NOW, 0)?;
-    same(rt, spec, &found, &wanted(want));
+    same(rt, spec, found, wanted(want));
     Ok(())
 }
 
@@ -404,7 +404,7 @@ fn is_found_by_own(
     let (line, now, zone) = row;
     let dates = dates_of(rt, alloc, anchored, pattern)?;
     let found = dates.find(alloc, line, now, zone)?;
-    same(rt, &(pattern, row), &found, &wanted(want));
+    same(rt, (pattern, row), found, wanted(want));
     Ok(())
 }
 
@@ -566,8 +566,8 @@ fn dates_of_a_user_at_the_beginning(rt: HostRuntime) -> Result<(), NoMemory> {
 
 /// Texts that are date patterns, or are not.
 fn are_date_patterns(rt: &impl Abort, texts: &[&str], want: bool) {
-    for text in texts {
-        same(rt, text, &is_date_pattern(text), &want);
+    for &text in texts {
+        same(rt, text, is_date_pattern(text), want);
     }
 }
 
@@ -625,7 +625,7 @@ fn are_refused(
     rows: &[(&str, BuildError)],
 ) -> Result<(), NoMemory> {
     for &(text, error) in rows {
-        same(rt, &text, &refused(rt, alloc, text)?, &Some(error));
+        same(rt, text, refused(rt, alloc, text)?, Some(error));
     }
     Ok(())
 }
