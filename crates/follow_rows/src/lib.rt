@@ -12,4 +12,6 @@ mod follows;
 #[cfg(test)]
 mod names;
 #[cfg(test)]
+mod rows;
+#[cfg(test)]
 mod sets;

@@ -1,15 +1,15 @@
 //! Patterns, names and paths.
 
-use f2b_base::{Seq, Text, WatchDef};
+use crate::rows::same;
+use f2b_base::{NoMemory, Seq, Text, WatchDef};
 use log_follow::{expand_path, glob_match};
 use std::alloc::Global;
 use std::process::Abort;
-use std::test::Fail;
 
-// Rows of a pattern, a name, and whether it stands for it.
+/// Rows of a pattern, a name, and whether it stands for it.
 fn are_matched(rt: &impl Abort, rows: &[(&str, &str, bool)]) {
     for &(pattern, name, wanted) in rows {
-        assert_eq!(rt; glob_match(pattern, name), wanted, "{pattern} and {name}");
+        same(rt, (pattern, name), glob_match(pattern, name), wanted);
     }
 }
 
@@ -41,46 +41,80 @@ fn patterns_stand_for_names(rt: HostRuntime) {
     are_matched(&rt, &NAMES);
 }
 
-#[test]
-fn many_stars_take_no_long_time(rt: HostRuntime) -> Result<(), Fail> {
-    let mut pattern = String::new(rt.alloc());
-    let mut name = String::new(rt.alloc());
+/// That text 200 times, with this behind it.
+fn repeated(alloc: Global, text: &str, end: &str) -> Result<String, NoMemory> {
+    let mut all = String::new(alloc);
     for _ in 0..200 {
-        pattern.push_str("a*")?;
-        name.push_str("aaaaa")?;
+        all.push_str(text)?;
     }
-    assert!(rt; glob_match(pattern.as_str(), name.as_str()));
-    pattern.push('b')?;
-    assert!(rt; !glob_match(pattern.as_str(), name.as_str()));
+    all.push_str(end)?;
+    Ok(all)
+}
+
+/// Rows of what stands behind 200 stars, and whether they stand for a name of a thousand letters.
+fn do_stars_match(rt: &impl Abort, alloc: Global, rows: &[(&str, bool)]) -> Result<(), NoMemory> {
+    let name = repeated(alloc, "aaaaa", "")?;
+    for &(end, wanted) in rows {
+        let pattern = repeated(alloc, "a*", end)?;
+        same(rt, end, glob_match(pattern.as_str(), name.as_str()), wanted);
+    }
     Ok(())
 }
 
-// The paths that a path stands for, with a bar behind each.
-fn expanded(alloc: Global, path: &str, names: &[&str]) -> Result<String, Fail> {
-    let watch = WatchDef {
+const STARS: [(&str, bool); 2] = [("", true), ("b", false)];
+
+#[test]
+fn many_stars_take_no_long_time(rt: HostRuntime) -> Result<(), NoMemory> {
+    do_stars_match(&rt, rt.alloc(), &STARS)
+}
+
+fn watch_of(alloc: Global, path: &str) -> Result<WatchDef, NoMemory> {
+    Ok(WatchDef {
         path: Text::from_str(alloc, path)?,
         tail: true,
-    };
-    let mut listed = Seq::new(alloc);
+    })
+}
+
+fn texts(alloc: Global, names: &[&str]) -> Result<Seq<Text>, NoMemory> {
+    let mut texts = Seq::new(alloc);
     for name in names {
-        listed.push(Text::from_str(alloc, name)?)?;
+        texts.push(Text::from_str(alloc, name)?)?;
     }
+    Ok(texts)
+}
+
+/// What a path stands for where these names are listed.
+fn expanded(alloc: Global, path: &str, names: &[&str]) -> Result<Seq<WatchDef>, NoMemory> {
+    let watch = watch_of(alloc, path)?;
+    let listed = texts(alloc, names)?;
+    expand_path(alloc, &watch, &listed)
+}
+
+/// The paths, with a bar behind each.
+fn shown(alloc: Global, watches: &[WatchDef]) -> Result<String, NoMemory> {
     let mut text = String::new(alloc);
-    for watch in expand_path(alloc, &watch, &listed)?.as_slice() {
+    for watch in watches {
         text.push_str(watch.path.as_str())?;
         text.push(if watch.tail { '|' } else { '-' })?;
     }
     Ok(text)
 }
 
-// Rows of a path, the names that are listed, and what it stands for.
+/// The paths that a path stands for where these names are listed, with a bar behind each.
+fn told(alloc: Global, path: &str, names: &[&str]) -> Result<String, NoMemory> {
+    let watches = expanded(alloc, path, names)?;
+    shown(alloc, watches.as_slice())
+}
+
+/// Rows of a path, the names that are listed, and what it stands for.
 fn are_expanded(
     rt: &impl Abort,
     alloc: Global,
     rows: &[(&str, &[&str], &str)],
-) -> Result<(), Fail> {
+) -> Result<(), NoMemory> {
     for &(path, names, wanted) in rows {
-        assert_eq!(rt; expanded(alloc, path, names)?.as_str(), wanted);
+        let text = told(alloc, path, names)?;
+        same(rt, path, text.as_str(), wanted);
     }
     Ok(())
 }
@@ -101,8 +135,9 @@ const PATHS: [(&str, &[&str], &str); 6] = [
 const MANY: [&str; 70] = ["x"; 70];
 
 #[test]
-fn a_path_stands_for_logs(rt: HostRuntime) -> Result<(), Fail> {
+fn a_path_stands_for_logs(rt: HostRuntime) -> Result<(), NoMemory> {
     are_expanded(&rt, rt.alloc(), &PATHS)?;
-    assert_eq!(rt; expanded(rt.alloc(), "/*", &MANY)?.as_str().len(), 64 * 3);
+    let many = told(rt.alloc(), "/*", &MANY)?;
+    same(&rt, "many", many.as_str().len(), 64 * 3);
     Ok(())
 }
