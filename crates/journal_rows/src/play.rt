@@ -85,6 +85,14 @@ fn and_input(stored: Stored, input: &Input) -> Stored {
     }
 }
 
+// The same, or none where there is no input.
+fn and_input_if(stored: Stored, input: &Option<Input>) -> Option<Stored> {
+    match input {
+        Some(input) => Some(and_input(stored, input)),
+        None => None,
+    }
+}
+
 // What a journal has stored but for its inputs.
 fn with_no_input(loaded: &Loaded) -> Stored {
     Stored {
@@ -105,10 +113,8 @@ fn with_next<D: Disk>(
     requires { AreThere inputs.old (D.stands disk.old).told }
     ensures { AreThere inputs.new (D.stands disk.new).told }
 {
-    match inputs.next(alloc, disk)? {
-        Some(input) => Ok(Some(and_input(stored, &input))),
-        None => Ok(None),
-    }
+    let input = inputs.next(alloc, disk)?;
+    Ok(and_input_if(stored, &input))
 }
 
 // The same with all inputs, of which no row has a thousand.

@@ -83,15 +83,20 @@ fn came_of(input: &Input) -> Came {
     }
 }
 
+fn came_next(next: &Next) -> Came {
+    match next {
+        Next::Input(input) => came_of(input),
+        Next::Closed => Came::Closed,
+        Next::Bad(at) => Came::Bad(*at),
+    }
+}
+
 fn next_came<D: Disk>(alloc: Global, disk: &mut D, reader: &mut SlotReader) -> Result<Came, Fault>
     requires { Shows reader.old.shown (D.stands disk.old).told }
     ensures { Shows reader.new.shown (D.stands disk.new).told }
 {
-    match reader.next(alloc, disk)? {
-        Next::Input(input) => Ok(came_of(&input)),
-        Next::Closed => Ok(Came::Closed),
-        Next::Bad(at) => Ok(Came::Bad(at)),
-    }
+    let next = reader.next(alloc, disk)?;
+    Ok(came_next(&next))
 }
 
 fn two_came<D: Disk>(alloc: Global, disk: &mut D, reader: SlotReader) -> Result<(Came, Came), Fault>
