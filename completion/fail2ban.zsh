@@ -101,7 +101,7 @@ _fail2ban_regex() {
     '--print-all-matched[all lines that are matched]' \
     '--print-all-ignored[all lines that are ignored]' \
     '--print-all-missed[all lines that are missed]' \
-    '-v[all matched lines, with pattern, address and time]' \
+    '-v[all matched lines, with pattern, address and time, and what may be wrong]' \
     '(-h --help)'{-h,--help}'[print the words]' \
     '(-V --version)'{-V,--version}'[print the version]' \
     ':log:_files' \
