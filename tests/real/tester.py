@@ -1,8 +1,9 @@
 """The pattern tester over real files: each way to end, and what it prints of the worked example."""
 
 import os
+import subprocess
 
-from room import Skipped, as_nobody, same, write
+from room import PATIENCE, Skipped, as_nobody, same, write
 
 LINE = "1700000000 fail from 192.0.2.7"
 PATTERN = "^ fail from <ADDR>$"
@@ -124,6 +125,32 @@ def test_is_refused(room):
     ends(room, 10, "ERROR Configuration too large\n", LINE, room.path("filter.d/x.conf"))
 
 
+def at_a_terminal(room, *words):
+    """What the tester writes to standard error where that is a terminal."""
+    if not room.tester:
+        raise Skipped("the proved program fail2ban_regex does not stand here")
+    controller, terminal = os.openpty()
+    try:
+        subprocess.run([room.tester, *words], stdout=subprocess.DEVNULL, stderr=terminal, timeout=PATIENCE, check=False)
+        os.write(terminal, b"end")
+        os.close(terminal)
+        return os.read(controller, 4096).decode()[: -len("end")]
+    finally:
+        os.close(controller)
+
+
+def who_sits_at_a_terminal_is_helped(room):
+    """where standard error is a terminal the tester says there where a pattern is at fault, and with -v how far a log was read"""
+    same(at_a_terminal(room), "fail2ban-regex --help lists the words\r\n", "no words")
+    wanted = "at byte 12 of the pattern, (?=:)$: there is no look-around"
+    same(at_a_terminal(room, LINE, "from <ADDR>(?=:)$")[: len(wanted)], wanted, "look-around")
+    same(at_a_terminal(room, LINE, PATTERN), "", "a report")
+    write(room.log, (63 * "x" + "\n") * 32_768)
+    said = at_a_terminal(room, "-v", room.log, PATTERN)
+    same(said, "\r1 MiB read\r2 MiB read\r" + 30 * " " + "\r", "a long log")
+    same(at_a_terminal(room, room.log, PATTERN), "", "a long log without details")
+
+
 def report_is_not_written(room):
     """where the report cannot be written the tester ends with status 9"""
     with open("/dev/full", "wb") as full:
@@ -137,5 +164,6 @@ CHECKS = [
     log_cannot_be_read,
     options_are_taken,
     test_is_refused,
+    who_sits_at_a_terminal_is_helped,
     report_is_not_written,
 ]

@@ -5,6 +5,7 @@ pub mod Counts
 pub mod Definitions
 pub mod Logs
 pub mod Outputs
+pub mod Patterns
 pub mod Readings
 pub mod Refusals
 pub mod Report

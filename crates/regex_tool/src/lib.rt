@@ -20,6 +20,7 @@ mod log;
 mod log_file;
 mod log_test;
 mod output;
+mod pattern;
 mod refusal;
 mod report;
 mod results;
@@ -34,5 +35,6 @@ mod words;
 mod zone;
 
 pub use kind::ToolKind;
+pub use pattern::{pattern_at, wants_detail};
 pub use status::ToolStatus;
 pub use tool::regex_tool;
