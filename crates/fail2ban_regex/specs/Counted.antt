@@ -1,14 +1,8 @@
--- How often each kind of fault came to the real files and to standard output.
+-- How often each kind of fault came to standard output.
 use Rattle.std.specs.Prelude.{ℕ}
-use Rattle.f2b_world.specs.Faults.{Fault, OfSink, OfPatterns, OfFiles}
+use Rattle.f2b_world.specs.Faults.{Fault, OfSink}
 
--- of files: reads that failed, and patterns that were too big
-abbrev pub of_files : (files patterns : ℕ) → Fault → ℕ
-of_files files patterns OfFiles = files
-of_files files patterns OfPatterns = patterns
-of_files files patterns _ = 0
-
--- of standard output
-abbrev pub of_sink : ℕ → Fault → ℕ
-of_sink count OfSink = count
-of_sink count _ = 0
+-- texts that could not be written
+abbrev pub counts : ℕ → Fault → ℕ
+counts count OfSink = count
+counts count _ = 0

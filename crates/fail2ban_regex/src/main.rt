@@ -1,8 +1,8 @@
 //! The program `fail2ban-regex`: tests a pattern or a filter on a log.
 //!
-//! What a test is, is in the crates below, over traits of the outside. Here stand these traits over the operating system, and the
-//! words that the program is called with. That files, the clock and standard output are what the system says they are is trusted.
-//! Nothing here knows what a test is.
+//! What a test is, is in the crates below, over traits of the outside, and the files of the operating system are in `real_files`. Here stand
+//! standard output and the words that the program is called with. That the clock and standard output are what the system says they are is
+//! trusted. Nothing here knows what a test is.
 //!
 //! ```text
 //! let mut output = Output::new(rt.clone()?);
@@ -11,15 +11,11 @@
 //! ```
 #![tactic(auto)]
 
-mod fault;
-mod files;
 mod output;
-mod regular;
-mod tree;
 mod words;
 
-use files::RealFiles;
 use output::Output;
+use real_files::RealFiles;
 use regex_tool::regex_tool;
 use std::alloc::{AllocError, AllocGlobal};
 use std::io::Print;

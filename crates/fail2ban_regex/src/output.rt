@@ -28,9 +28,9 @@ where
     R: Print + Drop,
 {
     ghost use Rattle.std.specs.Prelude.{None};
-    ghost use Rattle.fail2ban_regex.specs.Counted.{of_sink};
+    ghost use Rattle.fail2ban_regex.specs.Counted.{counts};
 
-    ghost stands = { λ w. record { told = None; talk = None; shelf = None; faults = of_sink w.faults } };
+    ghost stands = { λ w. record { told = None; talk = None; shelf = None; faults = counts w.faults } };
 }
 
 impl<R> Sink for Output<R>

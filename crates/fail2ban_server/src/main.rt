@@ -1,9 +1,8 @@
 //! The program `fail2ban-server`: the server on the operating system.
 //!
-//! What the server does is in the crates below, over traits of the outside. Here stand these traits over the operating system,
-//! and the words that the program is called with. Nothing here is told as a history: that files, the clock and standard output
-//! are what the system says they are is trusted. Nothing here knows what a call is made for, but for the words of help and the sentence
-//! for whoever sits at a terminal.
+//! What the server does is in the crates below, over traits of the outside, and these traits over the operating system are in `real_world`.
+//! Here stand the words that the program is called with, and what helps whoever sits at a terminal. Nothing here knows what a call is made
+//! for, but for the words of help and that sentence.
 //!
 //! ```text
 //! let mut world = RealWorld::new(rt, errors);
@@ -14,32 +13,14 @@
 #![tactic(auto)]
 
 mod advice;
-mod clock;
-mod commands;
-mod fault;
-mod look;
-mod names;
-mod output;
-mod real;
-mod regular;
-mod shell;
-#[cfg(test)]
-mod tests;
-mod tree;
-mod wait;
-mod watched;
 mod words;
 
 use advice::advice;
-use fault::Fault;
-use output::write_whole;
-use real::RealWorld;
+use real_files::Fault;
+use real_world::{RealWorld, has_standard_error, take_stream_numbers, write_whole};
 use server_top::server;
 use std::alloc::{AllocError, Global};
-use std::fs;
-use std::fs::File;
 use std::process::ExitCode;
-use std::rt::Stderr;
 use words::Call;
 
 /// The status where standard output cannot be written.
@@ -55,50 +36,28 @@ fn main(rt: HostRuntime) -> ExitCode {
     ExitCode::from(match words::read_call(&rt) {
         Ok(Call::Help) => print(&rt, words::HELP),
         Ok(Call::Version) => print(&rt, words::VERSION),
-        Ok(Call::Server(words)) => {
-            let alloc = rt.alloc();
-            let errors = standard_error(&rt);
-            let _numbers = match take_numbers(&rt) {
-                Ok(numbers) => numbers,
-                Err(Fault::NoMemory) => return ExitCode::from(NO_MEMORY),
-                Err(Fault::Absent | Fault::Failed) => return ExitCode::from(SINK_FAULT),
-            };
-            let mut world = RealWorld::new(rt, errors);
-            let status = server(alloc, words.as_slice(), &mut world);
-            world.end_gate();
-            world.end_commands();
-            if let Some(sentence) = advice(&status) {
-                world.advise(sentence);
-            }
-            status.number()
-        }
+        Ok(Call::Server(words)) => serve(rt, words.as_slice()),
         Err(_) => NO_MEMORY,
     })
 }
 
-/// What has the numbers of standard streams that the server was started without.
-#[derive(Drop)]
-struct Numbers {
-    first: File,
-    second: File,
-    third: File,
-}
-
-/// Takes the numbers of standard streams that the server was started without, as long as the value stands: else a file of the journal would
-/// get one of them, and what is said would be written there. To what has them then nothing can be written.
-fn take_numbers(rt: &HostRuntime) -> Result<Numbers, Fault> {
-    Ok(Numbers {
-        first: File::open(rt, "/dev/null")?,
-        second: File::open(rt, "/dev/null")?,
-        third: File::open(rt, "/dev/null")?,
-    })
-}
-
-/// Standard error for the commands, or `None` where the server was started without it: then another file may have its number.
-fn standard_error(rt: &HostRuntime) -> Option<Stderr> {
-    let is_open = fs::symlink_metadata(rt, "/proc/self/fd/2").is_ok();
-    let is_told = fs::symlink_metadata(rt, "/proc/self/fd").is_ok();
-    (is_open || !is_told).then_some(rt.stderr())
+/// Runs the server with these words, and gives its exit status.
+fn serve(rt: HostRuntime, words: &[String]) -> u8 {
+    let alloc = rt.alloc();
+    let errors = has_standard_error(&rt).then_some(rt.stderr());
+    let _numbers = match take_stream_numbers(&rt) {
+        Ok(numbers) => numbers,
+        Err(Fault::NoMemory) => return NO_MEMORY,
+        Err(Fault::Absent | Fault::Failed) => return SINK_FAULT,
+    };
+    let mut world = RealWorld::new(rt, errors);
+    let status = server(alloc, words, &mut world);
+    world.end_gate();
+    world.end_commands();
+    if let Some(sentence) = advice(&status) {
+        world.advise(sentence);
+    }
+    status.number()
 }
 
 /// Makes the C library keep memory that is freed: once a large block was freed, it hands less back to the system, which each
