@@ -36,7 +36,7 @@ fn find_names<R: Files + AllocGlobal + Clone + Drop>(
 }
 
 /// Adds the name of an entry, if that is text.
-fn add_name<R: Files>(
+fn add_name<R: Files + Drop>(
     alloc: Global,
     entry: io::Result<DirEntry<R>>,
     found: &mut Vec<String>,

@@ -149,13 +149,22 @@ fn walk_directory<R: Files + AllocGlobal + Clone + Drop>(
 {
     let place = joined(rt.alloc(), root, dir)?;
     for entry in fs::read_dir(rt, place.as_str())? {
-        match entry {
-            Ok(entry) => walk_entry(rt, dir, &entry, walk)?,
-            Err(e) if e.kind() == ErrorKind::InvalidFilename => {}
-            Err(e) => return Err(TreeFault::from(e)),
-        }
+        walk_found(rt, dir, entry, walk)?;
     }
     Ok(())
+}
+
+fn walk_found<R: Files + AllocGlobal + Drop>(
+    rt: &R,
+    dir: &str,
+    entry: io::Result<DirEntry<R>>,
+    walk: &mut Walk,
+) -> Result<(), TreeFault> {
+    match entry {
+        Ok(entry) => walk_entry(rt, dir, &entry, walk),
+        Err(e) if e.kind() == ErrorKind::InvalidFilename => Ok(()),
+        Err(e) => Err(TreeFault::from(e)),
+    }
 }
 
 fn walk_entry<R: Files + AllocGlobal>(

@@ -5,6 +5,7 @@ use crate::rows::same;
 use f2b_world::{Accept, Gate, GateRead, GateWrite, Listen, Time};
 use real_world::RealWorld;
 use std::io::Write;
+use std::net::Net;
 use std::os::unix::net::UnixStream;
 use std::process::Abort;
 use std::test::Fail;
@@ -19,7 +20,7 @@ fn listens(rt: &impl Abort, world: &mut RealWorld<HostRuntime>, path: &str, want
 
 /// A client of a world that listens at a path, and that takes it in under the number 0 behind a pause.
 fn connected(
-    rt: &HostRuntime,
+    rt: &(impl Abort + Net),
     world: &mut RealWorld<HostRuntime>,
     path: &str,
 ) -> Result<UnixStream, Fail> {

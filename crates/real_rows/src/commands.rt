@@ -8,13 +8,12 @@ use std::test::Fail;
 /// A pause ends as soon as the command does: its time would be longer than a test may take.
 const LONG: u32 = 1_000_000;
 
-/// A command ends so.
-fn ends(rt: &HostRuntime, text: &str, want: i32) -> Result<(), Fail> {
+/// Starts a command, pauses, and asks how it has ended.
+fn end_of(rt: &HostRuntime, text: &str) -> Result<(StartAnswer, PollAnswer), Fail> {
     let mut world = world_of(rt)?;
-    same(rt, text, world.child_start(7, text), StartAnswer::Started);
+    let started = world.child_start(7, text);
     world.pause(LONG);
-    same(rt, text, world.child_poll(7), PollAnswer::Ended(want));
-    Ok(())
+    Ok((started, world.child_poll(7)))
 }
 
 const ENDS: [(&str, i32); 4] = [
@@ -27,7 +26,8 @@ const ENDS: [(&str, i32); 4] = [
 #[test]
 fn tells_how_a_command_ended(rt: HostRuntime) -> Result<(), Fail> {
     for (text, want) in ENDS.as_slice() {
-        ends(&rt, text, *want)?;
+        let want = (StartAnswer::Started, PollAnswer::Ended(*want));
+        same(&rt, text, end_of(&rt, text)?, want);
     }
     Ok(())
 }

@@ -2,13 +2,12 @@
 
 use real_files::Fault;
 use std::fs;
-use std::fs::{File, OpenFile};
-use std::io::{Read, Seek, Write};
+use std::fs::File;
 use std::rt::Files;
 
 /// What has the numbers of standard streams that the program was started without.
 #[derive(Drop)]
-pub struct StreamNumbers<F: Read + Write + Seek + OpenFile + Drop> {
+pub struct StreamNumbers<F: Drop> {
     first: F,
     second: F,
     third: F,
