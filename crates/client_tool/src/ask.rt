@@ -1,9 +1,10 @@
 //! A request that is sent, and its reply.
-ghost use Rattle.std.specs.Prelude.{◌≡◌, Err, Some, false};
+ghost use Rattle.std.specs.Prelude.{◌≡◌, ◌&&◌, Err, Some, false, true};
 ghost use Rattle.client_frames.specs.Frames.{AreRequest, request};
 ghost use Rattle.client_frames.specs.declared.error.ReceiveError.TheVariants as error;
 ghost use Rattle.client_tool.specs.Asks.{Request};
-ghost use Rattle.client_tool.specs.Ends.{Ends, MayClose, is_said, status_of};
+ghost use Rattle.client_tool.specs.Ends.{Ends, MayTell, is_said, status_of};
+ghost use Rattle.client_tool.specs.declared.status.ClientStatus.TheVariants.{Done};
 ghost use Rattle.client_tool.specs.Lines.{reply_line};
 ghost use Rattle.client_tool.specs.Talks.{IsHeard, SendsAtMost, Talks};
 ghost use Rattle.f2b_world.specs.Faults.{OfLink, Rose};
@@ -38,32 +39,44 @@ fn exchange<L: Link>(
     receive_reply(alloc, link)
 }
 
-/// Says the reply to these words.
-fn tell<K: Sink>(alloc: Global, words: &Seq<Text>, answer: Answer, sink: &mut K) -> ClientStatus
-    ensures closes { MayClose (reply_line words.now answer) (status_of answer.accepted) (K.stands sink.old) (K.stands sink.new) result }
+/// Says the reply to these words, unless it accepts them and that is to be kept quiet.
+fn tell<K: Sink>(
+    alloc: Global,
+    quiet: bool,
+    words: &Seq<Text>,
+    answer: Answer,
+    sink: &mut K,
+) -> ClientStatus
+    ensures tells { MayTell (quiet && answer.accepted) (reply_line words.now answer) (status_of answer.accepted) (K.stands sink.old) (K.stands sink.new) result }
     ensures quiet { is_said result ≡ false → sink.new ≡ sink.old }
+    ensures hushed { quiet ≡ true → result ≡ Done → sink.new ≡ sink.old }
 {
     let status = ClientStatus::of_verdict(answer.accepted);
+    if quiet && answer.accepted {
+        return status;
+    }
     match reply_line(alloc, words, answer) {
         Ok(line) => say(sink, line.as_str(), status),
         Err(NoMemory) => ClientStatus::NoMemory,
     }
 }
 
-/// Asks the server at a path, and says its reply.
+/// Asks the server at a path, and says its reply, unless it accepts and that is to be kept quiet.
 pub(crate) fn ask<L: Link, K: Sink>(
     alloc: Global,
+    quiet: bool,
     socket: &str,
     words: &Seq<Text>,
     link: &mut L,
     sink: &mut K,
 ) -> ClientStatus
     requires { AreRequest words.now }
-    ensures ends { Ends (Some (Request socket.now words.now)) (L.stands link.old) (L.stands link.new) (K.stands sink.old) (K.stands sink.new) result }
+    ensures ends { Ends (Some (Request quiet socket.now words.now)) (L.stands link.old) (L.stands link.new) (K.stands sink.old) (K.stands sink.new) result }
     ensures quiet { is_said result ≡ false → sink.new ≡ sink.old }
+    ensures hushed { quiet ≡ true → result ≡ Done → sink.new ≡ sink.old }
 {
     match exchange(alloc, socket, words, link) {
-        Ok(answer) => tell(alloc, words, answer, sink),
+        Ok(answer) => tell(alloc, quiet, words, answer, sink),
         Err(error) => ClientStatus::of_failure(error),
     }
 }
