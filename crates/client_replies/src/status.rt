@@ -1,13 +1,12 @@
 //! Reports of jails.
 ghost use Rattle.std.specs.Prelude.{◌≡◌, ◌++◌, [], map, IfOk, OnOk};
-ghost use Rattle.std.specs.Option.{option_map_or};
 ghost use Rattle.f2b_base.specs.declared.view.JailView.{JailView};
 ghost use Rattle.f2b_model.specs.Views.{jail_view, spread};
 ghost use Rattle.f2b_model.specs.declared.jail_now.JailNow.{JailNow};
 ghost use Rattle.std.specs.Prelude.{max};
-ghost use Rattle.client_replies.specs.Refusals.{jail_in};
+ghost use Rattle.client_replies.specs.Meant.{bans_at};
 ghost use Rattle.client_replies.specs.Replies.{each_status, status_named, status_of_all};
-ghost use Rattle.client_replies.specs.Texts.{actions_text, banned_text, filter_text, jail_text, jails_text, status_of};
+ghost use Rattle.client_replies.specs.Texts.{actions_text, banned_text, filter_text, jail_text, jails_text};
 
 use crate::banned::bans_named;
 use crate::text::{joined, push_joined, push_titled_list, push_titled_number};
@@ -85,8 +84,33 @@ fn jail_text(
     Ok(reply)
 }
 
-/// Nine lines of the jail of a name, if there is one, at a moment, which is at least the core's own. The bans are those of a view.
-#[tactic(auto, using(crate::proofs::TextLemmas::nothing_shown, crate::proofs::TextLemmas::status_shown, crate::proofs::BannedLemmas::named_shown))]
+/// Nine lines of the jail of a name with these bans, if there is one, at a moment, which is at least the core's own.
+#[tactic(auto, using(crate::proofs::TextLemmas::nothing_shown, crate::proofs::TextLemmas::status_shown))]
+fn status_with(
+    alloc: Global,
+    core: &Core,
+    now: u64,
+    name: &Text,
+    bans: &Option<Seq<Ban>>,
+) -> Result<Text, NoMemory>
+    requires { bans.now ≡ bans_at core.now name.now }
+    ensures { IfOk result (λ text. text ≡ status_named (max core.now.jails.at now) core.now name.now) }
+{
+    let Some(definition) = core.jail(name.as_str()) else {
+        return Ok(Text::new(alloc));
+    };
+    let Some(totals) = core.totals(name.as_str()) else {
+        return Ok(Text::new(alloc));
+    };
+    let Some(bans) = bans else {
+        return Ok(Text::new(alloc));
+    };
+    let lately = core.failed_lately(name.as_str(), core.now().max(now));
+    jail_text(alloc, lately, definition, totals, bans)
+}
+
+/// Nine lines of the jail of a name, if there is one, whose bans a view of the core shows.
+#[tactic(auto, using(crate::proofs::BannedLemmas::bans_of_view))]
 fn status_in(
     alloc: Global,
     core: &Core,
@@ -97,17 +121,8 @@ fn status_in(
     requires { view.now ≡ spread core.now }
     ensures { IfOk result (λ text. text ≡ status_named (max core.now.jails.at now) core.now name.now) }
 {
-    let Some(definition) = core.jail(name.as_str()) else {
-        return Ok(Text::new(alloc));
-    };
-    let Some(totals) = core.totals(name.as_str()) else {
-        return Ok(Text::new(alloc));
-    };
-    let Some(bans) = bans_named(view.jails.as_slice(), name)? else {
-        return Ok(Text::new(alloc));
-    };
-    let lately = core.failed_lately(name.as_str(), core.now().max(now));
-    jail_text(alloc, lately, definition, totals, &bans)
+    let bans = bans_named(view.jails.as_slice(), name)?;
+    status_with(alloc, core, now, name, &bans)
 }
 
 /// Nine lines of the jail of a name, if there is one, at a moment, which is at least the core's own.

@@ -39,6 +39,13 @@ fn exchange<L: Link>(
     receive_reply(alloc, link)
 }
 
+/// Whether nothing is said of a reply: it accepts, and that is to be kept quiet.
+fn is_hushed(quiet: bool, accepted: bool) -> bool
+    ensures { result ≡ (quiet && accepted) }
+{
+    quiet && accepted
+}
+
 /// Says the reply to these words, unless it accepts them and that is to be kept quiet.
 fn tell<K: Sink>(
     alloc: Global,
@@ -52,7 +59,7 @@ fn tell<K: Sink>(
     ensures hushed { quiet ≡ true → result ≡ Done → sink.new ≡ sink.old }
 {
     let status = ClientStatus::of_verdict(answer.accepted);
-    if quiet && answer.accepted {
+    if is_hushed(quiet, answer.accepted) {
         return status;
     }
     match reply_line(alloc, words, answer) {
@@ -62,6 +69,7 @@ fn tell<K: Sink>(
 }
 
 /// Asks the server at a path, and says its reply, unless it accepts and that is to be kept quiet.
+#[tactic(auto, using(crate::proofs::AnswerLemmas::ends_told))]
 pub(crate) fn ask<L: Link, K: Sink>(
     alloc: Global,
     quiet: bool,

@@ -1,6 +1,6 @@
 //! The words that the client is called with.
-ghost use Rattle.std.specs.Prelude.{◌≡◌, ◌∷◌, false, map, option_map, string_bytes, true, IfOk};
-ghost use Rattle.client_tool.specs.Asks.{asks_by, asks_nothing, asks_of, behind_quiet, behind_socket, behind_str2sec, request_at, request_to, shown};
+ghost use Rattle.std.specs.Prelude.{◌≡◌, ◌∷◌, map, option_map, string_bytes, IfOk};
+ghost use Rattle.client_tool.specs.Asks.{asks_by, asks_of, behind_quiet, behind_socket, behind_str2sec, request_at, request_to, shown};
 
 use client_frames::are_request;
 use f2b_base::{NoMemory, Seq, Text};
@@ -54,6 +54,24 @@ fn request_at<'w>(
     Ok(None)
 }
 
+/// What is asked of the server at a path by words that begin with this one.
+fn request_by<'w>(
+    alloc: Global,
+    quiet: bool,
+    socket: &'w str,
+    first: &str,
+    rest: &[String],
+    words: &[String],
+) -> Result<Option<Asked<'w>>, NoMemory>
+    requires { map string_bytes words.now ≡ first.now ∷ map string_bytes rest.now }
+    ensures { IfOk result (λ asked. option_map shown asked ≡ request_to quiet socket.entry.now (first.now ∷ map string_bytes rest.now)) }
+{
+    if first == "-q" {
+        return request_at(alloc, true, socket, rest);
+    }
+    request_at(alloc, quiet, socket, words)
+}
+
 /// What is asked of the server at a path, perhaps behind `-q`.
 fn request_to<'w>(
     alloc: Global,
@@ -63,11 +81,10 @@ fn request_to<'w>(
 ) -> Result<Option<Asked<'w>>, NoMemory>
     ensures { IfOk result (λ asked. option_map shown asked ≡ request_to quiet socket.entry.now (map string_bytes words.now)) }
 {
-    match words {
-        [first, rest @ ..] if first.as_str() == "-q" => request_at(alloc, true, socket, rest),
-        [_, ..] => request_at(alloc, quiet, socket, words),
-        [] => Ok(None),
-    }
+    let [first, rest @ ..] = words else {
+        return Ok(None);
+    };
+    request_by(alloc, quiet, socket, first.as_str(), rest, words)
 }
 
 /// What is asked behind `-s`.
@@ -97,11 +114,21 @@ fn behind_str2sec<'w>(words: &[String]) -> Option<Asked<'w>>
     }
 }
 
-/// Whether a word asks for nothing.
-fn asks_nothing(word: &str) -> bool
-    ensures { result ≡ asks_nothing word.now }
+/// What is asked behind `-q` by words that begin with this one.
+fn quiet_by<'w>(
+    alloc: Global,
+    first: &str,
+    rest: &'w [String],
+    words: &'w [String],
+) -> Result<Option<Asked<'w>>, NoMemory>
+    requires { map string_bytes words.now ≡ first.now ∷ map string_bytes rest.now }
+    ensures { IfOk result (λ asked. option_map shown asked ≡ behind_quiet (first.now ∷ map string_bytes rest.entry.now)) }
 {
-    word == "-d" || word == "-t"
+    match first {
+        "-s" => behind_socket(alloc, true, rest),
+        "--str2sec" | "-d" | "-t" => Ok(None),
+        _ => request_at(alloc, true, USUAL_SOCKET, words),
+    }
 }
 
 /// What is asked behind `-q`.
@@ -111,14 +138,7 @@ fn behind_quiet(alloc: Global, words: &[String]) -> Result<Option<Asked<'_>>, No
     let [first, rest @ ..] = words else {
         return Ok(None);
     };
-    let first = first.as_str();
-    if first == "-s" {
-        return behind_socket(alloc, true, rest);
-    }
-    if first == "--str2sec" || asks_nothing(first) {
-        return Ok(None);
-    }
-    request_at(alloc, true, USUAL_SOCKET, words)
+    quiet_by(alloc, first.as_str(), rest, words)
 }
 
 /// What the words ask for that begin with this one.

@@ -1,14 +1,15 @@
 -- The verb by a third word, and by the first one.
-use Rattle.std.proofs.Common.{◌≡◌, ℕ, ◌-◌, ◌≤◌, Bool, List, [], ◌∷◌, length, get_or, take, drop, Option, Some, Result, Ok, sym, ap, ◌∙◌, arith}
+use Rattle.std.proofs.Common.{◌≡◌, ℕ, ◌-◌, ◌≤◌, Bool, List, [], ◌∷◌, length, get_or, take, drop, Option, Some, Result, Ok, refl, sym, ap, ◌∙◌, arith}
 use Rattle.std.proofs.lemmas.List.{take_rest}
 use Rattle.jail_conf.specs.Then.{◌>>=◌, ◌>>◌, or_refuse, refuse_if}
 use Rattle.client_words.specs.Verbs.{get_verb, has_unknown_switch, item_behind, items, named_in, plain_verb, set_verb, settings, verb_behind, verbs}
 use Rattle.client_words.specs.declared.error.CommandError.{CommandError}
 use Rattle.client_words.specs.declared.error.CommandError.TheVariants.{Unknown}
 use Rattle.client_words.specs.declared.verb.Item.{Item}
+use Rattle.client_words.specs.declared.verb.Item.TheVariants as get
 use Rattle.client_words.specs.declared.verb.Setting.{Setting}
 use Rattle.client_words.specs.declared.verb.Verb.{Verb}
-use Rattle.client_words.specs.declared.verb.Verb.TheVariants.{Set, Get}
+use Rattle.client_words.specs.declared.verb.Verb.TheVariants.{Banned, Set, Get}
 
 -- words with a third one
 third : (words : List (List ℕ)) (word : List ℕ) → 3 ≤ length words → word ≡ get_or words 2 word →
@@ -29,6 +30,11 @@ pub get_verb-some : (words : List (List ℕ)) (word : List ℕ) (item made : Ite
     Some item ≡ named_in items word → made ≡ item_behind item (take (length words - 3) (drop 3 words)) → Ok (Get made) ≡ get_verb words
 get_verb-some words word item made long is named behind =
     ap (λ (x : Item). Ok (Get x)) (behind ∙ ap (item_behind item) (take_rest words 3)) ∙ get_verb-third words word (Some item) long is named
+
+-- an item that has nothing to do with what stands behind it
+pub other_item : (item : Item) (values : List (List ℕ)) → (item ≡ get.Banip → ⊥) → item ≡ item_behind item values
+other_item get.Banip values other = absurd (other refl)
+other_item item values other = refl
 
 -- ---- by the first word
 
@@ -65,3 +71,8 @@ pub set_verb-some : (words : List (List ℕ)) (word : List ℕ) (setting : Setti
     by_switch setting unknown ≡ set_verb words
 set_verb-some words word setting unknown long is named tested =
     ap (by_switch setting) (tested ∙ ap (has_unknown_switch setting) (take_rest words 3)) ∙ set_verb-third words word (Some setting) long is named
+
+-- a verb that has nothing to do with what stands behind it
+pub other_verb : (verb : Verb) (values : List (List ℕ)) → (verb ≡ Banned → ⊥) → verb ≡ verb_behind verb values
+other_verb Banned values other = absurd (other refl)
+other_verb verb values other = refl

@@ -152,6 +152,7 @@ fn is_with_time(values: &[Text]) -> bool
 }
 
 /// What is got by the words behind an item's.
+#[tactic(auto, using(crate::proofs::VerbLemmas::other_item))]
 fn item_behind(item: Item, values: &[Text]) -> Item
     ensures { result ≡ item_behind item values.now }
 {
@@ -190,6 +191,7 @@ fn begins_with_address(values: &[Text]) -> bool
 }
 
 /// The verb by the words behind its own.
+#[tactic(auto, using(crate::proofs::VerbLemmas::other_verb))]
 fn verb_behind(verb: Verb, values: &[Text]) -> Verb
     ensures { result ≡ verb_behind verb values.now }
 {

@@ -21,7 +21,7 @@ mod words;
 use advice::advice;
 use client_tool::{ClientStatus, client};
 use link::RealLink;
-use nearest::{Meant, meant};
+use nearest::{Hint, meant};
 use output::{Output, write_whole};
 use std::alloc::{AllocError, AllocGlobal};
 use std::io::{IsTerminal, Write};
@@ -65,8 +65,8 @@ fn call(rt: HostRuntime, words: &[String]) -> Result<u8, AllocError> {
 /// Says which word is the nearest one, where words that were refused name no command.
 fn help_on(rt: &HostRuntime, words: &[String]) {
     match meant(words) {
-        Some(Meant::Word(near)) => advise(rt, &["did you mean ", near, "?"]),
-        Some(Meant::Nothing) => advise(rt, &["fail2ban-client --help lists the words"]),
+        Some(Hint::Word(near)) => advise(rt, &["did you mean ", near, "?"]),
+        Some(Hint::Nothing) => advise(rt, &["fail2ban-client --help lists the words"]),
         None => (),
     }
 }
