@@ -13,7 +13,7 @@ use Rattle.client_words.specs.declared.request.Request.{Request}
 use Rattle.client_words.specs.declared.request.Request.TheVariants as request
 use Rattle.client_replies.specs.Banned.{ended, ended_in, new_addrs}
 use Rattle.client_replies.specs.Refusals.{jail_in, named, refusal}
-use Rattle.client_replies.specs.Texts.{actions_names_text, bans_text, banned_text, date_text, flag_text, holders_text, idle_text, jails_text, masks_text, name_of, paths_text, status_of, texts_text, timed_bans_text, version_text}
+use Rattle.client_replies.specs.Texts.{actions_text_of, bans_text, banned_text, date_text, flag_text, holders_text, idle_text, jails_text, masks_text, name_of, paths_text, status_of, texts_text, timed_bans_text, version_text}
 
 -- whether one failure more of an address is counted, as a number: not where it is banned
 abbrev pub counted_text : Bool → List ℕ
@@ -38,7 +38,7 @@ text_of_definition d (request.GetIgnoreregex jail) = texts_text (codes "\n") d.i
 text_of_definition d (request.GetDatepattern jail) = date_text d.date
 text_of_definition d (request.GetMaxmatches jail) = decimal d.maxmatches
 text_of_definition d (request.GetIncrement jail) = flag_text d.rule.increment
-text_of_definition d (request.GetActions jail) = actions_names_text d.actions
+text_of_definition d (request.GetActions jail) = actions_text_of d.actions
 text_of_definition d _ = []
 
 -- what is replied of the jail that a request names

@@ -1,7 +1,7 @@
 -- The texts that replies are made of.
 use Rattle.std.specs.Prelude.{ℕ, ◌==◌, ◌++◌, Bool, true, false, pos, List, [], ◌∷◌, length, bytes_eq, codes, if◌then◌else◌}
 use Rattle.std.specs.Fmt.{decimal}
-use Rattle.std.specs.List.{flat_map, join_by, list_any}
+use Rattle.std.specs.List.{flat_map, fold, join_by, list_any}
 use Rattle.f2b_base.specs.Addresses.{printed}
 use Rattle.f2b_base.specs.declared.addr.Addr.{Addr}
 use Rattle.f2b_base.specs.declared.addr.Addr.TheVariants.{V4, V6}
@@ -108,15 +108,20 @@ date_text (AnchoredPattern pattern) = codes "{^LN-BEG}" ++ pattern
 abbrev pub has_text : List (List ℕ) → List ℕ → Bool
 has_text texts text = list_any (bytes_eq text) texts
 
--- the names of actions, each once, in the order in which they stand first; these stood before them
-abbrev pub names_behind : (before : List (List ℕ)) → List ActionDef → List (List ℕ)
-names_behind before [] = []
-names_behind before (action ∷ actions) =
-    if has_text before action.name then names_behind before actions else action.name ∷ names_behind (before ++ action.name ∷ []) actions
+-- these texts, and one more behind them, unless it is one of them
+abbrev pub with_text : List (List ℕ) → List ℕ → List (List ℕ)
+with_text texts text = if has_text texts text then texts else texts ++ text ∷ []
 
--- a line for each action, whatever families it is for
-abbrev pub actions_names_text : List ActionDef → List ℕ
-actions_names_text actions = texts_text (codes "\n") (names_behind [] actions)
+abbrev pub with_name : List (List ℕ) → ActionDef → List (List ℕ)
+with_name names action = with_text names action.name
+
+-- the names of actions, each once, in the order in which they stand first
+abbrev pub action_names : List ActionDef → List (List ℕ)
+action_names actions = fold with_name [] actions
+
+-- a line for each name, whatever families the action is for
+abbrev pub actions_text_of : List ActionDef → List ℕ
+actions_text_of actions = texts_text (codes "\n") (action_names actions)
 
 -- ---- all jails
 

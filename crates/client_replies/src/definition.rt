@@ -1,6 +1,6 @@
 //! What a jail's definition has, as text.
-ghost use Rattle.std.specs.Prelude.{◌≡◌, [], IfOk};
-ghost use Rattle.client_replies.specs.Texts.{date_text, flag_text, has_text, names_behind};
+ghost use Rattle.std.specs.Prelude.{◌≡◌, IfOk, OnOk};
+ghost use Rattle.client_replies.specs.Texts.{action_names, date_text, flag_text, has_text, with_text};
 
 use f2b_base::{ActionDef, DateSpec, NoMemory, Plain, Seq, Text};
 use std::alloc::Global;
@@ -37,16 +37,24 @@ fn has_text(texts: &[Text], text: &Text) -> bool
     texts.iter().any(|other| *text == *other)
 }
 
-/// The names of actions, each once, in the order in which they stand first.
-#[tactic(auto, using(crate::proofs::NameLemmas::name_known, crate::proofs::NameLemmas::name_new, crate::proofs::NameLemmas::names_all))]
-pub(crate) fn action_names(alloc: Global, actions: &[ActionDef]) -> Result<Seq<Text>, NoMemory>
-    ensures { IfOk result (λ names. names ≡ names_behind [] actions.now) }
+/// One text more, unless it is there.
+fn add_text(texts: &mut Seq<Text>, text: &Text) -> Result<(), NoMemory>
+    ensures { OnOk result (texts.new ≡ with_text texts.old text.now) }
 {
-    let mut names: Seq<Text> = Seq::new(alloc);
+    if has_text(texts.as_slice(), text) {
+        return Ok(());
+    }
+    texts.push(text.copy()?)
+}
+
+/// The names of actions, each once, in the order in which they stand first.
+#[tactic(auto, using(crate::proofs::NameLemmas::names_more))]
+pub(crate) fn action_names(alloc: Global, actions: &[ActionDef]) -> Result<Seq<Text>, NoMemory>
+    ensures { IfOk result (λ names. names ≡ action_names actions.now) }
+{
+    let mut names = Seq::new(alloc);
     for action in actions {
-        if !has_text(names.as_slice(), &action.name) {
-            names.push(action.name.copy()?)?;
-        }
+        add_text(&mut names, &action.name)?;
     }
     Ok(names)
 }

@@ -3,7 +3,7 @@ ghost use Rattle.std.specs.Prelude.{◌≡◌, ◌&&◌, Err, Some, false, true}
 ghost use Rattle.client_frames.specs.Frames.{AreRequest, request};
 ghost use Rattle.client_frames.specs.declared.error.ReceiveError.TheVariants as error;
 ghost use Rattle.client_tool.specs.Asks.{Request};
-ghost use Rattle.client_tool.specs.Ends.{Ends, MayTell, is_said, status_of};
+ghost use Rattle.client_tool.specs.Ends.{Ends, MayClose, MayTell, is_said, status_of};
 ghost use Rattle.client_tool.specs.declared.status.ClientStatus.TheVariants.{Done};
 ghost use Rattle.client_tool.specs.Lines.{reply_line};
 ghost use Rattle.client_tool.specs.Talks.{IsHeard, SendsAtMost, Talks};
@@ -46,8 +46,21 @@ fn is_hushed(quiet: bool, accepted: bool) -> bool
     quiet && accepted
 }
 
+/// Says the reply to these words.
+fn tell<K: Sink>(alloc: Global, words: &Seq<Text>, answer: Answer, sink: &mut K) -> ClientStatus
+    ensures closes { MayClose (reply_line words.now answer) (status_of answer.accepted) (K.stands sink.old) (K.stands sink.new) result }
+    ensures quiet { is_said result ≡ false → sink.new ≡ sink.old }
+{
+    let status = ClientStatus::of_verdict(answer.accepted);
+    match reply_line(alloc, words, answer) {
+        Ok(line) => say(sink, line.as_str(), status),
+        Err(NoMemory) => ClientStatus::NoMemory,
+    }
+}
+
 /// Says the reply to these words, unless it accepts them and that is to be kept quiet.
-fn tell<K: Sink>(
+#[tactic(auto, using(crate::proofs::AnswerLemmas::kept_quiet, crate::proofs::AnswerLemmas::may_tell, crate::proofs::AnswerLemmas::never_done))]
+fn tell_or_not<K: Sink>(
     alloc: Global,
     quiet: bool,
     words: &Seq<Text>,
@@ -58,14 +71,10 @@ fn tell<K: Sink>(
     ensures quiet { is_said result ≡ false → sink.new ≡ sink.old }
     ensures hushed { quiet ≡ true → result ≡ Done → sink.new ≡ sink.old }
 {
-    let status = ClientStatus::of_verdict(answer.accepted);
     if is_hushed(quiet, answer.accepted) {
-        return status;
+        return ClientStatus::Done;
     }
-    match reply_line(alloc, words, answer) {
-        Ok(line) => say(sink, line.as_str(), status),
-        Err(NoMemory) => ClientStatus::NoMemory,
-    }
+    tell(alloc, words, answer, sink)
 }
 
 /// Asks the server at a path, and says its reply, unless it accepts and that is to be kept quiet.
@@ -84,7 +93,7 @@ pub(crate) fn ask<L: Link, K: Sink>(
     ensures hushed { quiet ≡ true → result ≡ Done → sink.new ≡ sink.old }
 {
     match exchange(alloc, socket, words, link) {
-        Ok(answer) => tell(alloc, quiet, words, answer, sink),
+        Ok(answer) => tell_or_not(alloc, quiet, words, answer, sink),
         Err(error) => ClientStatus::of_failure(error),
     }
 }
