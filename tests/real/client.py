@@ -350,7 +350,7 @@ def the_nearest_word_is_named(room):
         for words, wanted in [
             (["pong"], "did you mean ping?\r\n"),
             (["statsu", "sshd"], "did you mean status?\r\n"),
-            (["Version"], "did you mean version?\r\n"),
+            (["VERSION"], "did you mean version?\r\n"),
             (["get", "sshd", "baniip"], "did you mean banip?\r\n"),
             (["set", "sshd", "unban", "192.0.2.7"], "did you mean unbanip?\r\n"),
             (["get", "sshd", "bantime.incremental"], "did you mean bantime.increment?\r\n"),

@@ -43,11 +43,7 @@ fn holders_line(alloc: Global, addr: &Addr, jails: &[JailView]) -> Result<Text, 
     Ok(line)
 }
 
-fn holders_lines(
-    alloc: Global,
-    addrs: &[Addr],
-    jails: &[JailView],
-) -> Result<Seq<Text>, NoMemory>
+fn holders_lines(alloc: Global, addrs: &[Addr], jails: &[JailView]) -> Result<Seq<Text>, NoMemory>
     ensures { IfOk result (λ lines. lines ≡ map (view_holders_line jails.now) addrs.now) }
 {
     let mut lines = Seq::new(alloc);

@@ -59,11 +59,7 @@ pub(crate) fn push_number(alloc: Global, reply: &mut Text, number: u128) -> Resu
 }
 
 /// A list as a text, with another one between each two of its items.
-pub(crate) fn joined<T: Listed>(
-    alloc: Global,
-    between: &str,
-    items: &[T],
-) -> Result<Text, NoMemory>
+pub(crate) fn joined<T: Listed>(alloc: Global, between: &str, items: &[T]) -> Result<Text, NoMemory>
     ensures { IfOk result (λ text. text ≡ join_by T.text between.now items.now) }
 {
     let mut text = Text::new(alloc);

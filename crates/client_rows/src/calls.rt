@@ -218,7 +218,9 @@ const ROWS: [Row; 41] = [
     Row {
         words: &["status", "-q"],
         says: PONG,
-        sent: &[0, 0, 0, 12, 0, 6, b's', b't', b'a', b't', b'u', b's', 0, 2, b'-', b'q'],
+        sent: &[
+            0, 0, 0, 12, 0, 6, b's', b't', b'a', b't', b'u', b's', 0, 2, b'-', b'q',
+        ],
         prints: "pong\n",
         status: ClientStatus::Done,
     },

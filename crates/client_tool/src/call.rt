@@ -42,11 +42,13 @@ fn carry_out<L: Link, K: Sink>(
     ensures unlinked { asks_server (option_map shown asked.entry) ≡ false → link.new ≡ link.old }
 {
     match asked {
-        Some(Asked::Request {
-            quiet,
-            socket,
-            words,
-        }) => ask(alloc, quiet, socket, &words, link, sink),
+        Some(
+            Asked::Request {
+                quiet,
+                socket,
+                words,
+            },
+        ) => ask(alloc, quiet, socket, &words, link, sink),
         Some(Asked::Seconds(seconds)) => tell_seconds(alloc, seconds, sink),
         None => ClientStatus::Usage,
     }

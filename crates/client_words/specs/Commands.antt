@@ -83,6 +83,12 @@ unban_request values =
       addrs ← addresses 2 values
       Ok (request.Unban addrs)
 
+-- the addresses of which the words from the second on ask who holds them
+abbrev pub holders_request : List (List ℕ) → Result Request CommandError
+holders_request values = do
+  addrs ← addresses 2 values
+  Ok (request.Holders addrs)
+
 -- the jails whose status is asked for: all by `--all`, which is a name too, or the one of that name
 abbrev pub status_request : List ℕ → Result Request CommandError
 status_request word =
@@ -98,9 +104,7 @@ request_of Version _ = Ok request.Version
 request_of Status (_ ∷ []) = Ok request.Status
 request_of Status (_ ∷ word ∷ _) = status_request word
 request_of Banned _ = Ok request.Banned
-request_of Holders (_ ∷ values) = do
-  addrs ← addresses 2 values
-  Ok (request.Holders addrs)
+request_of Holders (_ ∷ values) = holders_request values
 request_of Unban (_ ∷ values) = unban_request values
 request_of Reload _ = Ok request.Reload
 request_of Stop _ = Ok request.Stop

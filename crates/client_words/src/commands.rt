@@ -2,7 +2,7 @@
 ghost use Rattle.std.specs.Prelude.{◌≡◌, ◌<◌, ◌≤◌, ◌+◌, ◌^◌, length, IfOk};
 ghost use Rattle.f2b_model.specs.Storable.{IsJailName};
 ghost use Rattle.client_words.specs.Bounds.{IsBoundedRequest};
-ghost use Rattle.client_words.specs.Commands.{command_of, get_request, is_all, request_of, set_one, set_request, status_request, unban_request};
+ghost use Rattle.client_words.specs.Commands.{command_of, get_request, holders_request, is_all, request_of, set_one, set_request, status_request, unban_request};
 ghost use Rattle.client_words.specs.Values.{Gives};
 
 use crate::error::CommandError;
@@ -123,6 +123,16 @@ fn unban_request(alloc: Global, values: &[Text]) -> Result<Request, CommandError
     Ok(Request::Unban { addrs })
 }
 
+/// Of which addresses the words from the second on ask who holds them.
+fn holders_request(alloc: Global, values: &[Text]) -> Result<Request, CommandError>
+    requires { 2 + length values.now ≤ 2 ^ 32 }
+    ensures request { Gives (holders_request values.now) result }
+    ensures bounds { IfOk result IsBoundedRequest }
+{
+    let held = addresses(alloc, 2, values)?;
+    Ok(Request::Holders { addrs: held })
+}
+
 /// Of which jails the status is asked for by one word.
 fn status_request(word: &Text) -> Result<Request, CommandError>
     ensures request { Gives (status_request word.now) result }
@@ -147,10 +157,7 @@ fn request_of(alloc: Global, verb: Verb, words: &[Text]) -> Result<Request, Comm
         (Verb::Status, [_]) => Ok(Request::Status),
         (Verb::Status, [_, word, ..]) => status_request(word),
         (Verb::Banned, _) => Ok(Request::Banned),
-        (Verb::Holders, [_, values @ ..]) => {
-            let addrs = addresses(alloc, 2, values)?;
-            Ok(Request::Holders { addrs })
-        }
+        (Verb::Holders, [_, values @ ..]) => holders_request(alloc, values),
         (Verb::Unban, [_, values @ ..]) => unban_request(alloc, values),
         (Verb::Reload, _) => Ok(Request::Reload),
         (Verb::Stop, _) => Ok(Request::Stop),

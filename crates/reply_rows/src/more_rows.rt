@@ -12,7 +12,10 @@ const EMPTY: [(&str, &str); 4] = [
     ("version", "0.1.0"),
     ("status --all", ""),
     ("banned 192.0.2.7 ::1", "192.0.2.7:\n::1:"),
-    ("get sshd banip --with-time", "! Sorry but the jail 'sshd' does not exist"),
+    (
+        "get sshd banip --with-time",
+        "! Sorry but the jail 'sshd' does not exist",
+    ),
 ];
 
 /// Of two jails in which nothing happened.
@@ -32,7 +35,10 @@ const QUIET: [(&str, &str); 8] = [
     ("get sshd maxmatches", "0"),
     ("get sshd bantime.increment", "false"),
     ("get sshd actions", ""),
-    ("get nojail actions", "! Sorry but the jail 'nojail' does not exist"),
+    (
+        "get nojail actions",
+        "! Sorry but the jail 'nojail' does not exist",
+    ),
 ];
 
 /// Of two jails with bans.
@@ -85,7 +91,12 @@ const LASTING: [(&str, &str); 2] = [
     ("get sshd banip", "192.0.2.7\n2001:db8::1"),
 ];
 
-fn are_all_told(rt: &impl Abort, alloc: Global, rows: &[(&str, &str)], core: Core) -> Result<(), Fail> {
+fn are_all_told(
+    rt: &impl Abort,
+    alloc: Global,
+    rows: &[(&str, &str)],
+    core: Core,
+) -> Result<(), Fail> {
     are_told(rt, alloc, &core, rows)
 }
 

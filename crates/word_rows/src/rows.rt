@@ -67,7 +67,10 @@ const MORE_REQUESTS: [(&str, &str); 15] = [
         "banned 192.0.2.7 ::ffff:192.0.2.7 ::1",
         "Holders { addrs: [V4(3221225991), V4(3221225991), V6(1)] }",
     ),
-    ("get sshd banip --with-time", "GetBantimes { jail: \"sshd\" }"),
+    (
+        "get sshd banip --with-time",
+        "GetBantimes { jail: \"sshd\" }",
+    ),
     ("get sshd ignoreregex", "GetIgnoreregex { jail: \"sshd\" }"),
     ("get sshd datepattern", "GetDatepattern { jail: \"sshd\" }"),
     ("get sshd maxmatches", "GetMaxmatches { jail: \"sshd\" }"),
@@ -89,7 +92,10 @@ const AS_BEFORE: [(&str, &str); 8] = [
     ("banned 192.0.2.07 192.0.2.7", "Wrong number of words"),
     ("status --all --all", "Wrong number of words"),
     ("get sshd banip --with-times", "Wrong number of words"),
-    ("get sshd banip --with-time 192.0.2.7", "Wrong number of words"),
+    (
+        "get sshd banip --with-time 192.0.2.7",
+        "Wrong number of words",
+    ),
     ("get sshd ignoreip --with-time", "Wrong number of words"),
     ("get sshd bantime.factor", "Invalid command"),
     ("get --all banip", "GetBanip { jail: \"--all\" }"),
