@@ -1,5 +1,5 @@
 //! Reports of jails.
-ghost use Rattle.std.specs.Prelude.{◌≡◌, ◌++◌, [], map, IfOk, OnOk};
+ghost use Rattle.std.specs.Prelude.{◌≡◌, ◌++◌, map, IfOk, OnOk};
 ghost use Rattle.f2b_base.specs.declared.view.JailView.{JailView};
 ghost use Rattle.f2b_model.specs.Views.{jail_view, spread};
 ghost use Rattle.f2b_model.specs.declared.jail_now.JailNow.{JailNow};
