@@ -1,8 +1,12 @@
 -- The verb by a third word, and by the first one.
-use Rattle.std.proofs.Common.{◌≡◌, ℕ, ◌-◌, ◌≤◌, Bool, List, [], ◌∷◌, length, get_or, take, drop, Option, Some, Result, Ok, refl, sym, ap, ◌∙◌, arith}
+use Rattle.std.proofs.Common.{◌≡◌, ℕ, ◌-◌, ◌≤◌, Bool, false, inl, inr, List, [], ◌∷◌, length, get_or, take, drop, Option, Some, Result, Ok, refl, sym, ap, ◌∙◌, arith}
+use Rattle.std.specs.Cmp.Lexicographic.{bytes_decides}
+use Rattle.std.specs.Prelude.{codes}
+use Rattle.std.specs.Str.{bytes_eq}
+use Rattle.std.proofs.lemmas.Bool.{cases_Bool}
 use Rattle.std.proofs.lemmas.List.{take_rest}
 use Rattle.jail_conf.specs.Then.{◌>>=◌, ◌>>◌, or_refuse, refuse_if}
-use Rattle.client_words.specs.Verbs.{get_verb, has_unknown_switch, item_behind, items, named_in, plain_verb, set_verb, settings, verb_behind, verbs}
+use Rattle.client_words.specs.Verbs.{get_verb, has_unknown_switch, item_behind, items, named_in, plain_verb, set_verb, settings, verb_behind, verb_of, verbs}
 use Rattle.client_words.specs.declared.error.CommandError.{CommandError}
 use Rattle.client_words.specs.declared.error.CommandError.TheVariants.{Unknown}
 use Rattle.client_words.specs.declared.verb.Item.{Item}
@@ -76,3 +80,16 @@ set_verb-some words word setting unknown long is named tested =
 pub other_verb : (verb : Verb) (values : List (List ℕ)) → (verb ≡ Banned → ⊥) → verb ≡ verb_behind verb values
 other_verb Banned values other = absurd (other refl)
 other_verb verb values other = refl
+
+differs : (one other : List ℕ) → (one ≡ other → ⊥) → bytes_eq one other ≡ false
+differs one other apart = elim (cases_Bool (bytes_eq one other)) [ inl y ↦ absurd (apart ((bytes_decides one other).0 y)) | inr n ↦ n ]
+
+-- words that begin neither with `set` nor with `get`
+pub verb_of-other : (words : List (List ℕ)) (word : List ℕ) → 1 ≤ length words → word ≡ get_or words 0 word → (word ≡ codes "set" → ⊥) → (word ≡ codes "get" → ⊥)
+    → plain_verb words ≡ verb_of words
+unfolding verb_of
+verb_of-other [] word some is not_set not_get = absurd (omega arith)
+verb_of-other (first ∷ others) word some is not_set not_get =
+    let no_set : bytes_eq first (codes "set") ≡ false = differs first (codes "set") (λ same. not_set (is ∙ same)) in
+    let no_get : bytes_eq first (codes "get") ≡ false = differs first (codes "get") (λ same. not_get (is ∙ same)) in
+    rw (no_set, no_get) refl
