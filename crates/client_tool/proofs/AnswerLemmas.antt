@@ -1,10 +1,10 @@
 -- How a call ends that received a reply.
-use Rattle.std.proofs.Common.{◌≡◌, ℕ, Bool, true, false, ◌&&◌, inl, inr, List, Option, Some, None, Result, Ok, refl, sym, ap, subst, ◌∙◌}
+use Rattle.std.proofs.Common.{◌≡◌, ℕ, Bool, true, false, ◌&&◌, inl, inr, List, Some, None, Result, Ok, refl, sym, ap, subst, ◌∙◌}
 use Rattle.client_frames.specs.Frames.{request}
 use Rattle.client_frames.specs.declared.answer.Answer.{Answer}
 use Rattle.client_frames.specs.declared.error.ReceiveError.{ReceiveError}
 use Rattle.f2b_world.specs.Told.{Standing}
-use Rattle.client_tool.specs.Asks.{Asks, Request}
+use Rattle.client_tool.specs.Asks.{Request}
 use Rattle.client_tool.specs.Ends.{Ends, HasCause, MayClose, MayTell, status_of}
 use Rattle.client_tool.specs.Lines.{reply_line}
 use Rattle.client_tool.specs.Talks.{Hears, IsHeard, SendsAtMost, Talks}
