@@ -1,4 +1,5 @@
 pub mod ServingLemmas
+pub mod ReadingLemmas
 pub mod DiskLemmas
 pub mod PointLemmas
 pub mod NewsLemmas

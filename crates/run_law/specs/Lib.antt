@@ -20,6 +20,8 @@ pub mod Looks
 pub mod Polls
 pub mod Starts
 pub mod Pause
+pub mod Reading
+pub mod Reload
 pub mod Start
 pub mod Law
 pub mod Stages

@@ -29,7 +29,8 @@ use Rattle.run_law.specs.Points.{AtFirst, Run}
 use Rattle.run_law.specs.Said.{ready_line}
 use Rattle.run_law.specs.Server.{Server, begun, jails, moment_of}
 use Rattle.run_law.specs.Stages.{Brings, BringFails, IsAt}
-use Rattle.run_law.specs.Start.{config_news, first_read, first_turn, naming_on, start_news, to_names}
+use Rattle.run_law.specs.Reading.{config_news}
+use Rattle.run_law.specs.Start.{first_read, first_turn, naming_on, start_news, to_names}
 use Rattle.run_law.specs.declared.plan.Plan.{Plan}
 use Rattle.run_law.specs.declared.status.Status.{Status}
 use Rattle.run_law.specs.declared.status.Status.TheVariants.{NoMemory}

@@ -12,7 +12,8 @@ use Rattle.run_law.specs.Paths.{Path, directory, expanded_path, named, settled}
 use Rattle.run_law.specs.Points.{AtNames, Run}
 use Rattle.run_law.specs.Server.{Server}
 use Rattle.run_law.specs.Stages.{Brings, BringFails, IsAt, IsStill}
-use Rattle.run_law.specs.Start.{names_call, names_in, names_read, naming_on, to_names, unread_by}
+use Rattle.run_law.specs.Reading.{names_call, names_in, unread_by}
+use Rattle.run_law.specs.Start.{names_read, naming_on, to_names}
 use Rattle.run_law.specs.declared.status.Status.{Status}
 use Rattle.run_law.specs.declared.status.Status.TheVariants.{NoMemory}
 use Rattle.run_law.proofs.PointLemmas.{goes_refl, goes_trans, halts_after, halts_here, point_goes}
