@@ -10,6 +10,7 @@ pub mod RestLemmas
 pub mod WriteLemmas
 pub mod EntryLemmas
 pub mod StageLemmas
+pub mod ReaderLemmas
 pub mod SaidLemmas
 pub mod StartedLemmas
 pub mod PolledLemmas

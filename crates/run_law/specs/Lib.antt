@@ -25,5 +25,6 @@ pub mod Reload
 pub mod Start
 pub mod Law
 pub mod Stages
+pub mod Readers
 pub mod Stops
 pub mod Served
