@@ -1,7 +1,6 @@
 -- The start of a run reads a configuration, and so does a reload.
 use Rattle.std.proofs.Common.{ℕ, ◌≡◌, List, [], ◌∷◌, Option, Some, None, refl}
 use Rattle.f2b_base.specs.declared.input.What.{What}
-use Rattle.f2b_world.specs.declared.event.Event.TheVariants.{Config, Make, Names}
 use Rattle.jail_conf.specs.declared.settings.Settings.{Settings}
 use Rattle.run_law.specs.News.{News, brings, brings_by, entered, goes_to, refused}
 use Rattle.run_law.specs.Paths.{first_naming, Path}

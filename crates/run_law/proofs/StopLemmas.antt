@@ -403,16 +403,16 @@ module _ (v : View) (first : History) (limit : ℕ) (l : Loaded) (is_loaded : lo
           (λ lines defined at. brings_is (record { before = lines; what = None; behind = [] }) (names_for i defined at) (turn_passes (names_for i defined at) (λ u. place_of_turn (AtReload (OfNames defined at) i) u)) t has)
           (λ lines defs. brings_is (reload_news lines defs t) (reloaded i) (follow_passes i) (tells_taken i t) has) before settings naming left
 
-      left_is : (i : ℕ) (settings : Settings) (ps : List Pattern) → Is (left_for i t settings ps r) g
-      left_is i settings [] = renames_are [] settings (first_naming settings.defs) (first_naming settings.defs).left i
-      left_is i settings (p ∷ ps) = plain_is (AtTurn (AtReload (OfMakes settings (p ∷ ps)) i) t) has
+      remakes_are : (i : ℕ) (settings : Settings) (ps : List Pattern) → Is (left_for i t settings ps r) g
+      remakes_are i settings [] = renames_are [] settings (first_naming settings.defs) (first_naming settings.defs).left i
+      remakes_are i settings (p ∷ ps) = plain_is (AtTurn (AtReload (OfMakes settings (p ∷ ps)) i) t) has
 
       untaken_is : (i : ℕ) (status : Status) → Is (untaken_for i t status r) g
       untaken_is i status = serves_is (tells_untaken status i t)
 
       reloads_are : (reading : Rereading) (event : Event) (i : ℕ) → Is (reloads reading event i t r) g
-      reloads_are OfTree (Config root answer) i = tree_by (λ (x : Run). Is x g) (left_for i t) (untaken_for i t) r (left_is i) (λ status is. untaken_is i status) (inl c) answer
-      reloads_are (OfMakes settings left) (Make text answer) i = makes_by (λ (x : Run). Is x g) (left_for i t) (untaken_for i t) r (left_is i) (λ status is. untaken_is i status) (inl c) left answer settings
+      reloads_are OfTree (Config root answer) i = tree_by (λ (x : Run). Is x g) (left_for i t) (untaken_for i t) r (remakes_are i) (λ status is. untaken_is i status) (inl c) answer
+      reloads_are (OfMakes settings left) (Make text answer) i = makes_by (λ (x : Run). Is x g) (left_for i t) (untaken_for i t) r (remakes_are i) (λ status is. untaken_is i status) (inl c) left answer settings
       reloads_are (OfNames settings naming) (Names dir answer) i =
           let next = named (names_in answer) naming in renames_are (unread_by answer t.now naming.left) settings next next.left i
       reloads_are _ _ i = inl c

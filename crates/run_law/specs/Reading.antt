@@ -14,7 +14,6 @@ use Rattle.jail_conf.specs.Conf.{conf}
 use Rattle.jail_conf.specs.declared.conf_error.ConfError.{ConfError}
 use Rattle.jail_conf.specs.declared.settings.Settings.{Settings}
 use Rattle.run_law.specs.Calls.{Call, AskMake, AskNames}
-use Rattle.run_law.specs.Changes.{config_changes}
 use Rattle.run_law.specs.News.{News, brings}
 use Rattle.run_law.specs.Paths.{Path, Naming, directory, named, with_paths}
 use Rattle.run_law.specs.Patterns.{Pattern, patterns_of}

@@ -4,7 +4,7 @@ use Rattle.client_frames.specs.Comes.{Heard, Part, Words, TooLong, Empty, BadWor
 use Rattle.client_frames.specs.declared.answer.Answer.{Answer}
 use Rattle.client_replies.specs.Changes.{effect}
 use Rattle.client_replies.specs.Refusals.{refusal}
-use Rattle.client_replies.specs.Replies.{answer, refused, reply}
+use Rattle.client_replies.specs.Replies.{refused, reply}
 use Rattle.client_words.specs.Commands.{command_of}
 use Rattle.client_words.specs.Refusals.{refusal_of}
 use Rattle.client_words.specs.declared.error.CommandError.{CommandError}
