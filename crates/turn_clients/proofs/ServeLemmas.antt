@@ -91,8 +91,8 @@ module _ (a b : Standing) (place most : ℕ) (answer : GateRead) (before : Runni
       let P : Option Call → Type 0 = λ c. IsNext c (ReadFrom (conn_at place before.clients) most answer) in
       turn_goes a b (ReadFrom (conn_at place before.clients) most answer) r (AtClient place) s read_called here (subst P (next_call before place (Reads most) asks s keeps) (refl, refl, received)) refl
 
-  pub read_moves : (c : Standing) (after : Running) → Serves b c (reads answer place) (behind_client place) before after → Moves KeepsRunning a c (to_clients place) (behind_client place) before after
-  read_moves c after served = record {
+  pub read_moves : (c : Standing) (next : Server → Point) (after : Running) → Serves b c (reads answer place) next before after → Moves KeepsRunning a c (to_clients place) next before after
+  read_moves c next after served = record {
     runs = λ r s at keeps.
         let here = here_read r s at keeps in
         let last = served.runs r s (AtTurn (AtClient place) s) here keeps in

@@ -44,7 +44,6 @@ fn heard<'f>(
 }
 
 // Takes what happens by a request that is replied to.
-#[tactic(auto, using(crate::proofs::HearLemmas::replying, run_law::proofs::CauseLemmas::counting))]
 fn take_reply<'f, W: World + Disk>(
     alloc: Global,
     world: &mut W,
@@ -53,8 +52,8 @@ fn take_reply<'f, W: World + Disk>(
 ) -> Result<Running<'f>, Status>
     requires fit { IsFitReply given }
     requires placed { IsPlacedIn (W.stands world.old).told running.clocked }
-    ensures ok { IfOk result (Brings KeepsRunning (W.stands world.old) (W.stands world.new) (news_of [] given.entry.what given.entry.behind) running.entry) }
-    ensures err { IfErr result (BringFails KeepsRunning (W.stands world.old) (W.stands world.new) (news_of [] given.entry.what given.entry.behind) running.entry) }
+    ensures ok { IfOk result (Brings KeepsRunning (W.stands world.old) (W.stands world.new) (news_of [] given.what given.behind) running.entry) }
+    ensures err { IfErr result (BringFails KeepsRunning (W.stands world.old) (W.stands world.new) (news_of [] given.what given.behind) running.entry) }
     ensures cause { IfErr result (HasCause (W.stands world.old) (W.stands world.new)) }
     ensures steady { IsSteady (W.stands world.old) (W.stands world.new) }
     ensures clients { IfOk result (λ after. after.clients ≡ running.entry.clients) }

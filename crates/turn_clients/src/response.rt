@@ -8,7 +8,8 @@ ghost use Rattle.client_words.specs.Refusals.{refusal_of};
 ghost use Rattle.client_words.specs.declared.error.CommandError.TheVariants.{BadAddress};
 ghost use Rattle.client_words.specs.declared.request.Request.TheVariants.{Reload};
 ghost use Rattle.run_law.specs.Requests.{refusing, rereading, stop_lines, to_request, to_words};
-ghost use Rattle.turn_clients.specs.Responding.{HasFewWords, IsFit, RespondsAs, RespondsTo, told_by};
+ghost use Rattle.turn_clients.specs.Responding.{HasFewWords, IsFit, IsFitReply, RespondsAs, RespondsTo, told_by};
+ghost use Rattle.turn_clients.specs.declared.response.Response.TheVariants.{Replies};
 
 use client_frames::{Answer, FrameError};
 use client_replies::{effect, reply};
@@ -79,21 +80,21 @@ fn reload(alloc: Global, core: &Core, now: u64) -> Result<Response, NoMemory>
 
 // The reply to a request that is no reload, and what happens by it, both over the state that it meets.
 #[tactic(auto, using(crate::proofs::ResponseLemmas::requesting))]
-fn answer_request(alloc: Global, clocked: &Clocked, request: &Request) -> Result<Response, NoMemory>
+fn answer_request(alloc: Global, clocked: &Clocked, request: &Request) -> Result<Reply, NoMemory>
     requires other { request.now ≢ Reload }
     requires bounded { IsBoundedRequest request.now }
-    ensures is { IfOk result (RespondsAs clocked.entry.now (λ now s. to_request now s request.now)) }
-    ensures fit { IfOk result IsFit }
+    ensures is { IfOk result (λ given. RespondsAs clocked.entry.now (λ now s. to_request now s request.now) (Replies given)) }
+    ensures fit { IfOk result IsFitReply }
 {
     let core = clocked.engine.core();
     let answer = reply(alloc, core, clocked.now, request)?;
     let what = effect(alloc, core, request)?;
     let behind = stop_lines(alloc, clocked.now, &what)?;
-    Ok(Response::Replies(Reply {
+    Ok(Reply {
         answer,
         what,
         behind,
-    }))
+    })
 }
 
 // The response to a request.
@@ -106,7 +107,7 @@ fn to_request(alloc: Global, clocked: &Clocked, request: &Request) -> Result<Res
     if let Request::Reload = request {
         return reload(alloc, clocked.engine.core(), clocked.now);
     }
-    answer_request(alloc, clocked, request)
+    Ok(Response::Replies(answer_request(alloc, clocked, request)?))
 }
 
 // What is told of an address that is none, by the place of its word.
