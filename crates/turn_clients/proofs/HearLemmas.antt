@@ -1,5 +1,5 @@
 -- What came of a client, taken and responded to: how the run goes on behind the read.
-use Rattle.std.proofs.Common.{ℕ, ◌≡◌, ◌<◌, List, [], length, Option, Some, None, IfSome, refl, sym, ap, ap₂, ◌∙◌, subst, arith}
+use Rattle.std.proofs.Common.{ℕ, ◌≡◌, ◌<◌, true, false, List, [], length, Option, Some, None, IfSome, refl, sym, ap, ap₂, ◌∙◌, subst, arith}
 use Rattle.std.specs.Prelude.{option_map}
 use Rattle.client_frames.specs.Comes.{Heard}
 use Rattle.client_table.specs.Clients.{Client, AnswersRead, after_read, answered, asks_at, changed_at, heard_at, unwritten_at}
@@ -22,7 +22,7 @@ use Rattle.run_law.proofs.PointLemmas.{halts_here}
 use Rattle.run_steps.specs.Keeping.{IsPlacedIn, KeepsRunning, news_of}
 use Rattle.run_steps.specs.declared.running.Running.{Running}
 use Rattle.turn_clients.specs.Responding.{RespondsTo, told_by}
-use Rattle.turn_clients.specs.Serving.{HasClients, HasHeard, ServeFails, Serves, at_reload}
+use Rattle.turn_clients.specs.Serving.{HasClients, HasHeard, ServeFails, Serves, at_reload, behind_read}
 use Rattle.turn_clients.specs.declared.response.Reply.{Reply}
 use Rattle.turn_clients.specs.declared.response.Response.{Response}
 use Rattle.turn_clients.specs.declared.response.Response.TheVariants.{ReadsAgain, Replies}
@@ -132,7 +132,7 @@ module _ (place : ℕ) (answer : GateRead) (before mid : Running) where
     keeps_as o same s keeps = let P : Option Response → Type 0 = λ x. KeepsRunning (with_clients (clients_then (option_map told_by x) s) s) mid in subst P same (keeps_mid s keeps)
 
     -- nothing is responded to
-    pub hear_part : (a : Standing) → given ≡ None → Serves a a (reads answer place) (behind_client place) before mid
+    pub hear_part : (a : Standing) → given ≡ None → Serves a a (reads answer place) (behind_read false place) before mid
     hear_part a none = record {
       runs = λ r s here at keeps.
           let Q : Option LawResponse → Type 0 = λ o. Reaches KeepsRunning a a (serves (reads_by o answer place s) s r) (behind_client place) mid in
@@ -140,7 +140,7 @@ module _ (place : ℕ) (answer : GateRead) (before mid : Running) where
     }
 
     -- the configuration comes next
-    pub hear_again : (a : Standing) → given ≡ Some ReadsAgain → Serves a a (reads answer place) (at_reload place) before mid
+    pub hear_again : (a : Standing) → given ≡ Some ReadsAgain → Serves a a (reads answer place) (behind_read true place) before mid
     hear_again a again = record {
       runs = λ r s here at keeps.
           let Q : Option LawResponse → Type 0 = λ o. Reaches KeepsRunning a a (serves (reads_by o answer place s) s r) (at_reload place) mid in
@@ -149,7 +149,7 @@ module _ (place : ℕ) (answer : GateRead) (before mid : Running) where
 
     module _ (one : Reply) (some : given ≡ Some (Replies one)) where
       -- what is brought was taken
-      pub hear_brought : (a b : Standing) (after : Running) → Brings KeepsRunning a b (news_of [] one.what one.behind) mid after → Serves a b (reads answer place) (behind_client place) before after
+      pub hear_brought : (a b : Standing) (after : Running) → Brings KeepsRunning a b (news_of [] one.what one.behind) mid after → Serves a b (reads answer place) (behind_read false place) before after
       hear_brought a b after brought = record {
         runs = λ r s here at keeps.
             let u = with_clients (clients_then (Some (told_by (Replies one))) s) s in

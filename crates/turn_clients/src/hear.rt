@@ -4,7 +4,7 @@ ghost use Rattle.client_table.specs.Clients.{AnswersRead, asks_at};
 ghost use Rattle.run_law.specs.Serving.{reads};
 ghost use Rattle.run_law.specs.Stages.{HasCause, IsSteady};
 ghost use Rattle.run_law.specs.Stages.{Brings, BringFails};
-ghost use Rattle.run_steps.specs.Keeping.{news_of};
+ghost use Rattle.run_steps.specs.Keeping.{KeepsRunning, news_of};
 ghost use Rattle.std.specs.Prelude.{[]};
 ghost use Rattle.turn_clients.specs.Responding.{IsFitReply};
 ghost use Rattle.turn_clients.specs.Serving.{behind_read};

@@ -63,7 +63,8 @@ pub fn serve_clients<'f, W: World + Disk + Gate>(
     ensures placed { IfOk result (λ r. IsPlacedIn (W.stands world.new).told r.0.clocked) }
 {
     let running = accept(world, running)?;
-    serve_each(alloc, world, running, 0)
+    let (running, asked) = serve_each(alloc, world, running, 0)?;
+    Ok((running, asked))
 }
 
 /// Goes on behind the client at a place, for which the configuration was read again: it leaves where it is over, and then each client behind
@@ -86,5 +87,6 @@ pub fn serve_rest<'f, W: World + Disk + Gate>(
     ensures placed { IfOk result (λ r. IsPlacedIn (W.stands world.new).told r.0.clocked) }
 {
     let (running, next) = close_over(world, running, place);
-    serve_each(alloc, world, running, next)
+    let (running, asked) = serve_each(alloc, world, running, next)?;
+    Ok((running, asked))
 }
