@@ -74,7 +74,7 @@ module _ (used : List ℕ) where
   numbered_responded _ place cs are = are
 
   numbers_stable : (point : Point) → HasNumbers used point → IsStable (AreNumbered used) point
-  numbers_stable (AtTurn (AtReload reading i) s) has given = numbered_changed (answered given) (λ c. refl) used i s.clients has.0
+  numbers_stable (AtTurn (AtReload reading i) s) has = λ given. numbered_changed (answered given) (λ c. refl) used i s.clients has.0
   numbers_stable point has = tt
 
   numbered_by : (r : Run) (event : Event) → MayCome r event → IsNew used event → HasNumbers used r.point → HasNumbers (connected_after used (event ∷ [])) (feed r event).point

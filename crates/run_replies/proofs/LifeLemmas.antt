@@ -99,7 +99,7 @@ module _ (words : List (List ℕ)) (slots : ℕ → List ℕ) (conn : ℕ) (star
     behind = λ e. refl;
     bytes = no_bytes;
     taken = refl;
-    count = omega arith;
+    count = refl;
     each = λ place asked given is gave. absurd (let e : None ≡ Some asked = is in cc);
     last = λ given e gave. absurd (let both : false ≡ true = e in cc);
   }
@@ -153,16 +153,16 @@ module _ (words : List (List ℕ)) (slots : ℕ → List ℕ) (conn : ℕ) (star
       -- the event is one of those that tell its answer
       answer_on : (asked : List (List ℕ)) (later : List Event) (given : Answer) → slice_get waits.lived.requests (length waits.lived.answers) ≡ Some asked
           → by_rest reading (event ∷ later) ≡ Some given → IsAnswerTo words slots conn start ((life ++ event ∷ []) ++ later) (length waits.lived.answers) asked given
-      answer_on asked later given is by =
+      answer_on asked later given is told =
           subst (λ (es : List Event). IsAnswerTo words slots conn start es (length waits.lived.answers) asked given) (sym (append_assoc life (event ∷ []) later))
-          (waits.answer asked (event ∷ later) given is by)
+          (waits.answer asked (event ∷ later) given is told)
 
       -- the reading goes on
       pub waits_on : (next : Rereading) → ((later : List Event) → by_rest reading (event ∷ later) ≡ by_rest next later) → Waits (life ++ event ∷ []) front next
       unfolding lived_on
       waits_on next same = record {
         lived = lived_on front false [] [] 1 comes (sym takes ∙ sym (append-nil (taken_by conn event))) waits.lived;
-        answer = λ asked later given is by. answer_on asked later given is (same later ∙ by);
+        answer = λ asked later given is told. answer_on asked later given is (same later ∙ told);
       }
 
       -- it is answered
@@ -176,7 +176,8 @@ module _ (words : List (List ℕ)) (slots : ℕ → List ℕ) (conn : ℕ) (star
             behind = lived.behind;
             bytes = lived.bytes;
             taken = more reply lived.answers given ∙ ap (λ (t : List ℕ). t ++ reply given) (lived.taken ∙ sym (taken_more [] takes));
-            count = omega (arith, lived.count, length-append lived.answers (given ∷ []));
+            count = (let few : length lived.answers + 1 ≡ length lived.requests + 0 = lived.count in
+            let all : length (lived.answers ++ given ∷ []) + 0 ≡ length lived.requests + 0 = omega (arith, few, length-append lived.answers (given ∷ [])) in all);
             each = λ place asked other is gave. elim (pushed lived.answers given place other gave) [
               | inl old ↦ answer_more place asked other (lived.each place asked other is old)
               | inr new ↦
@@ -275,7 +276,7 @@ module _ (words : List (List ℕ)) (slots : ℕ → List ℕ) (conn : ℕ) (star
         module _ (asked : List (List ℕ)) (is : Is (Words asked) (front ++ bytes)) where
           lived_request : (given : Answer) → IsAnswer (to_words s.now s.state asked) [] given → Lived (life ++ event ∷ []) [] false (reply given) 0
           unfolding whole_came
-          lived_request given answers = record {
+          lived_request given replied = record {
             requests = lived.requests ++ asked ∷ [];
             answers = lived.answers ++ given ∷ [];
             came = whole_came asked is;
@@ -293,7 +294,7 @@ module _ (words : List (List ℕ)) (slots : ℕ → List ℕ) (conn : ℕ) (star
                 | inr new ↦
                     let P : ℕ → List (List ℕ) → Answer → Type 0 = λ n ws a. IsAnswerTo words slots conn start (life ++ event ∷ []) n ws a in
                     let first : P (length lived.requests) asked given = subst (λ (es : List Event). IsAnswerTo words slots conn start es (length lived.requests) asked given)
-                        (append-nil (life ++ event ∷ [])) (new_answer asked is [] given answers) in
+                        (append-nil (life ++ event ∷ [])) (new_answer asked is [] given replied) in
                     subst (λ (n : ℕ). P n others other) (sym now.0)
                     (subst (λ (ws : List (List ℕ)). P (length lived.requests) ws other) now.1 (subst (λ (a : Answer). P (length lived.requests) asked a) new.1 first))
               ]
@@ -323,11 +324,11 @@ module _ (words : List (List ℕ)) (slots : ℕ → List ℕ) (conn : ℕ) (star
           unfolding lived_waiting
           waits_request again = record {
             lived = lived_waiting;
-            answer = λ others later given at by. elim (pushed lived.requests asked (length lived.answers) others at) [
+            answer = λ others later given at told. elim (pushed lived.requests asked (length lived.answers) others at) [
               | inl old ↦ absurd (old_place (length lived.answers) others old refl)
               | inr new ↦
                   let first : IsAnswerTo words slots conn start ((life ++ event ∷ []) ++ later) (length lived.requests) asked given =
-                  new_answer asked is later given (subst (λ (response : Response). IsAnswer response later given) (sym again) by) in
+                  new_answer asked is later given (subst (λ (response : Response). IsAnswer response later given) (sym again) told) in
                   let P : ℕ → List (List ℕ) → Type 0 = λ n ws. IsAnswerTo words slots conn start ((life ++ event ∷ []) ++ later) n ws given in
                   subst (λ (n : ℕ). P n others) (sym new.0) (subst (λ (ws : List (List ℕ)). P (length lived.requests) ws) new.1 first)
             ];

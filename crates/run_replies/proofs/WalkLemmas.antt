@@ -265,7 +265,7 @@ module _ (words : List (List ℕ)) (slots : ℕ → List ℕ) (conn : ℕ) (star
 
     -- another one may be answered
     stable : (c : Client) (point : Point) → HasClients (Of c) IsOther point → IsStable (Of c) point
-    stable c (AtTurn (AtReload reading i) s) has given = other_changed (answered given) (λ d. refl) conn i s.clients has.1.0 has.1.1 has.1.2 ∙ has.0
+    stable c (AtTurn (AtReload reading i) s) has = λ given. other_changed (answered given) (λ d. refl) conn i s.clients has.1.0 has.1.1 has.1.2 ∙ has.0
     stable c point has = tt
 
     settled_on : (event : Event) → IsNoTalk event → came_by conn event ≡ [] → taken_by conn event ≡ [] → IsSettled life r → Goes (life ++ event ∷ []) (feed r event)
@@ -343,7 +343,7 @@ module _ (words : List (List ℕ)) (slots : ℕ → List ℕ) (conn : ℕ) (star
                 let other : d.conn ≡ conn → ⊥ = λ e. not (number ∙ e) in
                 let still : client_of conn (reads answer place s).clients ≡ Some settled.client =
                 other_responded uses place cs d are asked.at (after_read s.now answer) (keeps_read s.now answer) conn other o ∙ mine in
-                let d_there = (after_read s.now answer d, get-changed_at place (after_read s.now answer) cs d asked.at, λ e. other (sym (keeps_read s.now answer d) ∙ e)) in
+                let d_there : IsOther place (changed_at place (after_read s.now answer) cs) = (after_read s.now answer d, get-changed_at place (after_read s.now answer) cs d asked.at, λ e. other (sym (keeps_read s.now answer d) ∙ e)) in
                 inl (record {
                   client = settled.client;
                   here = has_served (Of settled.client) IsOther (reads answer place s) s r still (there_by IsOther o place (changed_at place (after_read s.now answer) cs) d_there);
