@@ -20,7 +20,7 @@ use Rattle.run_law.specs.Served.{run_after}
 use Rattle.run_law.specs.Server.{Server}
 use Rattle.run_replies.specs.Replied.{IsAnswer, IsAnswerTo, IsAnswerToFault, IsReplied, fault_text, waiting}
 use Rattle.run_replies.specs.Talks.{came_by, came_in, taken_by, taken_in}
-use Rattle.run_replies.proofs.RereadLemmas.{by_rest}
+use Rattle.run_replies.proofs.RereadLemmas.{answer_stays, by_rest}
 
 -- ---- lists
 
@@ -128,7 +128,7 @@ module _ (words : List (List ℕ)) (slots : ℕ → List ℕ) (conn : ℕ) (star
       server = to.server;
       client = to.client;
       stands = to.stands;
-      same = to.same;
+      same = answer_stays (to_words to.server.now to.server.state asked) to.later (event ∷ []) given to.same;
     }
 
     -- nothing came of it, and it took what is no longer unwritten

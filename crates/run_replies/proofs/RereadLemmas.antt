@@ -1,5 +1,5 @@
 -- What each event comes to while a configuration is read again for a client: the reading goes on, or the client is answered.
-use Rattle.std.proofs.Common.{ℕ, ◌≡◌, ◌⊎◌, inl, inr, List, [], ◌∷◌, Option, Some, None, Result, Ok, Err, refl, sym, ap, ◌∙◌, subst}
+use Rattle.std.proofs.Common.{ℕ, ◌≡◌, ◌⊎◌, inl, inr, List, [], ◌∷◌, ◌++◌, Option, Some, None, Result, Ok, Err, refl, sym, ap, ◌∙◌, subst}
 use Rattle.client_frames.specs.declared.answer.Answer.{Answer}
 use Rattle.client_table.specs.Clients.{Client, answered, changed_at}
 use Rattle.f2b_base.specs.declared.outside.TreeAnswer.{TreeAnswer}
@@ -23,6 +23,7 @@ use Rattle.run_law.specs.Patterns.{Pattern, patterns_of}
 use Rattle.run_law.specs.Points.{Rereading, OfTree, OfMakes, OfNames, AtReload, Point, AtTurn, Over, Run}
 use Rattle.run_law.specs.Reading.{make_call, makes_next, makes_one, names_call, names_in, names_next, read_as, reads_names, reads_tree, unread_by}
 use Rattle.run_law.specs.Reload.{left_for, names_for, taken_for, untaken_for}
+use Rattle.run_law.specs.Requests.{Answers, ReadsAgain, Response}
 use Rattle.run_law.specs.Said.{joined}
 use Rattle.run_law.specs.Server.{Server}
 use Rattle.run_law.specs.Stages.{IsStill}
@@ -30,16 +31,45 @@ use Rattle.run_law.specs.declared.plan.Plan.{Plan}
 use Rattle.run_law.specs.declared.status.Status.{Status}
 use Rattle.run_law.specs.declared.status.Status.TheVariants.{ConfFault, ConfRefused, ConfTooLarge, PatternRefused, SinkFault}
 use Rattle.run_law.proofs.DiskLemmas.{written_call}
-use Rattle.run_replies.specs.Replied.{by_definition, by_makes, by_reading, taken, untaken}
+use Rattle.run_replies.specs.Replied.{IsAnswer, by_definition, by_makes, by_reading, taken, untaken}
 use Rattle.run_replies.proofs.PlaceLemmas.{HasClients, has_taken, has_untaken}
 
--- ---- where a reading stands
-
--- what is replied by the events that come next, from there on
+-- what is replied by the events that come next, where a reading stands there
 abbrev pub by_rest : Rereading → List Event → Option Answer
 by_rest OfTree es = by_reading es
 by_rest (OfMakes settings left) es = by_makes left es
 by_rest (OfNames settings naming) es = Some taken
+
+-- ---- what is replied by some events is replied by these and others
+
+none_given : (given : Answer) → None ≡ Some given → ⊥
+none_given given e = absurd (let both : None ≡ Some given = e in cc)
+
+makes_more : (ps : List Pattern) (es others : List Event) (given : Answer) → by_makes ps es ≡ Some given → by_makes ps (es ++ others) ≡ Some given
+makes_more [] es others given is = is
+makes_more (p ∷ ps) [] others given is = absurd (none_given given is)
+makes_more (p ∷ ps) (Make text Built ∷ es) others given is = makes_more ps es others given is
+makes_more (p ∷ ps) (Make text WasSyntax ∷ es) others given is = is
+makes_more (p ∷ ps) (Make text WasTooBig ∷ es) others given is = is
+makes_more (p ∷ ps) (_ ∷ es) others given is = absurd (none_given given is)
+
+defined_more : (o : Result Settings ConfError) (es others : List Event) (given : Answer) → by_definition o es ≡ Some given → by_definition o (es ++ others) ≡ Some given
+defined_more (Ok settings) es others given is = makes_more (patterns_of settings.defs) es others given is
+defined_more (Err error) es others given is = is
+
+reading_more : (es others : List Event) (given : Answer) → by_reading es ≡ Some given → by_reading (es ++ others) ≡ Some given
+reading_more [] others given is = absurd (none_given given is)
+reading_more (Config root (Tree tree) ∷ es) others given is = defined_more (conf tree) es others given is
+reading_more (Config root TreeFailed ∷ es) others given is = is
+reading_more (Config root TreeTooLarge ∷ es) others given is = is
+reading_more (Config root TreeNoMemory ∷ es) others given is = reading_more es others given is
+reading_more (_ ∷ es) others given is = absurd (none_given given is)
+
+pub answer_stays : (response : Response) (es others : List Event) (given : Answer) → IsAnswer response es given → IsAnswer response (es ++ others) given
+answer_stays (Answers replied news) es others given is = is
+answer_stays ReadsAgain es others given is = reading_more es others given is
+
+-- ---- where a run stands
 
 -- nothing is left to write there, and nothing to say until names are asked for
 abbrev pub IsQuiet : Rereading → Run → Type 0
