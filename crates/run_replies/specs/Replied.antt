@@ -7,7 +7,7 @@ use Rattle.client_frames.specs.declared.answer.Answer.{Answer}
 use Rattle.client_replies.specs.Replies.{refused, sendable}
 use Rattle.client_table.specs.Clients.{conn_at}
 use Rattle.client_table.specs.Lives.{AreRequests, IsFault, refusals}
-use Rattle.f2b_base.specs.declared.outside.TreeAnswer.TheVariants.{Tree as TreeGiven, Failed as TreeFailed, TooLarge as TreeTooLarge}
+use Rattle.f2b_base.specs.declared.outside.TreeAnswer.TheVariants.{Tree as TreeGiven, Failed as TreeFailed, TooLarge as TreeTooLarge, NoMemory as TreeNoMemory}
 use Rattle.f2b_base.specs.declared.view.View.{View}
 use Rattle.f2b_world.specs.Told.{History}
 use Rattle.f2b_world.specs.declared.answer.Accept.TheVariants.{Conn}
@@ -53,11 +53,12 @@ abbrev pub by_definition : Result Settings ConfError → List Event → Option A
 by_definition (Ok settings) es = by_makes (patterns_of settings.defs) es
 by_definition (Err error) es = Some (untaken (ConfRefused error))
 
--- by the answer to the reading of the tree, and those to its patterns, which are the next events
+-- by the answer to the reading of the tree, and those to its patterns, which are the next events; a tree for which there was no memory is read again
 abbrev pub by_reading : List Event → Option Answer
 by_reading (Config root (TreeGiven tree) ∷ es) = by_definition (conf tree) es
 by_reading (Config root TreeFailed ∷ es) = Some (untaken ConfFault)
 by_reading (Config root TreeTooLarge ∷ es) = Some (untaken ConfTooLarge)
+by_reading (Config root TreeNoMemory ∷ es) = by_reading es
 by_reading _ = None
 
 -- ---- one answer
@@ -88,6 +89,11 @@ pub record IsAnswerToFault (frame : List ℕ) (given : Answer) : Type 0 where
   pub is : Is what frame
   pub same : given ≡ refused (fault_text what)
 
+-- how many requests of a client wait for their answer: one, while the configuration is read again for it
+abbrev pub waiting : ℕ → Point → ℕ
+waiting conn (AtTurn (AtReload reading client) s) = if conn_at client s.clients == conn then 1 else 0
+waiting conn _ = 0
+
 module _ (words : List (List ℕ)) (slots : ℕ → List ℕ) where
   -- The answer to the request of that place, among those that came of a client in the events `life` behind `start`: it is what the model replies at
   -- the moment, and over the state, of the server right before the event that made the request whole. A configuration that is read again is told of by
@@ -104,11 +110,6 @@ module _ (words : List (List ℕ)) (slots : ℕ → List ℕ) where
     pub same : IsAnswer (to_words server.now server.state asked) later given
 
   -- ---- one client
-
-  -- how many of its requests wait for their answer: one, while the configuration is read again for it
-  abbrev pub waiting : ℕ → Point → ℕ
-  waiting conn (AtTurn (AtReload reading client) s) = if conn_at client s.clients == conn then 1 else 0
-  waiting conn _ = 0
 
   -- Of the client with this number, which was accepted last in `start`, in the events `life` since then: what it took is a beginning of the frames of
   -- the answers, of which there is one to each of its requests that does not wait, in order, and one more where a frame of it was refused.
