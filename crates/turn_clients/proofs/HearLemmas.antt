@@ -22,7 +22,7 @@ use Rattle.run_law.proofs.PointLemmas.{halts_here}
 use Rattle.run_steps.specs.Keeping.{IsPlacedIn, KeepsRunning, news_of}
 use Rattle.run_steps.specs.declared.running.Running.{Running}
 use Rattle.turn_clients.specs.Responding.{RespondsTo, told_by}
-use Rattle.turn_clients.specs.Serving.{HasClients, HasHeard, ServeFails, Serves, at_reload, behind_read}
+use Rattle.turn_clients.specs.Serving.{HasClients, HasHeard, IsWrittenIf, ServeFails, Serves, at_reload, behind_read}
 use Rattle.turn_clients.specs.declared.response.Reply.{Reply}
 use Rattle.turn_clients.specs.declared.response.Response.{Response}
 use Rattle.turn_clients.specs.declared.response.Response.TheVariants.{ReadsAgain, Replies}
@@ -124,6 +124,12 @@ module _ (place : ℕ) (answer : GateRead) (before mid : Running) where
     pub heard_placed : (told : Option History) → IsPlacedIn told before.clocked → IsPlacedIn told mid.clocked
     heard_placed told placed = clients_placed before mid (responded (option_map told_by given) place (read_table place answer before)) told heard.clients placed
 
+    -- where it asks for the configuration nothing is unwritten to it
+    pub heard_written : AnswersRead (asks_at place before.clients) answer → given ≡ Some ReadsAgain → IsWrittenIf true place mid
+    heard_written answers again =
+        ap (unwritten_at place) (heard.clients.clients ∙ ap (λ (o : Option Response). responded (option_map told_by o) place (read_table place answer before)) again)
+        ∙ read_unwritten before.clocked.now answer place before.clients answers
+
     -- what is heard is this
     heard_is : (o : Option Response) → given ≡ o → (s : Server) → KeepsRunning s before → option_map told_by o ≡ to_heard s.now s.state (heard_at answer place s.clients)
     heard_is o same s keeps = ap (option_map told_by) (sym same) ∙ heard.responds s keeps
@@ -172,4 +178,4 @@ hear_early a place answer before = record { runs = λ r s here at keeps. halts_h
 
 pub ruleset taking_in = (table_within, table_unwritten, has_heard_part, has_heard_again, has_heard)
 
-pub ruleset hears = (hear_part, hear_again, hear_brought, hear_unbrought, hear_early, heard_many, heard_left, heard_placed)
+pub ruleset hears = (hear_part, hear_again, heard_written, hear_brought, hear_unbrought, hear_early, heard_many, heard_left, heard_placed)

@@ -10,7 +10,7 @@ use Rattle.run_law.specs.declared.status.Status.{Status}
 use Rattle.run_law.proofs.StageLemmas.{move_fails_on, moves_as, moves_none, moves_trans}
 use Rattle.run_steps.specs.Keeping.{KeepsRunning}
 use Rattle.run_steps.specs.declared.running.Running.{Running}
-use Rattle.turn_clients.specs.Serving.{AsksBehind, IsFarther, IsNearer, at_reload, behind as left_behind, onward_from, served_to}
+use Rattle.turn_clients.specs.Serving.{AsksBehind, IsAsking, IsFarther, IsNearer, at_reload, behind as left_behind, onward_from, served_to}
 use Rattle.turn_clients.proofs.ServingLemmas.{clients_past}
 
 module _ (from : ℕ) where
@@ -47,10 +47,11 @@ pub asked_there : (before between after : Running) (from place : ℕ) (o : Optio
     → left_behind place between ≤ left_behind from before → AsksBehind before from after (Some place)
 asked_there before between after from place o is nearer within few =
     let P : Option ℕ → Type 0 = λ x. IsNearer between place after x in
-    let same : length after.clients ≡ length between.clients = subst P is nearer in
-    (omega (arith, same, within), omega (arith, same, few))
+    let there : IsNearer between place after None = subst P is nearer in
+    let same : length after.clients ≡ length between.clients = there.0 in
+    (record { within = omega (arith, same, within); written = there.1 }, omega (arith, same, few))
 
-pub asked_within : (before after : Running) (from : ℕ) (o : Option ℕ) → AsksBehind before from after o → IfSome o (λ place. place < length after.clients)
+pub asked_within : (before after : Running) (from : ℕ) (o : Option ℕ) → AsksBehind before from after o → IfSome o (λ place. IsAsking place after)
 asked_within before after from None asked = tt
 asked_within before after from (Some place) asked = asked.0
 

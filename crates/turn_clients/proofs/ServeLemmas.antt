@@ -24,7 +24,7 @@ use Rattle.run_law.proofs.StageLemmas.{move_fails_here, moves_as, moves_trans}
 use Rattle.run_steps.specs.Keeping.{IsPlacedIn, KeepsRunning}
 use Rattle.run_steps.specs.declared.clocked.Clocked.{Clocked}
 use Rattle.run_steps.specs.declared.running.Running.{Running}
-use Rattle.turn_clients.specs.Serving.{HasClients, ServeFails, Serves, at_close, behind_read, onward_from}
+use Rattle.turn_clients.specs.Serving.{HasClients, IsNearer, IsWrittenIf, ServeFails, Serves, at_close, behind_read, onward_from}
 use Rattle.turn_clients.proofs.ServingLemmas.{client_there, clients_as, clients_left, clients_placed, keeps_clients, reaches_alone}
 
 -- the call that a client asks for comes next
@@ -140,4 +140,8 @@ module _ (a b : Standing) (place : ℕ) (before mid : Running) (again : Bool) (m
       let P : Bool → Type 0 = λ x. Moves KeepsRunning a b (to_clients place) (behind_read x place) before mid in
       serve_behind a b c place next before mid after (subst P is moves) more
 
-pub ruleset serving = (write_moves, wrote_many, serve_none, serve_behind, read_again, read_done, write_answered, read_answered, clients_left, clients_placed)
+-- one that asked for the configuration is still there, and written to whole
+pub asked_nearer : (place : ℕ) (before after : Running) (again : Bool) → again ≡ true → length after.clients ≡ length before.clients → IsWrittenIf again place after → IsNearer before place after None
+asked_nearer place before after again is many written = let P : Bool → Type 0 = λ x. IsWrittenIf x place after in (many, subst P is written)
+
+pub ruleset serving = (asked_nearer, write_moves, wrote_many, serve_none, serve_behind, read_again, read_done, write_answered, read_answered, clients_left, clients_placed)

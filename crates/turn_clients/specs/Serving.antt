@@ -1,6 +1,6 @@
 -- How one client is served, from right behind a call on it.
 use Rattle.std.specs.Prelude.{ℕ, ◌≡◌, ◌<◌, ◌≤◌, ◌-◌, length, Bool, true, false, List, [], ◌∷◌, ◌++◌, Option, Some, None, option_map}
-use Rattle.client_table.specs.Clients.{Client, after_read, changed_at, heard_at}
+use Rattle.client_table.specs.Clients.{Client, after_read, changed_at, heard_at, unwritten_at}
 use Rattle.f2b_world.specs.Told.{Standing}
 use Rattle.f2b_world.specs.declared.answer.Accept.{Accept}
 use Rattle.f2b_world.specs.declared.answer.Accept.TheVariants.{Conn}
@@ -50,19 +50,33 @@ served_to (Some place) s = at_reload place s
 abbrev pub behind : ℕ → Running → ℕ
 behind place kept = length kept.clients - place
 
--- there are fewer behind the place to go on from than behind the one before; or one asked for the configuration, which is still there
+-- it is written to whole
+abbrev pub IsWritten : ℕ → Running → Type 0
+IsWritten place kept = unwritten_at place kept.clients ≡ []
+
+-- where it asked for the configuration it is written to whole
+abbrev pub IsWrittenIf : Bool → ℕ → Running → Type 0
+IsWrittenIf true place kept = IsWritten place kept
+IsWrittenIf false place kept = Unit {0}
+
+-- There are fewer behind the place to go on from than behind the one before; or one asked for the configuration: it is still there, and written to whole.
 abbrev pub IsNearer : Running → ℕ → Running → Option ℕ → Type 0
 IsNearer before place after (Some next) = behind next after < behind place before
-IsNearer before place after None = length after.clients ≡ length before.clients
+IsNearer before place after None = (length after.clients ≡ length before.clients) × IsWritten place after
 
--- the client of that place asked for the configuration: it is still there, and there are no more behind it than there were
+-- the client of a place is there, and written to whole
+pub record IsAsking (place : ℕ) (kept : Running) : Type 0 where
+  pub within : place < length kept.clients
+  pub written : IsWritten place kept
+
+-- the client of that place asked for the configuration, and there are no more behind it than there were
 abbrev pub AsksBehind : Running → ℕ → Running → Option ℕ → Type 0
-AsksBehind before from after (Some place) = (place < length after.clients) × (behind place after ≤ behind from before)
+AsksBehind before from after (Some place) = IsAsking place after × (behind place after ≤ behind from before)
 AsksBehind before from after None = Unit {0}
 
 -- and behind it there are fewer
 abbrev pub IsFarther : Running → ℕ → Running → Option ℕ → Type 0
-IsFarther before place after (Some next) = (next < length after.clients) × (behind next after < behind place before)
+IsFarther before place after (Some next) = IsAsking next after × (behind next after < behind place before)
 IsFarther before place after None = Unit {0}
 
 -- these are the clients, and all else is as before

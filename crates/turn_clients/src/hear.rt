@@ -7,7 +7,7 @@ ghost use Rattle.run_law.specs.Stages.{Brings, BringFails};
 ghost use Rattle.run_steps.specs.Keeping.{KeepsRunning, news_of};
 ghost use Rattle.std.specs.Prelude.{[]};
 ghost use Rattle.turn_clients.specs.Responding.{IsFitReply};
-ghost use Rattle.turn_clients.specs.Serving.{behind_read};
+ghost use Rattle.turn_clients.specs.Serving.{IsWrittenIf, behind_read};
 ghost use Rattle.run_steps.specs.Keeping.{IsPlacedIn};
 ghost use Rattle.turn_clients.specs.Responding.{IsFit};
 ghost use Rattle.turn_clients.specs.Serving.{HasHeard, ServeFails, Serves};
@@ -86,6 +86,7 @@ pub(crate) fn hear<'f, W: World + Disk>(
     ensures cause { IfErr result (HasCause (W.stands world.old) (W.stands world.new)) }
     ensures steady { IsSteady (W.stands world.old) (W.stands world.new) }
     ensures many { IfOk result (λ r. length r.0.clients ≡ length running.entry.clients) }
+    ensures written { IfOk result (λ r. IsWrittenIf r.1 place r.0) }
     ensures left { IfOk result (λ r. r.0.left ≡ running.entry.left) }
     ensures placed { IfOk result (λ r. IsPlacedIn (W.stands world.new).told r.0.clocked) }
 {

@@ -4,7 +4,7 @@ ghost use Rattle.client_table.specs.Clients.{AnswersWrite, IsBounded, Reads, aft
 ghost use Rattle.run_law.specs.Stages.{HasCause, IsSteady, Moves, MoveFails};
 ghost use Rattle.run_law.specs.Turn.{to_clients};
 ghost use Rattle.run_steps.specs.Keeping.{IsPlacedIn, KeepsRunning};
-ghost use Rattle.turn_clients.specs.Serving.{HasClients, IsNearer, behind_read, onward_from};
+ghost use Rattle.turn_clients.specs.Serving.{HasClients, IsNearer, IsWrittenIf, behind_read, onward_from};
 
 use crate::close::{close, close_over};
 use crate::hear::hear;
@@ -44,6 +44,7 @@ fn read<'f, W: World + Disk + Gate>(
     ensures cause { IfErr result (HasCause (W.stands world.old) (W.stands world.new)) }
     ensures steady { IsSteady (W.stands world.old) (W.stands world.new) }
     ensures many { IfOk result (λ r. length r.0.clients ≡ length running.entry.clients) }
+    ensures written { IfOk result (λ r. IsWrittenIf r.1 place r.0) }
     ensures left { IfOk result (λ r. r.0.left ≡ running.entry.left) }
     ensures placed { IfOk result (λ r. IsPlacedIn (W.stands world.new).told r.0.clocked) }
 {

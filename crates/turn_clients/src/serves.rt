@@ -3,7 +3,7 @@ ghost use Rattle.std.specs.Prelude.{◌≡◌, ◌<◌, length, IfErr, IfOk, IfS
 ghost use Rattle.run_law.specs.Stages.{HasCause, IsSteady, Moves, MoveFails};
 ghost use Rattle.run_law.specs.Turn.{behind_client, to_accept, to_clients};
 ghost use Rattle.run_steps.specs.Keeping.{IsPlacedIn, KeepsRunning};
-ghost use Rattle.turn_clients.specs.Serving.{AsksBehind, IsFarther, served_to};
+ghost use Rattle.turn_clients.specs.Serving.{AsksBehind, IsAsking, IsFarther, served_to};
 
 use crate::accept::accept;
 use crate::close::close_over;
@@ -58,7 +58,7 @@ pub fn serve_clients<'f, W: World + Disk + Gate>(
     ensures err { IfErr result (MoveFails KeepsRunning (W.stands world.old) (W.stands world.new) to_accept running.entry) }
     ensures cause { IfErr result (HasCause (W.stands world.old) (W.stands world.new)) }
     ensures steady { IsSteady (W.stands world.old) (W.stands world.new) }
-    ensures asked { IfOk result (λ r. IfSome r.1 (λ place. place < length r.0.clients)) }
+    ensures asked { IfOk result (λ r. IfSome r.1 (λ place. IsAsking place r.0)) }
     ensures left { IfOk result (λ r. r.0.left ≡ running.entry.left) }
     ensures placed { IfOk result (λ r. IsPlacedIn (W.stands world.new).told r.0.clocked) }
 {
