@@ -29,7 +29,7 @@ fn input(clocked: &Clocked, defs: Defs) -> Option<What>
 
 /// Takes a configuration whose paths are found as an input, where it changes something: the lines of the last listing come first, and these
 /// lines behind all that it tells.
-#[tactic(auto, using(crate::proofs::ConfigureLemmas::configuring, run_steps::proofs::StoredLemmas::storing, run_law::proofs::CauseLemmas::counting))]
+#[tactic(auto, using(crate::proofs::ConfigureLemmas::taking, run_steps::proofs::StoredLemmas::storing, run_law::proofs::CauseLemmas::counting))]
 pub fn configure<W: World + Disk>(
     alloc: Global,
     world: &mut W,
