@@ -20,8 +20,7 @@ mod taking;
 mod told;
 
 pub use clocked::Clocked;
-pub use line::{ready_line, reloaded_line, rotated_line, stopping_line, unread_line};
-pub use refusal::{error_line, untaken_text};
+pub use line::{ready_line, rotated_line, stopping_line, unread_line};
 pub use running::Running;
 pub use say::{refuse, say_all};
 pub use taking::bring;
