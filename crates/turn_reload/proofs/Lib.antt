@@ -1,0 +1,4 @@
+pub mod LeaveLemmas
+pub mod TakeLemmas
+pub mod ReloadLemmas
+pub mod FollowLemmas
