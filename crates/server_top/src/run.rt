@@ -18,7 +18,7 @@ ghost use Rattle.run_trees.specs.Trees.{IsOfTree};
 ghost use Rattle.server_top.specs.Prepared.{BeginsSound, OpensTo, PlanHalts, Prepares, ResumeFails, Resumes};
 ghost use Rattle.server_top.specs.Usage.{IsOfUsage};
 
-use crate::turns::make_turns;
+use crate::turns::{begin_turn, go_on, make_turns};
 use crate::words::read_words;
 use child_table::ChildTable;
 use client_table::ClientTable;
@@ -108,8 +108,9 @@ fn serve<W: World + Directories + Children + Store + Disk + Gate>(
     ensures cause { IfErr result (HasCause (W.stands world.old) (W.stands world.new)) }
     ensures steady { IsSteady (W.stands world.old) (W.stands world.new) }
 {
-    // The logs borrow the filters, which so stand here until the run is over.
-    let (filters, clocked) = prepare(alloc, world, plan)?;
+    // The logs borrow the filters, which so stand here until a configuration is taken again, or the run is over.
+    let (first, clocked) = prepare(alloc, world, plan)?;
+    let mut filters = first;
     let logs = follow(alloc, filters.as_slice(), &clocked)?;
     let running = Running {
         clocked,
@@ -118,7 +119,21 @@ fn serve<W: World + Directories + Children + Store + Disk + Gate>(
         clients: ClientTable::new(alloc),
         left: plan.turns,
     };
-    make_turns(alloc, world, running)?;
+    let (running, asked) = begin_turn(alloc, world, running)?;
+    let mut outcome = make_turns(alloc, world, running, asked)?;
+    'reloads: while let Some((running, place)) = outcome {
+        match reload(alloc, world, plan, running, place)? {
+            Reread::Untaken(running) => outcome = go_on(alloc, world, running, place)?,
+            Reread::Taken {
+                filters: fresh,
+                reloaded,
+            } => {
+                filters = fresh;
+                let running = follow_on(alloc, filters.as_slice(), reloaded)?;
+                outcome = go_on(alloc, world, running, place)?;
+            }
+        }
+    }
     Ok(())
 }
 
