@@ -1,13 +1,11 @@
 -- A configuration that is read again for a client, computed: one that is taken, one that cannot be read, one with a pattern that is refused, and none
 -- while the server is stopping.
-use Rattle.std.proofs.Common.{ℕ, ◌≡◌, true, Some, List, [], ◌∷◌, ◌++◌, refl, Ok}
+use Rattle.std.proofs.Common.{◌≡◌, true, Some, List, [], ◌∷◌, ◌++◌, refl}
 use Rattle.std.specs.Char.{encode_utf8}
 use Rattle.std.specs.Fmt.{digits}
 use Rattle.std.specs.Prelude.{codes}
 use Rattle.std.specs.Str.{chars, is_utf8}
-use Rattle.f2b_base.specs.declared.jail.Defs.{Defs}
 use Rattle.f2b_base.specs.declared.outside.TreeAnswer.TheVariants.{Tree as TreeGiven, Failed as TreeFailed, TooLarge as TreeTooLarge}
-use Rattle.f2b_world.specs.declared.answer.GateWrite.TheVariants as write
 use Rattle.f2b_world.specs.declared.answer.MakeAnswer.TheVariants.{Built, Syntax as WasSyntax}
 use Rattle.f2b_world.specs.declared.answer.NamesAnswer.TheVariants.{Failed as NamesFailed}
 use Rattle.f2b_world.specs.declared.answer.Said.TheVariants.{Done}
@@ -15,9 +13,7 @@ use Rattle.f2b_world.specs.declared.event.Event.{Event}
 use Rattle.f2b_world.specs.declared.event.Event.TheVariants.{Config, Make, Names, Say}
 use Rattle.client_frames.specs.Comes.{first_word, heard, missing, said_length, words_in}
 use Rattle.client_frames.specs.Frames.{four_bytes, framed, reply as reply_frame, reply_body, spelling, two_bytes, word_spelling}
-use Rattle.client_replies.specs.Changes.{effect}
 use Rattle.client_replies.specs.Refusals.{refusal}
-use Rattle.client_replies.specs.Replies.{reply}
 use Rattle.client_table.specs.Clients.{accepted}
 use Rattle.client_words.specs.Commands.{command_of}
 use Rattle.client_words.specs.Verbs.{verb_of}
@@ -37,6 +33,7 @@ use Rattle.run_law.specs.Calls.{AskMake, AskNames, AskPause, AskRead, AskSay, As
 use Rattle.run_law.specs.Changes.{config_changes}
 use Rattle.run_law.specs.Law.{next_call}
 use Rattle.run_law.specs.News.{brings}
+use Rattle.run_law.specs.Paths.{expanded}
 use Rattle.run_law.specs.Patterns.{patterns_of}
 use Rattle.run_law.specs.Points.{Run}
 use Rattle.run_law.specs.Refusals.{error_line, pattern_refusal}
@@ -149,7 +146,7 @@ unfolding expanded_tags brings
 asks_for_names_behind_the_patterns = refl
 
 says_what_it_cannot_list_first : next_call (after_all (building wild) (Names (codes "/") NamesFailed ∷ [])) ≡ Some (AskSay (codes "910 WARNING [a] cannot read /c?\n910 INFO Reloaded\n"))
-unfolding expanded_tags brings config_changes to_starts to_end reply_frame framed four_bytes reply_body unread_line reloaded_line stamped digits
+unfolding expanded_tags brings expanded config_changes to_starts to_end reply_frame framed four_bytes reply_body unread_line reloaded_line stamped digits
 says_what_it_cannot_list_first = refl
 
 -- ---- while the server is stopping

@@ -177,14 +177,14 @@ module _ (words : List (List ℕ)) (slots : ℕ → List ℕ) (conn : ℕ) (star
             bytes = lived.bytes;
             taken = more reply lived.answers given ∙ ap (λ (t : List ℕ). t ++ reply given) (lived.taken ∙ sym (taken_more [] takes));
             count = (let few : length lived.answers + 1 ≡ length lived.requests + 0 = lived.count in
-            let all : length (lived.answers ++ given ∷ []) + 0 ≡ length lived.requests + 0 = omega (arith, few, length-append lived.answers (given ∷ [])) in all);
+                let all : length (lived.answers ++ given ∷ []) + 0 ≡ length lived.requests + 0 = omega (arith, few, length-append lived.answers (given ∷ [])) in all);
             each = λ place asked other is gave. elim (pushed lived.answers given place other gave) [
               | inl old ↦ answer_more place asked other (lived.each place asked other is old)
               | inr new ↦
                   let P : ℕ → Answer → Type 0 = λ n a. IsAnswerTo words slots conn start (life ++ event ∷ []) n asked a in
                   let there : slice_get lived.requests (length lived.answers) ≡ Some asked = subst (λ (n : ℕ). slice_get lived.requests n ≡ Some asked) new.0 is in
                   let now : P (length lived.answers) given = subst (λ (es : List Event). IsAnswerTo words slots conn start es (length lived.answers) asked given)
-                      (append-nil (life ++ event ∷ [])) (answer_on asked [] given there (same [])) in
+                  (append-nil (life ++ event ∷ [])) (answer_on asked [] given there (same [])) in
                   subst (λ (n : ℕ). P n other) (sym new.0) (subst (λ (a : Answer). P (length lived.answers) a) new.1 now)
             ];
             last = λ other e gave. absurd (let both : false ≡ true = e in cc);
@@ -294,7 +294,7 @@ module _ (words : List (List ℕ)) (slots : ℕ → List ℕ) (conn : ℕ) (star
                 | inr new ↦
                     let P : ℕ → List (List ℕ) → Answer → Type 0 = λ n ws a. IsAnswerTo words slots conn start (life ++ event ∷ []) n ws a in
                     let first : P (length lived.requests) asked given = subst (λ (es : List Event). IsAnswerTo words slots conn start es (length lived.requests) asked given)
-                        (append-nil (life ++ event ∷ [])) (new_answer asked is [] given replied) in
+                    (append-nil (life ++ event ∷ [])) (new_answer asked is [] given replied) in
                     subst (λ (n : ℕ). P n others other) (sym now.0)
                     (subst (λ (ws : List (List ℕ)). P (length lived.requests) ws other) now.1 (subst (λ (a : Answer). P (length lived.requests) asked a) new.1 first))
               ]
