@@ -1,5 +1,5 @@
 -- The numbers of a run's clients stay those that are in use.
-use Rattle.std.proofs.Common.{ℕ, ◌≡◌, false, List, [], ◌∷◌, ◌++◌, Option, Some, None, refl, sym, ◌∙◌, subst}
+use Rattle.std.proofs.Common.{ℕ, ◌≡◌, false, List, [], ◌∷◌, ◌++◌, Option, Some, refl, sym, ◌∙◌, subst}
 use Rattle.std.specs.List.{remove}
 use Rattle.client_table.specs.Clients.{Client, accepted, after_read, after_write, answered, changed_at, heard_at}
 use Rattle.client_table.proofs.PlaceLemmas.{map_at}

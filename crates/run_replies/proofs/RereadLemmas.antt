@@ -1,7 +1,7 @@
 -- What each event comes to while a configuration is read again for a client: the reading goes on, or the client is answered.
-use Rattle.std.proofs.Common.{ℕ, ◌≡◌, ◌⊎◌, inl, inr, List, [], ◌∷◌, ◌++◌, Option, Some, None, Result, Ok, Err, refl, sym, ap, ◌∙◌, subst}
+use Rattle.std.proofs.Common.{ℕ, ◌≡◌, ◌⊎◌, inl, inr, List, [], ◌∷◌, ◌++◌, Option, Some, None, Result, Ok, Err, refl, sym, subst}
 use Rattle.client_frames.specs.declared.answer.Answer.{Answer}
-use Rattle.client_table.specs.Clients.{Client, answered, changed_at}
+use Rattle.client_table.specs.Clients.{answered, changed_at}
 use Rattle.f2b_base.specs.declared.outside.TreeAnswer.{TreeAnswer}
 use Rattle.f2b_base.specs.declared.outside.TreeAnswer.TheVariants.{Tree, Failed as TreeFailed, TooLarge as TreeTooLarge, NoMemory as TreeNoMemory}
 use Rattle.f2b_world.specs.declared.answer.MakeAnswer.{MakeAnswer}
@@ -14,14 +14,14 @@ use Rattle.filter_regex.specs.declared.error.BuildKind.TheVariants.{Syntax, TooB
 use Rattle.jail_conf.specs.Conf.{conf}
 use Rattle.jail_conf.specs.declared.conf_error.ConfError.{ConfError}
 use Rattle.jail_conf.specs.declared.settings.Settings.{Settings}
-use Rattle.run_law.specs.Calls.{Call, AskMake, AskNames, AskSay, AskTree, IsNext, Makes}
+use Rattle.run_law.specs.Calls.{Call, AskSay, AskTree, IsNext, Makes}
 use Rattle.run_law.specs.Disk.{IsLoading}
-use Rattle.run_law.specs.Law.{MayCome, call_behind, call_of, feed, moved, next_call, point_call}
-use Rattle.run_law.specs.News.{News, brings}
-use Rattle.run_law.specs.Paths.{Naming, Path, directory, first_naming, named, with_paths}
+use Rattle.run_law.specs.Law.{MayCome, call_of, feed, moved, next_call, point_call}
+use Rattle.run_law.specs.News.{brings}
+use Rattle.run_law.specs.Paths.{Naming, Path, first_naming, named, with_paths}
 use Rattle.run_law.specs.Patterns.{Pattern, patterns_of}
-use Rattle.run_law.specs.Points.{Rereading, OfTree, OfMakes, OfNames, AtReload, Point, AtTurn, Over, Run}
-use Rattle.run_law.specs.Reading.{make_call, makes_next, makes_one, names_call, names_in, names_next, read_as, reads_names, reads_tree, unread_by}
+use Rattle.run_law.specs.Points.{Rereading, OfTree, OfMakes, OfNames, AtReload, Point, AtTurn, Run}
+use Rattle.run_law.specs.Reading.{make_call, makes_one, names_call, names_in, names_next, read_as, reads_tree, unread_by}
 use Rattle.run_law.specs.Reload.{left_for, names_for, taken_for, untaken_for}
 use Rattle.run_law.specs.Requests.{Answers, ReadsAgain, Response}
 use Rattle.run_law.specs.Said.{joined}
@@ -29,7 +29,7 @@ use Rattle.run_law.specs.Server.{Server}
 use Rattle.run_law.specs.Stages.{IsStill}
 use Rattle.run_law.specs.declared.plan.Plan.{Plan}
 use Rattle.run_law.specs.declared.status.Status.{Status}
-use Rattle.run_law.specs.declared.status.Status.TheVariants.{ConfFault, ConfRefused, ConfTooLarge, PatternRefused, SinkFault}
+use Rattle.run_law.specs.declared.status.Status.TheVariants.{ConfFault, ConfRefused, ConfTooLarge, PatternRefused}
 use Rattle.run_law.proofs.DiskLemmas.{written_call}
 use Rattle.run_replies.specs.Replied.{IsAnswer, by_definition, by_makes, by_reading, taken, untaken}
 use Rattle.run_replies.proofs.PlaceLemmas.{HasClients, has_taken, has_untaken}

@@ -20,10 +20,10 @@ use Rattle.run_replies.specs.Replied.{IsReplied, RepliesInOrder, waiting}
 use Rattle.run_replies.specs.Talks.{closes_it, is_closed}
 use Rattle.run_replies.proofs.CallLemmas.{accepts_at}
 use Rattle.run_replies.proofs.LifeLemmas.{lived_none, lived_replied}
-use Rattle.run_replies.proofs.NumberLemmas.{AreNumbered, client_of, none_of, own_added}
+use Rattle.run_replies.proofs.NumberLemmas.{AreNumbered, none_of, own_added}
 use Rattle.run_replies.proofs.PlaceLemmas.{HasClients, has_served}
 use Rattle.run_replies.proofs.InUseLemmas.{HasNumbers, Numbered, numbered_on}
-use Rattle.run_replies.proofs.WalkLemmas.{Goes, IsOther, IsSettled, IsWaiting, Lives, Of, lives_on, one_waiting, settled_waiting}
+use Rattle.run_replies.proofs.WalkLemmas.{Goes, IsOther, Lives, Of, lives_on, one_waiting, settled_waiting}
 
 -- ---- the parts of a walk
 
