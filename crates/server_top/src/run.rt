@@ -6,7 +6,6 @@ ghost use Rattle.f2b_world.specs.Told.{Adds};
 ghost use Rattle.f2b_model.specs.Storable.{AreStorableDefs};
 ghost use Rattle.filter_regex.specs.Rules.{rules_of};
 ghost use Rattle.run_jobs.specs.Runs.{HoldBytes, TriesJobsInOrder};
-ghost use Rattle.run_law.specs.Points.{AtStore, AtTree};
 ghost use Rattle.run_law.specs.Served.{IsCaused, IsRun};
 ghost use Rattle.run_law.specs.Stages.{HasCause, IsSteady};
 ghost use Rattle.run_law.specs.Stops.{BeginsOn, held_in};
@@ -15,7 +14,6 @@ ghost use Rattle.run_law.specs.declared.status.Status.TheVariants.{TurnsSpent as
 ghost use Rattle.run_replies.specs.Replied.{RepliesBehindInputs, RepliesInOrder};
 ghost use Rattle.run_start.specs.Followed.{ArePlaces, rules_in};
 ghost use Rattle.run_steps.specs.Keeping.{IsPlacedIn};
-ghost use Rattle.run_steps.specs.Starting.{LeavesSlots, StartFails, Starts};
 ghost use Rattle.run_trees.specs.Trees.{IsOfTree};
 ghost use Rattle.server_top.specs.Prepared.{BeginsSound, OpensTo, PlanHalts, Prepares, ResumeFails, Resumes};
 ghost use Rattle.server_top.specs.Usage.{IsOfUsage};
@@ -32,29 +30,8 @@ use run_law::{Plan, Status};
 use run_load::{listen, load_journal};
 use run_start::{first_turn, follow};
 use run_steps::{Clocked, Running, refuse};
-use run_trees::{build_filters, read_settings};
+use run_trees::{Configuration, read_configuration};
 use std::alloc::Global;
-
-// The configuration, and the filters of all jails.
-#[tactic(auto, using(run_steps::proofs::StartLemmas::starting, run_steps::proofs::StartLemmas::leaving, run_law::proofs::CauseLemmas::counting))]
-fn configure<W: World>(
-    alloc: Global,
-    world: &mut W,
-    plan: &Plan,
-) -> Result<(Settings, Vec<Filter>), Status>
-    ensures ok { IfOk result (λ r. Starts (W.stands world.old) (W.stands world.new) plan.now AtTree (AtStore r.0)) }
-    ensures still { OnOk result (LeavesSlots (W.stands world.old) (W.stands world.new)) }
-    ensures defined { IfOk result (λ r. IsOfTree r.0) }
-    ensures storable { IfOk result (λ r. AreStorableDefs r.0.defs) }
-    ensures filters { IfOk result (λ r. r.1.items ≡ map rules_of r.0.defs.jails) }
-    ensures err { IfErr result (StartFails (W.stands world.old) (W.stands world.new) plan.now AtTree) }
-    ensures cause { IfErr result (HasCause (W.stands world.old) (W.stands world.new)) }
-    ensures steady { IsSteady (W.stands world.old) (W.stands world.new) }
-{
-    let settings = read_settings(alloc, world, plan)?;
-    let filters = build_filters(alloc, world, plan, &settings)?;
-    Ok((settings, filters))
-}
 
 // The state that was stored, and behind it the socket.
 #[tactic(auto, using(crate::proofs::ServeLemmas::letting_in, run_law::proofs::CauseLemmas::counting))]
@@ -113,7 +90,7 @@ fn prepare<W: World + Directories + Store + Disk + Gate>(
     ensures steady { IsSteady (W.stands world.old) (W.stands world.new) }
     ensures placed { IfOk result (λ r. IsPlacedIn (W.stands world.new).told r.1) }
 {
-    let (settings, filters) = configure(alloc, world, plan)?;
+    let Configuration { settings, filters } = read_configuration(alloc, world, plan)?;
     let clocked = resume(alloc, world, plan, &settings)?;
     Ok((filters, clocked))
 }
