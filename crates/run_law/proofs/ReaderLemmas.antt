@@ -16,7 +16,7 @@ use Rattle.run_law.specs.declared.status.Status.{Status}
 use Rattle.slot_writes.specs.Entries.{Entry, Written, Full, Spent}
 
 -- the start of a run
-pub starting : Reader
+abbrev pub starting : Reader
 starting = record {
   at_tree = AtTree;
   at_makes = λ settings p ps. AtMakes settings (p ∷ ps);
@@ -31,7 +31,7 @@ starting = record {
   untaken_from_any = λ status point r. refl;
 }
 
-pub starting_names : Namer
+abbrev pub starting_names : Namer
 starting_names = record {
   at_names = AtNames;
   found = starts_with;
@@ -72,7 +72,7 @@ module _ (i : ℕ) (s : Server) where
       let x = tells_untaken status i s in brings_any x.news (point_on x.onward) (with_clients x.clients s) point r
 
   -- for the client of a place
-  pub reloading : Reader
+  abbrev pub reloading : Reader
   reloading = record {
     at_tree = AtTurn (AtReload OfTree i) s;
     at_makes = λ settings p ps. AtTurn (AtReload (OfMakes settings (p ∷ ps)) i) s;
@@ -87,7 +87,7 @@ module _ (i : ℕ) (s : Server) where
     untaken_from_any = untaken_any;
   }
 
-pub reloading_names : ℕ → Namer
+abbrev pub reloading_names : ℕ → Namer
 reloading_names i = record {
   at_names = names_for i;
   found = taken_for i;

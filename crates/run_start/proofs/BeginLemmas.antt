@@ -18,8 +18,8 @@ use Rattle.reconcile.specs.Engines.{EngineNow}
 use Rattle.reconcile.specs.Loads.{Loaded}
 use Rattle.run_law.specs.Law.{Goes, Halts}
 use Rattle.run_law.specs.News.{News, after_news, brings, server_after}
-use Rattle.run_law.specs.Paths.{with_paths}
-use Rattle.run_law.specs.Points.{AtFirst, Run}
+use Rattle.run_law.specs.Points.{AtFirst, AtNames, Run}
+use Rattle.run_law.specs.Readers.{Namer}
 use Rattle.run_law.specs.Said.{ready_line}
 use Rattle.run_law.specs.Server.{Server, begun, jails, moment_of}
 use Rattle.run_law.specs.Stages.{Brings, BringFails, IsAt}
@@ -29,7 +29,6 @@ use Rattle.run_law.specs.declared.status.Status.{Status}
 use Rattle.run_law.specs.declared.status.Status.TheVariants.{NoMemory}
 use Rattle.run_law.proofs.CauseLemmas.{steady_call, steady_placed}
 use Rattle.run_law.proofs.PointLemmas.{goes_trans, halts_after, halts_here, point_goes}
-use Rattle.run_law.proofs.ReaderLemmas.{starting_names}
 use Rattle.run_start.specs.Configured.{HasJails, configuring}
 use Rattle.run_start.specs.First.{BeginFails, Begins, Begun, ConfigureFails, Configures, KeepsBegun}
 use Rattle.run_start.specs.Followed.{rules_in}
@@ -59,11 +58,21 @@ pub ruleset reading = (is_read, is_timely)
 
 -- ---- the names behind it
 
+-- a start reads them
+abbrev pub start_namer : Namer
+start_namer = record {
+  at_names = AtNames;
+  found = starts_with;
+  asks = λ plan settings naming s. refl;
+  names = λ settings naming s dir answer r. refl;
+  saying = λ settings naming s. tt;
+}
+
 module _ (a b : Standing) (settings : Settings) (engine : EngineNow) (reading : Reading) (kept : Clocked) (call : Called a (ClockRead reading) b) (read : IsRead engine reading kept) where
-  begins_at : (plan : Plan) (l : Loaded) (r : Run) → r.plan ≡ plan → IsAt r (AtFirst settings l) → Goes a.told b.told r (naming starting_names settings (begun plan.turns l reading) r)
+  begins_at : (plan : Plan) (l : Loaded) (r : Run) → r.plan ≡ plan → IsAt r (AtFirst settings l) → Goes a.told b.told r (naming start_namer settings (begun plan.turns l reading) r)
   begins_at plan l r is at =
       let Q : Run → Type 0 = λ x. Goes a.told b.told r x in
-      let there : first_read reading settings l r ≡ naming starting_names settings (begun plan.turns l reading) r = λ i. naming starting_names settings (begun ((is i).turns) l reading) r in
+      let there : first_read reading settings l r ≡ naming start_namer settings (begun plan.turns l reading) r = λ i. naming start_namer settings (begun ((is i).turns) l reading) r in
       subst Q there (point_goes a b (ClockRead reading) r (AtFirst settings l) call at tt refl)
 
   begins_keeping : (plan : Plan) (l : Loaded) → KeepsLoaded l engine → KeepsBegun plan (begun plan.turns l reading) kept
@@ -93,7 +102,7 @@ module _ (a b : Standing) (settings : Settings) (engine : EngineNow) (reading : 
   begins c d plan named after names found configures = record {
     runs = λ r l is at loaded.
         let s = begun plan.turns l reading in
-        let one = names.runs starting_names r s at.still (begins_keeping plan l loaded).clocked in
+        let one = names.runs start_namer r s at.still (begins_keeping plan l loaded).clocked in
         let two = configures.runs plan settings one.here s one.still found (record { clocked = one.keeps; logs = refl; children = refl; clients = refl; left = refl }) in
         record {
           to = two.to;
@@ -108,7 +117,7 @@ module _ (a b : Standing) (settings : Settings) (engine : EngineNow) (reading : 
   pub begin_fails : (c : Standing) (plan : Plan) (status : Status) → NameFails b c settings kept status → BeginFails a c plan settings engine status
   begin_fails c plan status fails = record {
     runs = λ r l is at loaded.
-        halts_after a.told b.told c.told r _ status (begins_at plan l r is at) (fails.runs starting_names r (begun plan.turns l reading) at.still (begins_keeping plan l loaded).clocked);
+        halts_after a.told b.told c.told r _ status (begins_at plan l r is at) (fails.runs start_namer r (begun plan.turns l reading) at.still (begins_keeping plan l loaded).clocked);
   }
 
   -- the run ended behind the last listing
@@ -116,7 +125,7 @@ module _ (a b : Standing) (settings : Settings) (engine : EngineNow) (reading : 
   begin_ends c d plan named status names fails = record {
     runs = λ r l is at loaded.
         let s = begun plan.turns l reading in
-        let one = names.runs starting_names r s at.still (begins_keeping plan l loaded).clocked in
+        let one = names.runs start_namer r s at.still (begins_keeping plan l loaded).clocked in
         halts_after a.told c.told d.told r _ status (goes_trans a.told b.told c.told r _ _ (begins_at plan l r is at) one.goes) (fails.runs one.here s one.still one.keeps);
   }
 

@@ -16,7 +16,7 @@ use Rattle.run_law.specs.Reading.{config_news}
 use Rattle.run_law.specs.Server.{Server}
 use Rattle.run_law.specs.Stages.{Brings, BringFails}
 use Rattle.run_law.specs.declared.status.Status.{Status}
-use Rattle.run_law.proofs.StageLemmas.{brings_same, fails_early, fails_same}
+use Rattle.run_law.proofs.StageLemmas.{brings_same, fails_same}
 use Rattle.run_start.specs.Configured.{HasJails, IsConfiguring, TellsInput, configuring, input_if}
 use Rattle.run_start.specs.Followed.{ArePlaces}
 use Rattle.run_start.specs.declared.named.Named.{Named}
@@ -34,7 +34,10 @@ config_news_is false before defs behind = refl
 pub configuring_is : (kept : Clocked) (before : List (List ℕ)) (defs : Defs) (behind : List (List ℕ)) (what : Option What) → TellsInput kept defs what
     → (s : Server) → KeepsClocked s kept → configuring before defs behind s ≡ news_of before what behind s
 configuring_is kept before defs behind what tells s keeps =
-    config_news_is (config_changes s.state defs) before defs behind ∙ (λ i. record { before = before; what = sym (tells.tells s keeps) i; behind = behind })
+    let mid : News = record { before = before; what = input_if (config_changes s.state defs) defs; behind = behind } in
+    let one : configuring before defs behind s ≡ mid = config_news_is (config_changes s.state defs) before defs behind in
+    let two : mid ≡ news_of before what behind s = λ i. record { before = before; what = sym (tells.tells s keeps) i; behind = behind } in
+    one ∙ two
 
 module _ (a b : Standing) (named : Named) (behind slice : List (List ℕ)) (what : Option What) (shown : slice ≡ named.before) (tells : TellsInput named.clocked named.defs what) where
   told_so : (s : Server) → KeepsClocked s named.clocked → configuring named.before named.defs behind s ≡ news_of slice what behind s
@@ -47,16 +50,13 @@ module _ (a b : Standing) (named : Named) (behind slice : List (List ℕ)) (what
       → BringFails KeepsClocked a b (configuring named.before named.defs behind) named.clocked status
   configure_fails status fails = fails_same KeepsClocked a b (configuring named.before named.defs behind) (news_of slice what behind) named.clocked status told_so fails
 
-has_step : (kept after : Clocked) (defs : Defs) (what : Option What) → IsConfiguring defs kept.engine.core what → Makes kept what after → HasJails defs after.engine.core
-has_step kept after defs None has makes = subst (HasJails defs) (sym makes) has
-has_step kept after defs (Some what) is makes =
+-- behind it the jails are its own
+pub configured_has : (kept after : Clocked) (defs : Defs) (what : Option What) → IsConfiguring defs kept.engine.core what → Makes kept what after → HasJails defs after.engine.core
+configured_has kept after defs None has makes = subst (HasJails defs) (sym makes) has
+configured_has kept after defs (Some what) is makes =
     let P : What → Type 0 = λ w. after.engine.core ≡ step_now kept.engine.core (input_of kept w) in
     let core : after.engine.core ≡ step_now kept.engine.core (input_of kept (Config defs)) = subst P is makes.0 in
     subst (HasJails defs) (sym core) (step_has kept.engine.core kept.now kept.word defs makes.1)
-
--- behind it the jails are its own
-pub configured_has : (kept after : Clocked) (defs : Defs) (what : Option What) → IsConfiguring defs kept.engine.core what → Makes kept what after → HasJails defs after.engine.core
-configured_has kept after defs what configuring makes = has_step kept after defs what configuring makes
 
 -- what can be stored of the logs are places
 pub first_places : (kept : Clocked) (core : Now) → core ≡ kept.engine.core → IsStorable core → ArePlaces kept

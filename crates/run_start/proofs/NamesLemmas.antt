@@ -1,6 +1,5 @@
 -- The walk over the paths, from its beginning to its end.
-use Rattle.std.proofs.Common.{◌≡◌, List, [], ◌∷◌, refl, sym, ap, ◌∙◌, subst}
-use Rattle.f2b_base.specs.declared.jail.Defs.{Defs}
+use Rattle.std.proofs.Common.{◌≡◌, List, [], sym, ap, ◌∙◌, subst}
 use Rattle.f2b_world.specs.Told.{Standing}
 use Rattle.jail_conf.specs.declared.settings.Settings.{Settings}
 use Rattle.run_law.specs.Law.{Goes, Halts}
@@ -11,10 +10,10 @@ use Rattle.run_law.specs.Reading.{names_from, names_next}
 use Rattle.run_law.specs.Server.{Server}
 use Rattle.run_law.specs.declared.status.Status.{Status}
 use Rattle.run_law.specs.declared.status.Status.TheVariants.{NoMemory}
-use Rattle.run_law.proofs.PointLemmas.{halts_after, halts_here}
+use Rattle.run_law.proofs.PointLemmas.{halts_here}
 use Rattle.run_start.specs.Names.{HasFound, IsOfWalk, NameFails, Names, naming}
 use Rattle.run_start.specs.Read.{IsFirstWalk}
-use Rattle.run_start.specs.Walks.{WalkFails, WalksTo, naming_of, walking}
+use Rattle.run_start.specs.Walks.{WalkFails, WalksTo, walking}
 use Rattle.run_start.specs.declared.named.Named.{Named}
 use Rattle.run_start.specs.declared.walk.PathWalk.{PathWalk}
 use Rattle.run_start.proofs.WalkLemmas.{walk_fails_on, walk_memory}
@@ -39,13 +38,13 @@ module _ (settings : Settings) (kept : Clocked) (walk : PathWalk) (first : IsFir
         let one = walks.runs k here s still (keeps_so s keeps) in
         let P : Run → Type 0 = λ r. Goes a.told b.told r (k.found to.before to.defs s one.here) in
         let Q : Run → Type 0 = λ r. Goes a.told b.told (walking k settings walk s here) r in
-        let ends : walking k settings last s one.here ≡ k.found to.before to.defs s one.here =
-        ap (λ (left : List Path). names_next k.at_names k.found last.before settings (record { found = last.found; left = left }) left s one.here) none
-        ∙ (λ i. k.found (sym is.before i) (sym is.defs i) s one.here) in
+        let all : walking k settings last s one.here ≡ k.found last.before (with_paths settings.defs last.found) s one.here =
+        ap (λ (left : List Path). names_next k.at_names k.found last.before settings (record { found = last.found; left = left }) left s one.here) none in
+        let same : k.found last.before (with_paths settings.defs last.found) s one.here ≡ k.found to.before to.defs s one.here = λ i. k.found (sym is.before i) (sym is.defs i) s one.here in
         record {
           here = one.here;
           still = one.still;
-          goes = subst P (sym (begins_so k s here)) (subst Q ends one.goes);
+          goes = subst P (sym (begins_so k s here)) (subst Q (all ∙ same) one.goes);
           keeps = subst (KeepsClocked s) (sym is.clocked) one.keeps;
         };
   }

@@ -14,7 +14,6 @@ use Rattle.run_law.specs.Stages.{IsStill}
 use Rattle.run_law.specs.declared.status.Status.{Status}
 use Rattle.run_start.specs.declared.walk.PathWalk.{PathWalk}
 use Rattle.run_steps.specs.Keeping.{KeepsClocked}
-use Rattle.run_steps.specs.declared.clocked.Clocked.{Clocked}
 
 -- a path of the jail of a name
 abbrev pub path_at : List ℕ → WatchDef → Path

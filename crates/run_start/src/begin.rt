@@ -47,11 +47,7 @@ fn ready_lines(alloc: Global, now: u64) -> Result<Seq<Bytes>, NoMemory>
 
 // Takes the configuration, and says that the server is ready.
 #[tactic(auto, using(crate::proofs::BeginLemmas::getting_ready, run_law::proofs::CauseLemmas::counting))]
-fn get_ready<W: World + Disk>(
-    alloc: Global,
-    world: &mut W,
-    named: Named,
-) -> Result<Clocked, Status>
+fn get_ready<W: World + Disk>(alloc: Global, world: &mut W, named: Named) -> Result<Clocked, Status>
     requires storable { AreStorableDefs named.defs }
     requires placed { IsPlacedIn (W.stands world.old).told named.clocked }
     ensures ok { IfOk result (Configures (W.stands world.old) (W.stands world.new) named) }

@@ -1,5 +1,5 @@
 //! A configuration as an input.
-ghost use Rattle.std.specs.Prelude.{◌≡◌, IfErr, IfOk, IfSome};
+ghost use Rattle.std.specs.Prelude.{IfErr, IfOk, IfSome};
 ghost use Rattle.f2b_model.specs.Storable.{AreStorableDefs, IsStorableWhat};
 ghost use Rattle.run_law.specs.Stages.{Brings, BringFails, HasCause, IsSteady};
 ghost use Rattle.run_start.specs.Configured.{HasJails, IsConfiguring, TellsInput, configuring};

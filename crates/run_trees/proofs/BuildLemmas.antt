@@ -32,7 +32,6 @@ use Rattle.run_law.specs.Points.{Point, Run}
 use Rattle.run_law.specs.Readers.{Reader}
 use Rattle.run_law.specs.Reading.{makes_one}
 use Rattle.run_law.specs.Stages.{HasCause, IsStill, IsSteady}
-use Rattle.run_law.specs.declared.status.Status.{Status}
 use Rattle.run_law.specs.declared.status.Status.TheVariants.{PatternRefused, NoMemory}
 use Rattle.run_law.proofs.LongLemmas.{goes_on}
 use Rattle.run_law.proofs.PointLemmas.{next_at}

@@ -1,18 +1,18 @@
 -- Parts of a reading, one behind the other, and the reading that a run starts with.
-use Rattle.std.proofs.Common.{◌≡◌, [], refl, sym, ap, subst}
+use Rattle.std.proofs.Common.{◌≡◌, [], ◌∷◌, refl, sym, ap, subst}
 use Rattle.f2b_world.specs.Told.{Standing}
 use Rattle.jail_conf.specs.declared.settings.Settings.{Settings}
 use Rattle.run_law.specs.Law.{Goes, Halts}
-use Rattle.run_law.specs.News.{goes_to}
-use Rattle.run_law.specs.Points.{Point, AtStore, AtTree, Run}
+use Rattle.run_law.specs.News.{goes_to, refused}
+use Rattle.run_law.specs.Points.{Point, AtMakes, AtStore, AtTree, Run}
 use Rattle.run_law.specs.Readers.{Reader}
-use Rattle.run_law.specs.Stages.{HasCause, IsAt, IsRefusal, IsRefusedAs, IsSteady, Refuses}
+use Rattle.run_law.specs.Stages.{IsAt, IsRefusal, Refuses}
+use Rattle.run_law.specs.Start.{left_to_make}
 use Rattle.run_law.specs.declared.plan.Plan.{Plan}
 use Rattle.run_law.specs.declared.status.Status.{Status}
 use Rattle.run_law.specs.declared.status.Status.TheVariants.{ConfFault, ConfRefused, ConfTooLarge, PatternRefused, NoMemory}
 use Rattle.run_law.proofs.CauseLemmas.{refused_cause}
 use Rattle.run_law.proofs.PointLemmas.{goes_refl, goes_trans, halts_after, halts_here}
-use Rattle.run_law.proofs.ReaderLemmas as law
 use Rattle.run_steps.specs.Starting.{StartFails, Starts}
 use Rattle.run_trees.specs.Reads.{Reads, ReadsShort, at_tree, not_taken, with_left}
 use Rattle.run_trees.specs.Trees.{IsUntaken}
@@ -39,7 +39,25 @@ reads_short_here a plan from = record { runs = λ k r is still. halts_here a.tol
 
 pub ruleset reading = (reads_trans, reads_short_on, reads_short_here)
 
+pub ruleset beginning = (reads_none, reads_short_here)
+
 -- ---- the start of a run
+
+-- it reads a configuration
+abbrev pub start_reader : Reader
+start_reader = record {
+  at_tree = AtTree;
+  at_makes = λ settings p ps. AtMakes settings (p ∷ ps);
+  left_to_make = left_to_make;
+  untaken = refused 0;
+  asks_tree = λ plan. refl;
+  reads = λ root answer r. refl;
+  stands = λ settings p ps r. refl;
+  asks_make = λ plan settings p ps. refl;
+  makes = λ settings p ps text answer r. refl;
+  from_any = λ settings ps point r. refl;
+  untaken_from_any = λ status point r. refl;
+}
 
 -- a run that is there already
 come : (r : Run) (point : Point) → IsAt r point → goes_to point r ≡ r
@@ -55,7 +73,7 @@ module _ (a b : Standing) (plan : Plan) where
   start_taken settings reads = record {
     runs = λ r is at. record {
       to = goes_to (AtStore settings) r;
-      goes = starts_at (goes_to (AtStore settings)) r at (reads.runs law.starting r is at.still);
+      goes = starts_at (goes_to (AtStore settings)) r at (reads.runs start_reader r is at.still);
       at = record { point = refl; still = record { written = at.still.written; paid = at.still.paid } };
       asked = is;
       slots = refl;
@@ -66,15 +84,15 @@ module _ (a b : Standing) (plan : Plan) where
   pub start_untaken : (c : Standing) (refusal status : Status) → Reads a b plan at_tree (not_taken refusal) → Refuses b c 0 refusal status → StartFails a c plan AtTree status
   start_untaken c refusal status reads refuses = record {
     runs = λ r is at.
-        halts_after a.told b.told c.told r (not_taken refusal law.starting r) status
-        (starts_at (not_taken refusal law.starting) r at (reads.runs law.starting r is at.still)) (refuses.runs r at.still);
+        halts_after a.told b.told c.told r (not_taken refusal start_reader r) status
+        (starts_at (not_taken refusal start_reader) r at (reads.runs start_reader r is at.still)) (refuses.runs r at.still);
   }
 
   pub start_lost : ReadsShort a b plan at_tree → StartFails a b plan AtTree NoMemory
   start_lost reads = record {
     runs = λ r is at.
         let P : Run → Type 0 = λ x. Halts a.told b.told x NoMemory in
-        subst P (come r AtTree at) (reads.runs law.starting r is at.still);
+        subst P (come r AtTree at) (reads.runs start_reader r is at.still);
   }
 
 -- why it is not taken is said

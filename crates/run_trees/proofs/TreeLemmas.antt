@@ -10,7 +10,7 @@ use Rattle.f2b_model.specs.Storable.{AreStorableDefs}
 use Rattle.jail_conf.specs.Conf.{conf}
 use Rattle.jail_conf.specs.declared.conf_error.ConfError.{ConfError}
 use Rattle.jail_conf.specs.declared.settings.Settings.{Settings}
-use Rattle.run_law.specs.Calls.{Call, AskTree, IsNext}
+use Rattle.run_law.specs.Calls.{Call, IsNext}
 use Rattle.run_law.specs.Law.{Goes}
 use Rattle.run_law.specs.Patterns.{patterns_of}
 use Rattle.run_law.specs.Points.{Run}

@@ -1,5 +1,5 @@
 //! What a tree of files comes to.
-ghost use Rattle.std.specs.Prelude.{◌≡◌, IfErr, IfOk, OnErr, OnOk};
+ghost use Rattle.std.specs.Prelude.{IfOk, OnErr};
 ghost use Rattle.f2b_base.specs.declared.outside.TreeAnswer.TheVariants.{Tree as TreeGiven};
 ghost use Rattle.f2b_model.specs.Bounds.{IsBounded};
 ghost use Rattle.f2b_model.specs.Lists.{AllOf};

@@ -87,8 +87,8 @@ module _ (a b : Standing) (place : ℕ) (status : Status) (why : List ℕ) (answ
 
   said_for : (r : Run) (s : Server) → KeepsRunning s before → brings (news_of [] None slice (told_for s)) (point_on (Behind place)) (told_for s) r ≡ untaken_for place s status r
   said_for r s keeps =
-      let same : slice ≡ error_line s.now (untaken_text status) ∷ [] =
-      shown ∙ lines_are ∙ (λ i. error_line (keeps.clocked.now i) (text i) ∷ []) in
+      let line : error_line before.clocked.now why ≡ error_line s.now (untaken_text status) = λ i. error_line (keeps.clocked.now i) (text i) in
+      let same : slice ≡ error_line s.now (untaken_text status) ∷ [] = shown ∙ lines_are ∙ ap (λ (l : List ℕ). l ∷ []) line in
       ap (λ (ls : List (List ℕ)). brings (record { before = []; what = None; behind = ls }) (point_on (Behind place)) (told_for s) r) same
 
   -- it was told and said

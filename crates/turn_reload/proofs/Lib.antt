@@ -1,3 +1,4 @@
+pub mod ReaderLemmas
 pub mod LeaveLemmas
 pub mod TakeLemmas
 pub mod ReloadLemmas

@@ -16,7 +16,6 @@ use Rattle.run_law.specs.declared.plan.Plan.{Plan}
 use Rattle.run_law.specs.declared.status.Status.{Status}
 use Rattle.run_law.specs.declared.status.Status.TheVariants.{NoMemory}
 use Rattle.run_law.proofs.PointLemmas.{goes_trans, halts_after}
-use Rattle.run_law.proofs.ReaderLemmas as law
 use Rattle.run_start.specs.Followed.{ArePlaces, rules_in}
 use Rattle.run_steps.specs.Keeping.{KeepsRunning}
 use Rattle.run_steps.specs.declared.clocked.Clocked.{Clocked}
@@ -28,6 +27,7 @@ use Rattle.turn_reload.specs.Reloading.{ReadsTo, RereadFails, Rereads, TakesRead
 use Rattle.turn_reload.specs.Taking.{TakeFails}
 use Rattle.turn_reload.specs.declared.reloaded.Reread.{Reread}
 use Rattle.turn_reload.specs.declared.reloaded.Reread.TheVariants.{Untaken, Taken}
+use Rattle.turn_reload.proofs.ReaderLemmas.{client_reader}
 
 -- ---- what was read
 
@@ -44,7 +44,7 @@ pub ruleset taking = (limits_of, can_follow)
 
 module _ (a b : Standing) (plan : Plan) (place : ℕ) where
   -- the run is there already
-  from_there : (r : Run) (s : Server) (there : Run) → IsAt r (at_reload place s) → Goes a.told b.told (at_tree (law.reloading place s) r) there → Goes a.told b.told r there
+  from_there : (r : Run) (s : Server) (there : Run) → IsAt r (at_reload place s) → Goes a.told b.told (at_tree (client_reader place s) r) there → Goes a.told b.told r there
   from_there r s there at goes =
       let P : Run → Type 0 = λ x. Goes a.told b.told x there in
       subst P (ap (λ (p : Point). goes_to p r) (sym at.point)) goes
@@ -54,7 +54,7 @@ module _ (a b : Standing) (plan : Plan) (place : ℕ) where
   reread_short before short = record {
     runs = λ r s is at keeps.
         let P : Run → Type 0 = λ x. Halts a.told b.told x NoMemory in
-        subst P (ap (λ (p : Point). goes_to p r) (sym at.point)) (short.runs (law.reloading place s) r is at.still);
+        subst P (ap (λ (p : Point). goes_to p r) (sym at.point)) (short.runs (client_reader place s) r is at.still);
   }
 
   module _ (c : Standing) (before : Running) (status : Status) (reads : Reads a b plan at_tree (not_taken status)) where
@@ -62,7 +62,7 @@ module _ (a b : Standing) (plan : Plan) (place : ℕ) where
     pub read_left : (after : Running) → Leaves b c place status before after → ReadsTo KeepsRunning a c plan place (behind_client place) before after
     read_left after leaves = record {
       runs = λ r s is at keeps.
-          let k = law.reloading place s in
+          let k = client_reader place s in
           let one = leaves.runs r s at.still keeps in
           record {
             to = one.to;
@@ -76,7 +76,7 @@ module _ (a b : Standing) (plan : Plan) (place : ℕ) where
     pub left_fails : (fault : Status) → LeaveFails b c place status before fault → RereadFails a c plan place before fault
     left_fails fault fails = record {
       runs = λ r s is at keeps.
-          let k = law.reloading place s in
+          let k = client_reader place s in
           halts_after a.told b.told c.told r (not_taken status k r) fault (from_there r s (not_taken status k r) at (reads.runs k r is at.still)) (fails.runs r s at.still keeps);
     }
 
@@ -86,7 +86,7 @@ module _ (a b : Standing) (plan : Plan) (place : ℕ) where
     read_taken (Untaken after) takes = absurd takes
     read_taken (Taken filters after) takes = record {
       runs = λ r s is at keeps.
-          let k = law.reloading place s in
+          let k = client_reader place s in
           let one = takes.runs r s at.still keeps in
           record {
             to = one.to;
@@ -100,7 +100,7 @@ module _ (a b : Standing) (plan : Plan) (place : ℕ) where
     pub taken_fails : (status : Status) → TakeFails b c settings place before status → RereadFails a c plan place before status
     taken_fails status fails = record {
       runs = λ r s is at keeps.
-          let k = law.reloading place s in
+          let k = client_reader place s in
           halts_after a.told b.told c.told r (with_left settings [] k r) status (from_there r s (with_left settings [] k r) at (reads.runs k r is at.still)) (fails.runs r s at.still keeps);
     }
 

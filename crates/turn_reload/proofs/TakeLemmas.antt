@@ -20,19 +20,19 @@ use Rattle.run_law.specs.declared.status.Status.{Status}
 use Rattle.run_law.specs.declared.status.Status.TheVariants.{NoMemory}
 use Rattle.run_law.proofs.EntryLemmas.{saying_behind}
 use Rattle.run_law.proofs.PointLemmas.{goes_trans, halts_after, halts_here}
-use Rattle.run_law.proofs.ReaderLemmas.{reloading_names}
 use Rattle.run_start.specs.Configured.{HasJails, configuring}
 use Rattle.run_start.specs.Names.{NameFails, Names}
 use Rattle.run_start.specs.declared.named.Named.{Named}
 use Rattle.run_start.proofs.BeginLemmas.{StaysBeside, first_rules, stays_beside}
 use Rattle.run_start.proofs.JailLemmas.{awake_kept}
-use Rattle.run_steps.specs.Keeping.{KeepsClocked, KeepsRunning}
+use Rattle.run_steps.specs.Keeping.{KeepsClocked}
 use Rattle.run_steps.specs.declared.clocked.Clocked.{Clocked}
 use Rattle.run_steps.specs.declared.running.Running.{Running}
-use Rattle.turn_reload.specs.Taking.{ConfigureFails, Configured, Configures, KeepsReloaded, TakeFails, Takes}
+use Rattle.turn_reload.specs.Taking.{ConfigureFails, Configures, TakeFails, Takes}
 use Rattle.turn_reload.specs.Telling.{ok_answer}
 use Rattle.turn_reload.specs.declared.reloaded.Reloaded.{Reloaded}
 use Rattle.turn_reload.proofs.LeaveLemmas.{length-changed_at}
+use Rattle.turn_reload.proofs.ReaderLemmas.{client_namer}
 
 -- ---- the configuration alone
 
@@ -45,14 +45,14 @@ keeps_clocked place s kept keeps = record { core = keeps.core; sound = keeps.sou
 
 -- its paths could not be found
 pub names_fail : (a b : Standing) (settings : Settings) (kept : Clocked) (status : Status) → NameFails a b settings kept status → ConfigureFails a b settings kept status
-names_fail a b settings kept status fails = record { runs = λ place r s still keeps. fails.runs (reloading_names place) r s still keeps }
+names_fail a b settings kept status fails = record { runs = λ place r s still keeps. fails.runs (client_namer place) r s still keeps }
 
 module _ (a b : Standing) (settings : Settings) (kept : Clocked) (named : Named) (names : Names a b settings kept named) where
   -- memory ran out behind them
   pub named_memory : ConfigureFails a b settings kept NoMemory
   named_memory = record {
     runs = λ place r s still keeps.
-        let one = names.runs (reloading_names place) r s still keeps in
+        let one = names.runs (client_namer place) r s still keeps in
         halts_after a.told b.told b.told _ _ NoMemory one.goes (halts_here b.told _);
   }
 
@@ -68,7 +68,7 @@ module _ (a b : Standing) (settings : Settings) (kept : Clocked) (named : Named)
         → Configures a c settings kept after
     configures c after brought has = record {
       runs = λ place r s still keeps.
-          let one = names.runs (reloading_names place) r s still keeps in
+          let one = names.runs (client_namer place) r s still keeps in
           let t = tells_taken place s in
           let news = configuring named.before named.defs slice t in
           let two = brought.runs one.here (λ u. one.here.point) (reloaded place) t (saying_reloaded place) (record { point = refl; still = one.still }) (keeps_clocked place s named.clocked one.keeps) in
@@ -88,7 +88,7 @@ module _ (a b : Standing) (settings : Settings) (kept : Clocked) (named : Named)
     pub configure_fails : (c : Standing) (status : Status) → BringFails KeepsClocked b c (configuring named.before named.defs slice) named.clocked status → ConfigureFails a c settings kept status
     configure_fails c status fails = record {
       runs = λ place r s still keeps.
-          let one = names.runs (reloading_names place) r s still keeps in
+          let one = names.runs (client_namer place) r s still keeps in
           let t = tells_taken place s in
           let P : Run → Type 0 = λ x. Halts b.told c.told x status in
           halts_after a.told b.told c.told _ _ status one.goes

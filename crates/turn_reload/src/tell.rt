@@ -5,11 +5,14 @@ ghost use Rattle.client_replies.specs.Replies.{refused, sendable};
 ghost use Rattle.client_table.specs.Clients.{answered, changed_at, unwritten_at};
 ghost use Rattle.turn_reload.specs.Telling.{IsTold, ok_answer};
 
-use client_frames::{Answer, MOST_TEXT};
+use client_frames::Answer;
 use client_table::ClientTable;
 use f2b_base::{NoMemory, Text};
 use run_steps::Running;
 use std::alloc::Global;
+
+// The most bytes of a reply's text.
+const MOST_TEXT: usize = 67_108_864;
 
 // That the configuration is taken.
 fn accepted(alloc: Global) -> Result<Answer, NoMemory>
