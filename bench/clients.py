@@ -19,9 +19,10 @@ import time
 PINGS = int(os.environ.get("PINGS", 2_000))
 BANS = int(os.environ.get("BANS", 2_000))
 
-# So many clients are served at once, and so many addresses stand in one long request.
+# So many clients are served at once, so many addresses stand in one long request, and so many are banned where a jail is asked for its status.
 AT_ONCE = 16
 MANY = 1_000
+BANNED = 10_000
 
 CONFIGURATION = """\
 [web]
@@ -136,6 +137,22 @@ def bans_in_one_request(conn, first):
     return rounds * MANY / (time.perf_counter() - begin)
 
 
+def ask(conn, *words):
+    conn.sendall(request(*words))
+    return hear(conn)
+
+
+def ban_up_to(conn, first, count):
+    """Bans addresses from a number on, many in a request, until so many are banned."""
+    left = count - len(ask(conn, "get", "web", "banip").split())
+    for number in range(first, first + left, MANY):
+        ask(conn, "set", "web", "banip", *map(address, range(number, min(number + MANY, first + left))))
+
+
+def row(name, took):
+    print(f"| {name} | {statistics.median(took):.2f} | {min(took):.2f} | {max(took):.2f} |")
+
+
 def main(server, client, folder):
     with tempfile.TemporaryDirectory(dir=folder) as place:
         bench = Bench(server, place)
@@ -147,17 +164,18 @@ def main(server, client, folder):
                 ("ping over one connection", PINGS, lambda: ping(conns[0])),
                 ("16 pings, one of each client", PINGS // AT_ONCE, lambda: pings_side_by_side(conns)),
             ]:
-                took = milliseconds(times, made)
-                print(f"| {name} | {statistics.median(took):.2f} | {min(took):.2f} | {max(took):.2f} |")
+                row(name, milliseconds(times, made))
             conns.pop().close()
-            took = milliseconds(PINGS // 10, lambda: subprocess.run(command, stdout=subprocess.DEVNULL, check=True))
-            print(f"| `fail2ban-client ping`, from start to end | {statistics.median(took):.2f} | {min(took):.2f} | {max(took):.2f} |")
+            row("`fail2ban-client ping`, from start to end", milliseconds(PINGS // 10, lambda: subprocess.run(command, stdout=subprocess.DEVNULL, check=True)))
             print("\n| bans a second | |\n|---|---|")
             print(f"| asked for one by one | {bans_one_by_one(conns[0], 0):,.0f} |")
             print(f"| asked for one by one, by {len(conns)} clients | {bans_by_sixteen(conns, BANS):,.0f} |")
             print(f"| {MANY} in a request | {bans_in_one_request(conns[0], 2 * BANS):,.0f} |")
-            conns[0].sendall(request("stop"))
-            hear(conns[0])
+            ban_up_to(conns[0], 4 * BANS, BANNED)
+            print(f"\n| with {BANNED:,} bans, ms | median | least | most |\n|---|---|---|---|")
+            for words in ["ping", "status web", "get web banip"]:
+                row(f"`{words}`", milliseconds(PINGS // 10, lambda: ask(conns[0], *words.split())))
+            ask(conns[0], "stop")
             if bench.process.wait() != 0:
                 sys.exit(f"the server ended with {bench.process.returncode}")
         finally:

@@ -14,54 +14,71 @@ _fail2ban_asked() {
     local at=()
     if [[ ${COMP_WORDS[1]} == -s ]]; then
         at=(-s "${COMP_WORDS[2]}")
+    elif [[ ${COMP_WORDS[1]} == -q && ${COMP_WORDS[2]} == -s ]]; then
+        at=(-s "${COMP_WORDS[3]}")
     fi
     "${COMP_WORDS[0]}" "${at[@]}" "$@" 2>/dev/null
 }
 
+_fail2ban_jail_names() {
+    _fail2ban_asked status | sed -n 's/.*Jail list://p' | tr , ' '
+}
+
 _fail2ban_jails() {
-    _fail2ban_words "$(_fail2ban_asked status | sed -n 's/.*Jail list://p' | tr , ' ')"
+    _fail2ban_words "$(_fail2ban_jail_names)"
 }
 
 _fail2ban_server() {
     local cur=${COMP_WORDS[COMP_CWORD]} last=${COMP_WORDS[COMP_CWORD - 1]}
     COMPREPLY=()
     case $last in
-    --conf) _fail2ban_paths -d ;;
+    -c | --conf) _fail2ban_paths -d ;;
     --turns | --journal-limit) ;;
-    *) _fail2ban_words '--conf --turns --journal-limit --help --version' ;;
+    *) _fail2ban_words '-c --conf --turns --journal-limit --help --version' ;;
     esac
 }
 
 _fail2ban_client() {
     local cur=${COMP_WORDS[COMP_CWORD]} first=1
     COMPREPLY=()
-    if [[ ${COMP_WORDS[1]} == -s ]]; then
-        if ((COMP_CWORD == 2)); then
+    # Options stand in front, as far as the word that is completed: -q, and -s with its socket.
+    if [[ ${COMP_WORDS[first]} == -q ]] && ((COMP_CWORD > first)); then
+        first=2
+    fi
+    if [[ ${COMP_WORDS[first]} == -s ]] && ((COMP_CWORD > first)); then
+        if ((COMP_CWORD == first + 1)); then
             _fail2ban_paths -f
             return
         fi
-        first=3
+        first=$((first + 2))
+    fi
+    if [[ ${COMP_WORDS[first]} == -q ]] && ((first == 3 && COMP_CWORD > first)); then
+        first=4
     fi
     local command=${COMP_WORDS[first]} jail=${COMP_WORDS[first + 1]} verb=${COMP_WORDS[first + 2]}
     case $((COMP_CWORD - first)) in
     0)
         local options=''
-        if ((first == 1)); then
-            options='-s --str2sec --help --version'
-        fi
-        _fail2ban_words "ping status banned unban reload stop set get $options"
+        case $first in
+        1) options='-q -s --str2sec --help --version' ;;
+        2) options='-s' ;;
+        3) options='-q' ;;
+        esac
+        _fail2ban_words "ping version status banned unban reload stop set get $options"
         ;;
     1)
         case $command in
-        status | set | get) _fail2ban_jails ;;
+        status) _fail2ban_words "--all $(_fail2ban_jail_names)" ;;
+        set | get) _fail2ban_jails ;;
+        banned) _fail2ban_words "$(_fail2ban_asked banned | sed 's/^[^:]*: *//')" ;;
         unban) _fail2ban_words "--all $(_fail2ban_asked banned | sed 's/^[^:]*: *//')" ;;
         esac
         ;;
     2)
         case $command in
         set) _fail2ban_words 'banip unbanip attempt addignoreip delignoreip findtime bantime maxretry idle' ;;
-        get) _fail2ban_words 'banip findtime bantime maxretry ignoreip logpath failregex' ;;
-        unban) _fail2ban_words "$(_fail2ban_asked banned | sed 's/^[^:]*: *//')" ;;
+        get) _fail2ban_words 'banip findtime bantime maxretry ignoreip logpath failregex ignoreregex datepattern maxmatches bantime.increment actions' ;;
+        banned | unban) _fail2ban_words "$(_fail2ban_asked banned | sed 's/^[^:]*: *//')" ;;
         esac
         ;;
     *)
@@ -69,7 +86,8 @@ _fail2ban_client() {
         'set unbanip') _fail2ban_words "$(_fail2ban_asked get "$jail" banip)" ;;
         'set delignoreip') _fail2ban_words "$(_fail2ban_asked get "$jail" ignoreip)" ;;
         'set idle') _fail2ban_words 'on off' ;;
-        'unban '*) _fail2ban_words "$(_fail2ban_asked banned | sed 's/^[^:]*: *//')" ;;
+        'get banip') _fail2ban_words '--with-time' ;;
+        'banned '* | 'unban '*) _fail2ban_words "$(_fail2ban_asked banned | sed 's/^[^:]*: *//')" ;;
         esac
         ;;
     esac

@@ -5,6 +5,7 @@
 _fail2ban_asked() {
   local -a at
   [[ $words[2] == -s ]] && at=(-s $words[3])
+  [[ $words[2] == -q && $words[3] == -s ]] && at=(-s $words[4])
   _call_program fail2ban-client fail2ban-client $at $@ 2>/dev/null
 }
 
@@ -22,7 +23,7 @@ _fail2ban_banned() {
 
 _fail2ban_server() {
   _arguments \
-    '--conf[read the configuration in this directory]:directory:_files -/' \
+    '(-c --conf)'{-c,--conf}'[read the configuration in this directory]:directory:_files -/' \
     '--turns[stop after so many turns]:turns:' \
     '--journal-limit[how long each file of the journal may get]:bytes:' \
     '(-h --help)'{-h,--help}'[print the words]' \
@@ -32,11 +33,15 @@ _fail2ban_server() {
 _fail2ban_client() {
   local -a commands changes shown
   local first=2
-  [[ $words[2] == -s ]] && first=4
+  # Options stand in front, as far as the word that is completed: -q, and -s with its socket.
+  [[ $words[first] == -q ]] && (( CURRENT > first )) && first=3
+  [[ $words[first] == -s ]] && (( CURRENT > first )) && (( first += 2 ))
+  [[ $words[first] == -q ]] && (( first == 4 && CURRENT > first )) && first=5
   commands=(
     'ping:whether a server is there'
+    'version:the version of the server'
     'status:the jails, or what one of them counts'
-    'banned:who is banned, jail by jail'
+    'banned:who is banned, jail by jail, or which jails hold an address'
     'unban:end bans in all jails'
     'reload:read the configuration again'
     'stop:end the server'
@@ -54,18 +59,22 @@ _fail2ban_client() {
     'maxretry:ban for so many failures'
     'idle:let the logs be, or follow them again'
   )
-  shown=(banip findtime bantime maxretry ignoreip logpath failregex)
-  if (( CURRENT == 3 && first == 4 )); then
+  shown=(banip findtime bantime maxretry ignoreip logpath failregex ignoreregex datepattern maxmatches bantime.increment actions)
+  if (( CURRENT == first - 1 )) && [[ $words[first-2] == -s ]]; then
     _files
   elif (( CURRENT == first )); then
     _describe command commands
-    (( first == 2 )) && compadd -- -s --str2sec --help --version
+    (( first == 2 )) && compadd -- -q -s --str2sec --help --version
+    (( first == 3 )) && compadd -- -s
+    (( first == 4 )) && compadd -- -q
   elif (( CURRENT == first + 1 )); then
     case $words[first] in
-      status|set|get) _fail2ban_jails ;;
+      status) compadd -- --all; _fail2ban_jails ;;
+      set|get) _fail2ban_jails ;;
+      banned) _fail2ban_banned ;;
       unban) compadd -- --all; _fail2ban_banned ;;
     esac
-  elif [[ $words[first] == unban ]]; then
+  elif [[ $words[first] == (banned|unban) ]]; then
     _fail2ban_banned
   elif (( CURRENT == first + 2 )); then
     case $words[first] in
@@ -77,6 +86,7 @@ _fail2ban_client() {
       'set unbanip') compadd -- ${=$(_fail2ban_asked get $words[first+1] banip)} ;;
       'set delignoreip') compadd -- ${=$(_fail2ban_asked get $words[first+1] ignoreip)} ;;
       'set idle') compadd on off ;;
+      'get banip') compadd -- --with-time ;;
     esac
   fi
 }
@@ -101,7 +111,7 @@ _fail2ban_regex() {
     '--print-all-matched[all lines that are matched]' \
     '--print-all-ignored[all lines that are ignored]' \
     '--print-all-missed[all lines that are missed]' \
-    '-v[all matched lines, with pattern, address and time]' \
+    '-v[all matched lines, with pattern, address and time, and what may be wrong]' \
     '(-h --help)'{-h,--help}'[print the words]' \
     '(-V --version)'{-V,--version}'[print the version]' \
     ':log:_files' \

@@ -90,7 +90,7 @@ def completion_knows_the_words(root):
     commands = set(re.findall(r"^  ([a-z]+)", said_of_client(root), re.MULTILINE))
     same(commands - offered("fail2ban-client", ""), set(), "commands that are not offered")
     for verb in ["set", "get"]:
-        of_help = set(re.findall(rf"^  {verb} JAIL ([a-z|]+)", said_of_client(root), re.MULTILINE))
+        of_help = set(re.findall(rf"^  {verb} JAIL ([a-z.|]+)", said_of_client(root), re.MULTILINE))
         wanted = {word for words in of_help for word in words.split("|")}
         same(offered("fail2ban-client", verb, "sshd", ""), wanted, f"words behind {verb}")
     same(offered("fail2ban-client", "-s", "/x", "set", "sshd", "un"), {"unbanip"}, "behind -s")

@@ -97,7 +97,7 @@ def help_is_asked_for(room):
     """the client answers --help and --version, or -h and -V, with their text and status 0"""
     for word in ["--help", "-h"]:
         status, said, errors = room.run(word, program=room.client)
-        same((status, said[:28], errors), (0, "Usage: fail2ban-client [-s S", ""), word)
+        same((status, said[:28], errors), (0, "Usage: fail2ban-client [-q] ", ""), word)
     for word in ["--version", "-V"]:
         status, said, errors = room.run(word, program=room.client)
         same((status, said[:16], said.count("\n"), errors), (0, "fail2ban-client ", 1, ""), word)
@@ -158,6 +158,21 @@ def request_is_refused(room):
     with served(room, REFUSED) as serving:
         ends(room, 1, "Invalid command\n", "-s", serving.path, "pong")
         ends(room, 1, "Invalid command\n", "-s", serving.path, "ping")
+
+
+def a_quiet_client_prints_refusals_alone(room):
+    """with -q, in front of the socket or behind it, the client prints nothing of a request that is accepted, and why one is refused"""
+    with served(room, PONG) as serving:
+        ends(room, 0, "", "-q", "-s", serving.path, "ping")
+        ends(room, 0, "", "-s", serving.path, "-q", "ping")
+        same(serving.asked, [PING, PING], "requests")
+        for words in [["-q"], ["-s", serving.path, "-q"], ["-q", "--str2sec", "1h"], ["-q", "-t"]]:
+            ends(room, 2, "", *words)
+        # What is not printed needs no standard output.
+        ends(room, 0, None, "-q", "-s", serving.path, "ping", stdout=None, preexec_fn=lambda: os.close(1))
+    with served(room, REFUSED) as serving:
+        ends(room, 1, "Invalid command\n", "-q", "-s", serving.path, "pong")
+    ends(room, 8, "", "-q", "-s", room.path("missing"), "ping")
 
 
 def reply_is_long(room):
@@ -306,6 +321,28 @@ def memory_runs_out(room):
         same((status, said), (71, ""), "want of memory")
 
 
+def helped(room, words):
+    """What a call of these words has on standard error where that is a terminal, of which a line ends with CR and LF."""
+    controller, terminal = os.openpty()
+    try:
+        subprocess.run([room.client, *words], stdout=subprocess.DEVNULL, stderr=terminal, timeout=PATIENCE, check=False)
+        os.close(terminal)
+        return all_of(controller).decode()
+    finally:
+        os.close(controller)
+
+
+def all_of(controller):
+    """What stands in a terminal that is closed: a read gives a piece of it, and fails once nothing is left."""
+    said = b""
+    try:
+        while piece := os.read(controller, 4096):
+            said += piece
+    except OSError:
+        pass
+    return said
+
+
 def who_sits_at_a_terminal_is_helped(room):
     """where standard error is a terminal, the client has a sentence of help there for each end at which it prints nothing"""
     with served(room, b"\0\0\0\0") as bad:
@@ -314,13 +351,32 @@ def who_sits_at_a_terminal_is_helped(room):
             (["-s", room.path("missing"), "ping"], "no server answers at this socket: "),
             (["-s", bad.path, "ping"], "what answers at this socket is no fail2ban-server\r\n"),
         ]:
-            controller, terminal = os.openpty()
-            try:
-                subprocess.run([room.client, *words], stdout=subprocess.DEVNULL, stderr=terminal, timeout=PATIENCE, check=False)
-                os.close(terminal)
-                same(os.read(controller, 4096).decode()[: len(wanted)], wanted, words)
-            finally:
-                os.close(controller)
+            same(helped(room, words)[: len(wanted)], wanted, words)
+
+
+def the_nearest_word_is_named(room):
+    """where standard error is a terminal and words that are refused name no command, the nearest word stands there, and elsewhere none"""
+    with served(room, REFUSED) as serving:
+        for words, wanted in [
+            (["pong"], "did you mean ping?\r\n"),
+            (["statsu", "sshd"], "did you mean status?\r\n"),
+            (["VERSION"], "did you mean version?\r\n"),
+            (["get", "sshd", "baniip"], "did you mean banip?\r\n"),
+            (["set", "sshd", "unban", "192.0.2.7"], "did you mean unbanip?\r\n"),
+            (["get", "sshd", "bantime.incremental"], "did you mean bantime.increment?\r\n"),
+            (["-q", "pign"], "did you mean ping?\r\n"),
+            (["restart"], "fail2ban-client --help lists the words\r\n"),
+            (["x" * 60_000], "fail2ban-client --help lists the words\r\n"),
+            (["\u20ac"], "fail2ban-client --help lists the words\r\n"),
+            (["set", "sshd"], ""),
+            (["set", "sshd", "maxretry", "none"], ""),
+            (["status", "nojail"], ""),
+        ]:
+            options = [word for word in words if word == "-q"]
+            same(helped(room, [*options, "-s", serving.path, *words[len(options) :]]), wanted, f"{words}"[:80])
+        ends(room, 1, "Invalid command\n", "-s", serving.path, "pong")
+    with served(room, PONG) as serving:
+        same(helped(room, ["-s", serving.path, "pong"]), "", "accepted")
 
 
 CHECKS = [
@@ -333,6 +389,7 @@ CHECKS = [
     reply_comes_in_pieces,
     ping_is_answered,
     request_is_refused,
+    a_quiet_client_prints_refusals_alone,
     reply_is_long,
     reply_is_cut,
     reply_is_none,
@@ -341,4 +398,5 @@ CHECKS = [
     output_would_block,
     memory_runs_out,
     who_sits_at_a_terminal_is_helped,
+    the_nearest_word_is_named,
 ]

@@ -103,6 +103,33 @@ def a_ping_and_a_status_are_replied(room):
         )
 
 
+def what_stands_is_told(room):
+    """the server says its version, what each jail counts, which jails hold an address, since when and until when it is banned, and what a jail has"""
+    with room.server():
+        status, said, errors = room.run("--version")
+        same((status, errors), (0, ""), "--version")
+        ask(room, 0, said.split()[1], "version")
+        _, web, _ = room.run("-s", socket_of(room), "status", "web", program=room.client)
+        _, probe, _ = room.run("-s", socket_of(room), "status", "probe", program=room.client)
+        ask(room, 0, f"{web}\n{probe}".removesuffix("\n"), "status", "--all")
+        begin = int(time.time())
+        ask(room, 0, "1", "set", "web", "banip", ADDRESS)
+        ask(room, 0, "-1", "set", "web", "bantime", "-1")
+        ask(room, 0, "1", "set", "web", "banip", OTHER)
+        ask(room, 0, "1", "set", "probe", "banip", OTHER)
+        end = int(time.time())
+        ask(room, 0, f"{ADDRESS}: web\n{OTHER}: web probe\n::1:", "banned", ADDRESS, OTHER, "::1")
+        ask(room, 1, "Wrong number of words", "banned", "web")
+        _, said, _ = room.run("-s", socket_of(room), "get", "web", "banip", "--with-time", program=room.client)
+        first, second = (line.split(" ") for line in said.splitlines())
+        same((first[0], second[0], second[3:]), (ADDRESS, OTHER, ["never"]), "bans with their times")
+        for seconds, shown in [first[1:3], first[3:5], second[1:3]]:
+            same(shown, time.strftime("%Y-%m-%dT%H:%M:%S+00:00", time.gmtime(int(seconds))), "a moment of UTC")
+        want(begin <= int(first[1]) <= int(second[1]) <= end, "bans began in their order, while they were asked for")
+        for item, reply in [("actions", ""), ("ignoreregex", ""), ("datepattern", "Epoch"), ("maxmatches", "3"), ("bantime.increment", "false")]:
+            ask(room, 0, reply, "get", "web", item)
+
+
 def an_address_is_banned_by_a_command(room):
     """an address that a client has banned is banned by the commands of the action, and one that it lets in is let in by them"""
     act(room, bantime=600, **NOTES)
@@ -352,6 +379,7 @@ def a_server_is_killed_with_a_client(room):
 CHECKS = [
     a_client_is_silent,
     a_ping_and_a_status_are_replied,
+    what_stands_is_told,
     an_address_is_banned_by_a_command,
     values_are_set,
     a_jail_is_idle,

@@ -27,6 +27,9 @@ def words_are_wrong(room):
         [],
         ["--conf"],
         ["--conf", ""],
+        ["-c"],
+        ["-c", ""],
+        ["-C", conf],
         [conf],
         ["--conf", conf, "--turns"],
         ["--conf", conf, "--turns", "0"],
@@ -43,6 +46,7 @@ def words_are_wrong(room):
 def turns_are_made(room):
     """a server that made its turns ends with status 0"""
     room.ends(0, ["INFO Server ready"], "--conf", room.conf, "--turns", "2")
+    room.ends(0, ["INFO Server ready"], "-c", room.conf, "--turns", "1")
 
 
 def configuration_is_not_read(room):

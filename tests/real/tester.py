@@ -44,8 +44,8 @@ Ignoreregex: 1 total
    1) [1] test
 Lines: 4 lines, 1 ignored, 2 matched, 1 missed
 Matched lines:
-   1) 192.0.2.7 1700000000 1700000000 fail from 192.0.2.7
-   1) - - 1700000001 fail from mx.example.org
+   1) 192.0.2.7 1700000000 2023-11-14T22:13:20+00:00 1700000000 fail from 192.0.2.7
+   1) - - - 1700000001 fail from mx.example.org
 Ignored lines:
    1700000002 test from 192.0.2.8
 Missed lines:
@@ -97,7 +97,7 @@ def options_are_taken(room):
     named = ("-c", room.conf, room.log, "fail[word=fail]")
     others = ("--print-all-ignored", "--print-all-missed")
     ends(room, 0, SHOWN, "-v", *others, *named)
-    bare = SHOWN.replace("1) 192.0.2.7 1700000000 ", "").replace("1) - - ", "")
+    bare = SHOWN.replace("1) 192.0.2.7 1700000000 2023-11-14T22:13:20+00:00 ", "").replace("1) - - - ", "")
     ends(room, 0, bare, "--print-all-matched", *others, *named)
     ends(room, 0, "192.0.2.7\n", "-o", "ip", *named)
     ends(room, 0, "192.0.2.7\t1700000000\t1700000000 fail from 192.0.2.7\n", "-o", "row", *named)

@@ -291,9 +291,12 @@ jail_of now asked jail is free = found_is (jail_in now jail) jail (sym is ∙ no
 as_asked : (word : ℕ) (now : Now) (asked : Request) → AreDistinct bytes_eq (names moves_now now.jails.jails) → is_some (refusal now asked) ≡ false
     → done moves_now word (or_tick (change_of now asked)) now.jails ≡ done moves_now word (asked_for asked) now.jails
 as_asked word now request.Ping apart free = refl
+as_asked word now request.Version apart free = refl
 as_asked word now request.Status apart free = refl
+as_asked word now request.StatusAll apart free = refl
 as_asked word now (request.StatusOf jail) apart free = asks_nothing word now.jails (jail_in now jail)
 as_asked word now request.Banned apart free = refl
+as_asked word now (request.Holders addrs) apart free = refl
 as_asked word now request.UnbanAll apart free = everywhere_as word now.jails None
 as_asked word now (request.Unban addrs) apart free = everywhere_as word now.jails (Some addrs)
 as_asked word now request.Reload apart free = refl
@@ -332,6 +335,12 @@ as_asked word now (request.GetMaxretry jail) apart free = asks_nothing word now.
 as_asked word now (request.GetIgnoreip jail) apart free = asks_nothing word now.jails (jail_in now jail)
 as_asked word now (request.GetLogpath jail) apart free = asks_nothing word now.jails (jail_in now jail)
 as_asked word now (request.GetFailregex jail) apart free = asks_nothing word now.jails (jail_in now jail)
+as_asked word now (request.GetBantimes jail) apart free = asks_nothing word now.jails (jail_in now jail)
+as_asked word now (request.GetIgnoreregex jail) apart free = asks_nothing word now.jails (jail_in now jail)
+as_asked word now (request.GetDatepattern jail) apart free = asks_nothing word now.jails (jail_in now jail)
+as_asked word now (request.GetMaxmatches jail) apart free = asks_nothing word now.jails (jail_in now jail)
+as_asked word now (request.GetIncrement jail) apart free = asks_nothing word now.jails (jail_in now jail)
+as_asked word now (request.GetActions jail) apart free = asks_nothing word now.jails (jail_in now jail)
 
 pub change_as_asked : (now : Now) (asked : Request) → IsStorable now → DoesAsAsked now asked (change_of now asked)
 change_as_asked now asked storable = λ free word. as_asked word now asked storable.names free

@@ -5,3 +5,5 @@ pub mod BoundLemmas
 pub mod AskedLemmas
 pub mod RefusalLemmas
 pub mod DefaultLemmas
+pub mod NameLemmas
+pub mod MomentLemmas

@@ -4,7 +4,7 @@ use Rattle.f2b_model.specs.Steps.{find_jail, moves_now}
 use Rattle.f2b_model.specs.Whole.{Now}
 use Rattle.f2b_model.specs.declared.jail_now.JailNow.{JailNow}
 use Rattle.client_words.specs.declared.request.Request.{Request}
-use Rattle.client_words.specs.declared.request.Request.TheVariants.{StatusOf, UnbanAll, Unban, Reload, SetBanip, SetUnbanip, SetAttempt, AddIgnore, DelIgnore, SetFindtime, SetBantime, SetMaxretry, SetIdle, GetBanip, GetFindtime, GetBantime, GetMaxretry, GetIgnoreip, GetLogpath, GetFailregex}
+use Rattle.client_words.specs.declared.request.Request.TheVariants.{StatusOf, UnbanAll, Unban, Reload, SetBanip, SetUnbanip, SetAttempt, AddIgnore, DelIgnore, SetFindtime, SetBantime, SetMaxretry, SetIdle, GetBanip, GetFindtime, GetBantime, GetMaxretry, GetIgnoreip, GetLogpath, GetFailregex, GetBantimes, GetIgnoreregex, GetDatepattern, GetMaxmatches, GetIncrement, GetActions}
 
 -- ---- jails that are not there
 
@@ -27,6 +27,12 @@ named (GetMaxretry jail) = Some jail
 named (GetIgnoreip jail) = Some jail
 named (GetLogpath jail) = Some jail
 named (GetFailregex jail) = Some jail
+named (GetBantimes jail) = Some jail
+named (GetIgnoreregex jail) = Some jail
+named (GetDatepattern jail) = Some jail
+named (GetMaxmatches jail) = Some jail
+named (GetIncrement jail) = Some jail
+named (GetActions jail) = Some jail
 named _ = None
 
 -- the jail of a name

@@ -12,7 +12,7 @@ use jail_core::Core;
 use std::alloc::Global;
 
 /// A copy of the bans of the first of these jails with a name.
-fn bans_named(jails: &[JailView], name: &Text) -> Result<Option<Seq<Ban>>, NoMemory>
+pub(crate) fn bans_named(jails: &[JailView], name: &Text) -> Result<Option<Seq<Ban>>, NoMemory>
     ensures { IfOk result (λ bans. bans ≡ bans_named name.now jails.now) }
 {
     for jail in jails {

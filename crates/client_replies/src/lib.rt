@@ -14,12 +14,15 @@
 
 mod banned;
 mod change;
+mod definition;
+mod holders;
 mod known;
 mod masks;
 mod refusal;
 mod replies;
 mod status;
 mod text;
+mod times;
 
 pub use change::effect;
 pub use replies::reply;

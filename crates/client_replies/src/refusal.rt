@@ -30,9 +30,18 @@ pub(crate) fn named(request: &Request) -> Option<&Text>
         Request::GetIgnoreip { jail } => Some(jail),
         Request::GetLogpath { jail } => Some(jail),
         Request::GetFailregex { jail } => Some(jail),
+        Request::GetBantimes { jail } => Some(jail),
+        Request::GetIgnoreregex { jail } => Some(jail),
+        Request::GetDatepattern { jail } => Some(jail),
+        Request::GetMaxmatches { jail } => Some(jail),
+        Request::GetIncrement { jail } => Some(jail),
+        Request::GetActions { jail } => Some(jail),
         Request::Ping
+        | Request::Version
         | Request::Status
+        | Request::StatusAll
         | Request::Banned
+        | Request::Holders { .. }
         | Request::UnbanAll
         | Request::Unban { .. }
         | Request::Reload

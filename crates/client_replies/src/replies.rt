@@ -1,6 +1,5 @@
 //! What a request is replied.
 ghost use Rattle.std.specs.Prelude.{◌≡◌, ◌≤◌, [], List, Some, IfOk, codes, length, max};
-ghost use Rattle.std.specs.List.{join_by};
 ghost use Rattle.std.specs.Fmt.{decimal};
 ghost use Rattle.std.specs.Option.{option_map_or};
 ghost use Rattle.client_frames.specs.Frames.{most_text};
@@ -11,32 +10,29 @@ ghost use Rattle.client_replies.specs.Banned.{count_meant, ended, new_addrs};
 ghost use Rattle.client_replies.specs.Meant.{bans_at, definition_named};
 ghost use Rattle.client_replies.specs.Refusals.{refusal};
 ghost use Rattle.client_replies.specs.Replies.{answer, counted_text, refused, reply, sendable, text_of, text_of_definition};
-ghost use Rattle.client_replies.specs.Texts.{bans_text, idle_text};
+ghost use Rattle.client_replies.specs.Texts.{bans_text, idle_text, timed_bans_text};
 
 use crate::banned::{bans_in, count_meant, ended, whom};
 use crate::change::is_banned;
+use crate::definition::{action_names, date_text, flag_text};
+use crate::holders::holders_text;
 use crate::known::new_addrs;
 use crate::masks::{masks_with, masks_without};
 use crate::refusal::{named, refusal};
-use crate::status::{banned_text, jails_text, status_of};
-use crate::text::{Listed, number_text, push_joined, signed_text};
+use crate::status::{banned_text, jails_text, status_of, status_of_all};
+use crate::text::{joined, number_text, signed_text};
+use crate::times::timed_bans;
 use client_frames::Answer;
 use client_words::Request;
 use f2b_base::{Addr, JailDef, NoMemory, Plain, Seq, Text};
 use jail_core::Core;
 use std::alloc::Global;
 
+/// The version of the server that answers.
+const VERSION: &str = "0.1.0";
+
 /// The most bytes of a reply's text.
 const MOST_TEXT: usize = 67_108_864;
-
-/// A list as a text, with another one between each two of its items.
-fn joined<T: Listed>(alloc: Global, between: &str, items: &[T]) -> Result<Text, NoMemory>
-    ensures { IfOk result (λ text. text ≡ join_by T.text between.now items.now) }
-{
-    let mut text = Text::new(alloc);
-    push_joined(alloc, &mut text, between, items)?;
-    Ok(text)
-}
 
 fn idle_text(idle: bool) -> &'static str
     ensures { result.now ≡ idle_text idle }
@@ -78,6 +74,14 @@ fn text_of_definition(
         Request::GetIgnoreip { .. } => joined(alloc, " ", definition.ignore.as_slice()),
         Request::GetLogpath { .. } => joined(alloc, "\n", definition.watches.as_slice()),
         Request::GetFailregex { .. } => joined(alloc, "\n", definition.fail.as_slice()),
+        Request::GetIgnoreregex { .. } => joined(alloc, "\n", definition.ignore_lines.as_slice()),
+        Request::GetDatepattern { .. } => date_text(alloc, &definition.date),
+        Request::GetMaxmatches { .. } => number_text(alloc, u128::from(definition.maxmatches)),
+        Request::GetIncrement { .. } => Text::from_str(alloc, flag_text(definition.rule.increment)),
+        Request::GetActions { .. } => {
+            let names = action_names(alloc, definition.actions.as_slice())?;
+            joined(alloc, "\n", names.as_slice())
+        }
         _ => Ok(Text::new(alloc)),
     }
 }
@@ -144,6 +148,16 @@ fn bans_text(alloc: Global, core: &Core, jail: &Text) -> Result<Text, NoMemory>
     }
 }
 
+/// Who is banned in a jail, since when and until when, a ban a line.
+fn timed_bans_text(alloc: Global, core: &Core, jail: &Text) -> Result<Text, NoMemory>
+    ensures { IfOk result (λ text. text ≡ option_map_or timed_bans_text (bans_at core.now jail.now) []) }
+{
+    match bans_in(core, jail)? {
+        Some(bans) => timed_bans(alloc, bans.as_slice()),
+        None => Ok(Text::new(alloc)),
+    }
+}
+
 /// How many bans of all jails end: those of these addresses, or all.
 fn ended_text(alloc: Global, core: &Core, addrs: &Option<Seq<Addr>>) -> Result<Text, NoMemory>
     ensures { IfOk result (λ text. text ≡ decimal (ended addrs.now core.now)) }
@@ -158,8 +172,11 @@ fn text_of(alloc: Global, core: &Core, now: u64, request: &Request) -> Result<Te
 {
     match request {
         Request::Ping => Text::from_str(alloc, "pong"),
+        Request::Version => Text::from_str(alloc, VERSION),
         Request::Status => jails_text(alloc, core),
+        Request::StatusAll => status_of_all(alloc, core, now),
         Request::Banned => banned_text(alloc, core),
+        Request::Holders { addrs } => holders_text(alloc, core, addrs.as_slice()),
         Request::UnbanAll => ended_text(alloc, core, &None),
         Request::Unban { addrs } => ended_text(alloc, core, &Some(addrs.copy()?)),
         Request::Reload => Text::from_str(alloc, "OK"),
@@ -169,6 +186,7 @@ fn text_of(alloc: Global, core: &Core, now: u64, request: &Request) -> Result<Te
         Request::SetUnbanip { jail, addrs } => unbanned_text(alloc, core, jail, addrs),
         Request::SetAttempt { jail, addr } => attempt_text(alloc, core, jail, *addr),
         Request::GetBanip { jail } => bans_text(alloc, core, jail),
+        Request::GetBantimes { jail } => timed_bans_text(alloc, core, jail),
         _ => definition_text(alloc, core, request),
     }
 }

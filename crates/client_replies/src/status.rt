@@ -1,14 +1,16 @@
 //! Reports of jails.
-ghost use Rattle.std.specs.Prelude.{◌≡◌, ◌++◌, [], IfOk, OnOk};
-ghost use Rattle.std.specs.Option.{option_map_or};
+ghost use Rattle.std.specs.Prelude.{◌≡◌, ◌++◌, map, IfOk, OnOk};
+ghost use Rattle.f2b_base.specs.declared.view.JailView.{JailView};
+ghost use Rattle.f2b_model.specs.Views.{jail_view, spread};
 ghost use Rattle.f2b_model.specs.declared.jail_now.JailNow.{JailNow};
 ghost use Rattle.std.specs.Prelude.{max};
-ghost use Rattle.client_replies.specs.Refusals.{jail_in};
-ghost use Rattle.client_replies.specs.Texts.{actions_text, banned_text, filter_text, jail_text, jails_text, status_of};
+ghost use Rattle.client_replies.specs.Meant.{bans_at};
+ghost use Rattle.client_replies.specs.Replies.{each_status, status_named, status_of_all};
+ghost use Rattle.client_replies.specs.Texts.{actions_text, banned_text, filter_text, jail_text, jails_text};
 
-use crate::banned::bans_in;
-use crate::text::{push_joined, push_titled_list, push_titled_number};
-use f2b_base::{Ban, JailDef, NoMemory, Seq, Text, WatchDef};
+use crate::banned::bans_named;
+use crate::text::{joined, push_joined, push_titled_list, push_titled_number};
+use f2b_base::{Ban, JailDef, NoMemory, Seq, Text, View, WatchDef};
 use jail_core::Core;
 use jail_moves::Totals;
 use std::alloc::Global;
@@ -82,10 +84,17 @@ fn jail_text(
     Ok(reply)
 }
 
-/// Nine lines of the jail of a name, if there is one, at a moment, which is at least the core's own.
+/// Nine lines of the jail of a name with these bans, if there is one, at a moment, which is at least the core's own.
 #[tactic(auto, using(crate::proofs::TextLemmas::nothing_shown, crate::proofs::TextLemmas::status_shown))]
-pub(crate) fn status_of(alloc: Global, core: &Core, now: u64, name: &Text) -> Result<Text, NoMemory>
-    ensures { IfOk result (λ text. text ≡ option_map_or (status_of (max core.now.jails.at now)) (jail_in core.now name.now) []) }
+fn status_with(
+    alloc: Global,
+    core: &Core,
+    now: u64,
+    name: &Text,
+    bans: &Option<Seq<Ban>>,
+) -> Result<Text, NoMemory>
+    requires { bans.now ≡ bans_at core.now name.now }
+    ensures { IfOk result (λ text. text ≡ status_named (max core.now.jails.at now) core.now name.now) }
 {
     let Some(definition) = core.jail(name.as_str()) else {
         return Ok(Text::new(alloc));
@@ -93,11 +102,68 @@ pub(crate) fn status_of(alloc: Global, core: &Core, now: u64, name: &Text) -> Re
     let Some(totals) = core.totals(name.as_str()) else {
         return Ok(Text::new(alloc));
     };
-    let Some(bans) = bans_in(core, name)? else {
+    let Some(bans) = bans else {
         return Ok(Text::new(alloc));
     };
     let lately = core.failed_lately(name.as_str(), core.now().max(now));
-    jail_text(alloc, lately, definition, totals, &bans)
+    jail_text(alloc, lately, definition, totals, bans)
+}
+
+/// Nine lines of the jail of a name, if there is one, whose bans a view of the core shows.
+#[tactic(auto, using(crate::proofs::BannedLemmas::bans_of_view))]
+fn status_in(
+    alloc: Global,
+    core: &Core,
+    view: &View,
+    now: u64,
+    name: &Text,
+) -> Result<Text, NoMemory>
+    requires { view.now ≡ spread core.now }
+    ensures { IfOk result (λ text. text ≡ status_named (max core.now.jails.at now) core.now name.now) }
+{
+    let bans = bans_named(view.jails.as_slice(), name)?;
+    status_with(alloc, core, now, name, &bans)
+}
+
+/// Nine lines of the jail of a name, if there is one, at a moment, which is at least the core's own.
+pub(crate) fn status_of(alloc: Global, core: &Core, now: u64, name: &Text) -> Result<Text, NoMemory>
+    ensures { IfOk result (λ text. text ≡ status_named (max core.now.jails.at now) core.now name.now) }
+{
+    let view = core.view()?;
+    status_in(alloc, core, &view, now, name)
+}
+
+/// Nine lines of each jail.
+fn statuses(alloc: Global, core: &Core, view: &View, now: u64) -> Result<Seq<Text>, NoMemory>
+    requires { view.now ≡ spread core.now }
+    ensures { IfOk result (λ texts. texts ≡ map (λ (v : JailView). status_named (max core.now.jails.at now) core.now v.name) (map jail_view core.now.jails.jails)) }
+{
+    let mut texts = Seq::new(alloc);
+    for jail in view.jails.as_slice() {
+        texts.push(status_in(alloc, core, view, now, &jail.name)?)?;
+    }
+    Ok(texts)
+}
+
+/// The same with an empty line between each two.
+#[tactic(auto, using(crate::proofs::TextLemmas::statuses_shown))]
+fn each_status(alloc: Global, core: &Core, now: u64) -> Result<Text, NoMemory>
+    ensures { IfOk result (λ text. text ≡ each_status (max core.now.jails.at now) core.now) }
+{
+    let view = core.view()?;
+    let texts = statuses(alloc, core, &view, now)?;
+    joined(alloc, "\n\n", texts.as_slice())
+}
+
+/// Nine lines of each jail, or of the one that has the name by which all are asked for.
+#[tactic(auto, using(crate::proofs::TextLemmas::named_all, crate::proofs::TextLemmas::each_of_all))]
+pub(crate) fn status_of_all(alloc: Global, core: &Core, now: u64) -> Result<Text, NoMemory>
+    ensures { IfOk result (λ text. text ≡ status_of_all (max core.now.jails.at now) core.now) }
+{
+    match core.jail("--all") {
+        Some(_) => status_of(alloc, core, now, &Text::from_str(alloc, "--all")?),
+        None => each_status(alloc, core, now),
+    }
 }
 
 /// How many jails there are, and their names.

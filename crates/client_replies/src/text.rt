@@ -58,6 +58,15 @@ pub(crate) fn push_number(alloc: Global, reply: &mut Text, number: u128) -> Resu
     reply.push_str(digits.as_str())
 }
 
+/// A list as a text, with another one between each two of its items.
+pub(crate) fn joined<T: Listed>(alloc: Global, between: &str, items: &[T]) -> Result<Text, NoMemory>
+    ensures { IfOk result (λ text. text ≡ join_by T.text between.now items.now) }
+{
+    let mut text = Text::new(alloc);
+    push_joined(alloc, &mut text, between, items)?;
+    Ok(text)
+}
+
 /// A title, and a number behind it.
 #[tactic(auto, unfolding(crate::specs::Texts::titled))]
 pub(crate) fn push_titled_number(
@@ -102,14 +111,14 @@ pub(crate) fn signed_text(alloc: Global, number: i64) -> Result<Text, NoMemory>
 }
 
 /// Bytes that are text.
-fn text_of(bytes: &[u8]) -> &str
+pub(crate) fn text_of(bytes: &[u8]) -> &str
     requires { IsUtf8 bytes.now }
     ensures { result.now ≡ bytes.now }
 {
     str::from_utf8(bytes).unwrap()
 }
 
-fn push_addr(reply: &mut Text, addr: &Addr) -> Result<(), NoMemory>
+pub(crate) fn push_addr(reply: &mut Text, addr: &Addr) -> Result<(), NoMemory>
     ensures { OnOk result (reply.new ≡ reply.old ++ printed addr.now) }
 {
     let mut printed = [0; 45];

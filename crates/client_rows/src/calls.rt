@@ -32,7 +32,7 @@ const PONG: &[u8] = &[0, 0, 0, 5, 0, b'p', b'o', b'n', b'g'];
 
 const NO: &[u8] = &[0, 0, 0, 3, 1, b'n', b'o'];
 
-const ROWS: [Row; 30] = [
+const ROWS: [Row; 41] = [
     // A ping that is accepted, whatever the reply's text is; one with a word too many is no ping.
     Row {
         words: &["ping"],
@@ -171,6 +171,86 @@ const ROWS: [Row; 30] = [
         sent: &[0, 0, 0, 4, 0, 2, b'-', b's'],
         prints: "no\n",
         status: ClientStatus::Refused,
+    },
+    // Of a request that is accepted nothing is printed where that is asked for, in front of the socket or behind it; of one that is refused its reply is.
+    Row {
+        words: &["-q", "ping"],
+        says: PONG,
+        sent: PING,
+        prints: "",
+        status: ClientStatus::Done,
+    },
+    Row {
+        words: &["-q", "status"],
+        says: NO,
+        sent: STATUS,
+        prints: "no\n",
+        status: ClientStatus::Refused,
+    },
+    Row {
+        words: &["-q", "-s", "/s", "status"],
+        says: PONG,
+        sent: STATUS,
+        prints: "",
+        status: ClientStatus::Done,
+    },
+    Row {
+        words: &["-s", "/s", "-q", "status"],
+        says: PONG,
+        sent: STATUS,
+        prints: "",
+        status: ClientStatus::Done,
+    },
+    Row {
+        words: &["-s", "/s", "-q", "set", "x"],
+        says: NO,
+        sent: SET_X,
+        prints: "no\n",
+        status: ClientStatus::Refused,
+    },
+    Row {
+        words: &["-q", "status"],
+        says: &[],
+        sent: STATUS,
+        prints: "",
+        status: ClientStatus::LinkEnded,
+    },
+    Row {
+        words: &["status", "-q"],
+        says: PONG,
+        sent: &[
+            0, 0, 0, 12, 0, 6, b's', b't', b'a', b't', b'u', b's', 0, 2, b'-', b'q',
+        ],
+        prints: "pong\n",
+        status: ClientStatus::Done,
+    },
+    Row {
+        words: &["-q"],
+        says: PONG,
+        sent: &[],
+        prints: "",
+        status: ClientStatus::Usage,
+    },
+    Row {
+        words: &["-s", "/s", "-q"],
+        says: PONG,
+        sent: &[],
+        prints: "",
+        status: ClientStatus::Usage,
+    },
+    Row {
+        words: &["-q", "--str2sec", "1h"],
+        says: PONG,
+        sent: &[],
+        prints: "",
+        status: ClientStatus::Usage,
+    },
+    Row {
+        words: &["-q", "-d"],
+        says: PONG,
+        sent: &[],
+        prints: "",
+        status: ClientStatus::Usage,
     },
     // No word, and no path.
     Row {

@@ -1,5 +1,5 @@
 -- How a call of the client ends: why, and what was said.
-use Rattle.std.specs.Prelude.{◌≡◌, ◌⊎◌, ℕ, Bool, true, false, List, Option, Some, None, Ok, Err}
+use Rattle.std.specs.Prelude.{◌≡◌, ◌⊎◌, ◌&&◌, ℕ, Bool, true, false, List, Option, Some, None, Ok, Err}
 use Rattle.client_frames.specs.declared.answer.Answer.{Answer}
 use Rattle.client_frames.specs.declared.error.ReceiveError.{ReceiveError}
 use Rattle.client_frames.specs.declared.error.ReceiveError.TheVariants as error
@@ -51,29 +51,40 @@ Closes text wanted old new status =
 abbrev pub MayClose : (text : List ℕ) (wanted : ClientStatus) (old new : Standing) → ClientStatus → Type 0
 MayClose text wanted old new status = (status ≡ NoMemory) ⊎ Closes text wanted old new status
 
+-- nothing is said, and the status is the one that is wanted; or the text may be
+abbrev pub MayTell : (quiet : Bool) (text : List ℕ) (wanted : ClientStatus) (old new : Standing) → ClientStatus → Type 0
+MayTell true text wanted old new status = (status ≡ wanted) × (new ≡ old)
+MayTell false text wanted old new status = MayClose text wanted old new status
+
 -- ---- why a call ends
 
--- A whole reply to the words came of the server at the path, accepted or not, and one text was said, which is the line of that reply.
-pub record Replied (accepted : Bool) (socket : List ℕ) (words : List (List ℕ)) (old_link new_link old new : Standing) : Type 0 where
+-- nothing was said, or the text was
+abbrev pub Tells : (quiet : Bool) (text : List ℕ) (old new : Standing) → Type 0
+Tells true text old new = new ≡ old
+Tells false text old new = Called old (Say text SaidDone) new
+
+-- A whole reply to the words came of the server at the path, accepted or not, and one text was said, which is the line of that reply; or none was, where
+-- that was asked for and it is accepted.
+pub record Replied (accepted quiet : Bool) (socket : List ℕ) (words : List (List ℕ)) (old_link new_link old new : Standing) : Type 0 where
   pub answer : Answer
   pub verdict : answer.accepted ≡ accepted
   pub hears : Hears socket words (Ok answer) old_link new_link
-  pub said : Called old (Say (reply_line words answer) SaidDone) new
+  pub said : Tells (quiet && accepted) (reply_line words answer) old new
 
 -- what was asked for is done
 abbrev pub IsDone : Option Asks → (old_link new_link old new : Standing) → Type 0
-IsDone (Some (Request socket words)) old_link new_link old new = Replied true socket words old_link new_link old new
+IsDone (Some (Request quiet socket words)) old_link new_link old new = Replied true quiet socket words old_link new_link old new
 IsDone (Some (Seconds seconds)) old_link new_link old new = Called old (Say (seconds_line seconds) SaidDone) new
 IsDone None old_link new_link old new = ⊥
 
 -- a request was asked for, which was refused
 abbrev pub IsRefused : Option Asks → (old_link new_link old new : Standing) → Type 0
-IsRefused (Some (Request socket words)) old_link new_link old new = Replied false socket words old_link new_link old new
+IsRefused (Some (Request quiet socket words)) old_link new_link old new = Replied false quiet socket words old_link new_link old new
 IsRefused _ old_link new_link old new = ⊥
 
 -- a request was asked for, and no reply came of the server for this cause
 abbrev pub IsUnanswered : ReceiveError → Option Asks → (old_link new_link : Standing) → Type 0
-IsUnanswered cause (Some (Request socket words)) old_link new_link = Hears socket words (Err cause) old_link new_link
+IsUnanswered cause (Some (Request quiet socket words)) old_link new_link = Hears socket words (Err cause) old_link new_link
 IsUnanswered cause _ old_link new_link = ⊥
 
 -- the words asked for nothing, or memory was wanted

@@ -1,7 +1,7 @@
 //! A whole call of the client.
-ghost use Rattle.std.specs.Prelude.{◌≡◌, None, false, map, option_map, string_bytes};
+ghost use Rattle.std.specs.Prelude.{◌≡◌, None, false, true, map, option_map, string_bytes};
 ghost use Rattle.client_frames.specs.declared.error.ReceiveError.TheVariants as error;
-ghost use Rattle.client_tool.specs.Asks.{IsBounded, asks_of, asks_server, frame_of, shown};
+ghost use Rattle.client_tool.specs.Asks.{IsBounded, asks_of, asks_server, frame_of, is_quiet, shown};
 ghost use Rattle.client_tool.specs.Ends.{Ends, IsDone, IsRefused, IsUnanswered, IsUsage, MayClose, is_said};
 ghost use Rattle.client_tool.specs.Lines.{seconds_line};
 ghost use Rattle.client_tool.specs.Talks.{SendsAtMost, Talks};
@@ -38,18 +38,26 @@ fn carry_out<L: Link, K: Sink>(
     requires { IsBounded (option_map shown asked) }
     ensures ends { Ends (option_map shown asked.entry) (L.stands link.old) (L.stands link.new) (K.stands sink.old) (K.stands sink.new) result }
     ensures quiet { is_said result ≡ false → sink.new ≡ sink.old }
+    ensures hushed { is_quiet (option_map shown asked.entry) ≡ true → result ≡ Done → sink.new ≡ sink.old }
     ensures unlinked { asks_server (option_map shown asked.entry) ≡ false → link.new ≡ link.old }
 {
     match asked {
-        Some(Asked::Request { socket, words }) => ask(alloc, socket, &words, link, sink),
+        Some(
+            Asked::Request {
+                quiet,
+                socket,
+                words,
+            },
+        ) => ask(alloc, quiet, socket, &words, link, sink),
         Some(Asked::Seconds(seconds)) => tell_seconds(alloc, seconds, sink),
         None => ClientStatus::Usage,
     }
 }
 
-/// Does what the words ask for: `[-s SOCKET] WORD ..` sends the words to the server at that socket, or at the usual one, as one request,
-/// and says the text of its reply and a LF. Of a `ping` that is accepted it says `Server replied: pong`. `--str2sec WORD` says the
-/// seconds of a time word, and makes no call on the link.
+/// Does what the words ask for: `[-q] [-s SOCKET] WORD ..` sends the words to the server at that socket, or at the usual one, as one
+/// request, and says the text of its reply and a LF. Of a `ping` that is accepted it says `Server replied: pong`, and with `-q`, in front
+/// of `-s` or behind its path, nothing of any request that is. `--str2sec WORD` says the seconds of a time word, and makes no call on the
+/// link.
 pub fn client<L: Link, K: Sink>(
     alloc: Global,
     words: &[String],
@@ -66,6 +74,7 @@ pub fn client<L: Link, K: Sink>(
     ensures sink_fault { result ≡ SinkFault → Rose ((K.stands sink.old).faults OfSink) ((K.stands sink.new).faults OfSink) }
     ensures talks { Talks (L.stands link.old) (L.stands link.new) (SendsAtMost (frame_of (asks_of (map string_bytes words.now)))) }
     ensures quiet { is_said result ≡ false → sink.new ≡ sink.old }
+    ensures hushed { is_quiet (asks_of (map string_bytes words.now)) ≡ true → result ≡ Done → sink.new ≡ sink.old }
     ensures unlinked { asks_server (asks_of (map string_bytes words.now)) ≡ false → link.new ≡ link.old }
 {
     match read_words(alloc, words) {

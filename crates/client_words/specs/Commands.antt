@@ -13,7 +13,7 @@ use Rattle.client_words.specs.declared.verb.Item.TheVariants as get
 use Rattle.client_words.specs.declared.verb.Setting.{Setting}
 use Rattle.client_words.specs.declared.verb.Setting.TheVariants as set
 use Rattle.client_words.specs.declared.verb.Verb.{Verb}
-use Rattle.client_words.specs.declared.verb.Verb.TheVariants.{Ping, Status, Banned, Unban, Reload, Stop, Set, Get}
+use Rattle.client_words.specs.declared.verb.Verb.TheVariants.{Ping, Version, Status, Banned, Holders, Unban, Reload, Stop, Set, Get}
 
 -- ---- what is set and got of a jail
 
@@ -61,6 +61,12 @@ get_request get.Maxretry jail = request.GetMaxretry jail
 get_request get.Ignoreip jail = request.GetIgnoreip jail
 get_request get.Logpath jail = request.GetLogpath jail
 get_request get.Failregex jail = request.GetFailregex jail
+get_request get.Bantimes jail = request.GetBantimes jail
+get_request get.Ignoreregex jail = request.GetIgnoreregex jail
+get_request get.Datepattern jail = request.GetDatepattern jail
+get_request get.Maxmatches jail = request.GetMaxmatches jail
+get_request get.Increment jail = request.GetIncrement jail
+get_request get.Actions jail = request.GetActions jail
 
 -- ---- whole commands
 
@@ -77,14 +83,28 @@ unban_request values =
       addrs ← addresses 2 values
       Ok (request.Unban addrs)
 
+-- the addresses of which the words from the second on ask who holds them
+abbrev pub holders_request : List (List ℕ) → Result Request CommandError
+holders_request values = do
+  addrs ← addresses 2 values
+  Ok (request.Holders addrs)
+
+-- the jails whose status is asked for: all by `--all`, which is a name too, or the one of that name
+abbrev pub status_request : List ℕ → Result Request CommandError
+status_request word =
+    if bytes_eq word (codes "--all") then Ok request.StatusAll
+    else do
+      name ← jail_name word
+      Ok (request.StatusOf name)
+
 -- the request of a verb by all words, which are as many as it has
 abbrev pub request_of : Verb → List (List ℕ) → Result Request CommandError
 request_of Ping _ = Ok request.Ping
+request_of Version _ = Ok request.Version
 request_of Status (_ ∷ []) = Ok request.Status
-request_of Status (_ ∷ jail ∷ _) = do
-  name ← jail_name jail
-  Ok (request.StatusOf name)
+request_of Status (_ ∷ word ∷ _) = status_request word
 request_of Banned _ = Ok request.Banned
+request_of Holders (_ ∷ values) = holders_request values
 request_of Unban (_ ∷ values) = unban_request values
 request_of Reload _ = Ok request.Reload
 request_of Stop _ = Ok request.Stop

@@ -2,7 +2,7 @@
 ghost use Rattle.std.specs.Prelude.{◌≡◌, ◌<◌, ◌≤◌, ◌+◌, ◌^◌, length, IfOk};
 ghost use Rattle.f2b_model.specs.Storable.{IsJailName};
 ghost use Rattle.client_words.specs.Bounds.{IsBoundedRequest};
-ghost use Rattle.client_words.specs.Commands.{command_of, get_request, is_all, request_of, set_one, set_request, unban_request};
+ghost use Rattle.client_words.specs.Commands.{command_of, get_request, holders_request, is_all, request_of, set_one, set_request, status_request, unban_request};
 ghost use Rattle.client_words.specs.Values.{Gives};
 
 use crate::error::CommandError;
@@ -91,6 +91,12 @@ fn get_request(item: Item, jail: Text) -> Request
         Item::Ignoreip => Request::GetIgnoreip { jail },
         Item::Logpath => Request::GetLogpath { jail },
         Item::Failregex => Request::GetFailregex { jail },
+        Item::Bantimes => Request::GetBantimes { jail },
+        Item::Ignoreregex => Request::GetIgnoreregex { jail },
+        Item::Datepattern => Request::GetDatepattern { jail },
+        Item::Maxmatches => Request::GetMaxmatches { jail },
+        Item::Increment => Request::GetIncrement { jail },
+        Item::Actions => Request::GetActions { jail },
     }
 }
 
@@ -117,6 +123,28 @@ fn unban_request(alloc: Global, values: &[Text]) -> Result<Request, CommandError
     Ok(Request::Unban { addrs })
 }
 
+/// Of which addresses the words from the second on ask who holds them.
+fn holders_request(alloc: Global, values: &[Text]) -> Result<Request, CommandError>
+    requires { 2 + length values.now ≤ 2 ^ 32 }
+    ensures request { Gives (holders_request values.now) result }
+    ensures bounds { IfOk result IsBoundedRequest }
+{
+    let held = addresses(alloc, 2, values)?;
+    Ok(Request::Holders { addrs: held })
+}
+
+/// Of which jails the status is asked for by one word.
+fn status_request(word: &Text) -> Result<Request, CommandError>
+    ensures request { Gives (status_request word.now) result }
+    ensures bounds { IfOk result IsBoundedRequest }
+{
+    if word.as_str() == "--all" {
+        return Ok(Request::StatusAll);
+    }
+    let jail = jail_name(word)?;
+    Ok(Request::StatusOf { jail })
+}
+
 /// The request of a verb by all words, which are as many as it has.
 fn request_of(alloc: Global, verb: Verb, words: &[Text]) -> Result<Request, CommandError>
     requires { length words.now < 2 ^ 32 }
@@ -125,12 +153,11 @@ fn request_of(alloc: Global, verb: Verb, words: &[Text]) -> Result<Request, Comm
 {
     match (verb, words) {
         (Verb::Ping, _) => Ok(Request::Ping),
+        (Verb::Version, _) => Ok(Request::Version),
         (Verb::Status, [_]) => Ok(Request::Status),
-        (Verb::Status, [_, jail, ..]) => {
-            let jail = jail_name(jail)?;
-            Ok(Request::StatusOf { jail })
-        }
+        (Verb::Status, [_, word, ..]) => status_request(word),
         (Verb::Banned, _) => Ok(Request::Banned),
+        (Verb::Holders, [_, values @ ..]) => holders_request(alloc, values),
         (Verb::Unban, [_, values @ ..]) => unban_request(alloc, values),
         (Verb::Reload, _) => Ok(Request::Reload),
         (Verb::Stop, _) => Ok(Request::Stop),

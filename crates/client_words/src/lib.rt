@@ -10,6 +10,7 @@
 //! set nojail banip 1.2.3          // Bad address: word 4, whether there is such a jail or not
 //! set sshd findtime 5q            // Bad number
 //! set sshd nothing                // Invalid command
+//! banned 192.0.2.7                // Request::Holders { addrs }
 //! ```
 #![tactic(auto)]
 

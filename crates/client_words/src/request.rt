@@ -6,12 +6,20 @@ use f2b_base::{Addr, Cidr, Seq, Text};
 #[derive(Debug, Drop, PartialEq, Eq)]
 pub enum Request {
     Ping,
+    /// Which version the server has.
+    Version,
     Status,
+    /// Of the jail that has the name `--all`, or of each jail where there is none.
+    StatusAll,
     StatusOf {
         jail: Text,
     },
     /// Who is banned, jail by jail.
     Banned,
+    /// Which jails hold each of these addresses.
+    Holders {
+        addrs: Seq<Addr>,
+    },
     /// Ends all bans.
     UnbanAll,
     /// Ends the bans of these addresses in all jails.
@@ -79,6 +87,26 @@ pub enum Request {
         jail: Text,
     },
     GetFailregex {
+        jail: Text,
+    },
+    /// Who is banned, since when and until when.
+    GetBantimes {
+        jail: Text,
+    },
+    GetIgnoreregex {
+        jail: Text,
+    },
+    GetDatepattern {
+        jail: Text,
+    },
+    GetMaxmatches {
+        jail: Text,
+    },
+    /// Whether a further ban of an address lasts longer.
+    GetIncrement {
+        jail: Text,
+    },
+    GetActions {
         jail: Text,
     },
 }

@@ -13,13 +13,15 @@
 
 mod advice;
 mod link;
+mod nearest;
 mod output;
 mod sleep;
 mod words;
 
 use advice::advice;
-use client_tool::client;
+use client_tool::{ClientStatus, client};
 use link::RealLink;
+use nearest::{Hint, meant};
 use output::{Output, write_whole};
 use std::alloc::{AllocError, AllocGlobal};
 use std::io::{IsTerminal, Write};
@@ -52,16 +54,30 @@ fn call(rt: HostRuntime, words: &[String]) -> Result<u8, AllocError> {
     let mut link = RealLink::new(rt.clone()?);
     let status = client(alloc, words, &mut link, &mut output);
     if let Some(sentence) = advice(status) {
-        advise(&rt, sentence);
+        advise(&rt, &[sentence]);
+    }
+    if let ClientStatus::Refused = status {
+        help_on(&rt, words);
     }
     Ok(status.number())
 }
 
-/// Writes a line to standard error where that is a terminal. Nothing follows where it cannot be written.
-fn advise(rt: &HostRuntime, sentence: &str) {
+/// Says which word is the nearest one, where words that were refused name no command.
+fn help_on(rt: &HostRuntime, words: &[String]) {
+    match meant(words) {
+        Some(Hint::Word(near)) => advise(rt, &["did you mean ", near, "?"]),
+        Some(Hint::Nothing) => advise(rt, &["fail2ban-client --help lists the words"]),
+        None => (),
+    }
+}
+
+/// Writes a line of these pieces to standard error where that is a terminal. Nothing follows where it cannot be written.
+fn advise(rt: &HostRuntime, pieces: &[&str]) {
     let mut errors = rt.stderr();
     if errors.is_terminal() {
-        let _ = errors.write_all(sentence.as_bytes());
+        for piece in pieces {
+            let _ = errors.write_all(piece.as_bytes());
+        }
         let _ = errors.write_all(b"\n");
     }
 }

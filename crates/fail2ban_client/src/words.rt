@@ -9,12 +9,13 @@ use std::{env, io};
 
 /// The text of `-h` and `--help`.
 pub const HELP: &str = "\
-Usage: fail2ban-client [-s SOCKET] COMMAND
+Usage: fail2ban-client [-q] [-s SOCKET] COMMAND
        fail2ban-client --str2sec TIME
        fail2ban-client --help | --version
 
 Asks a fail2ban-server that runs, and prints its reply.
 
+  -q             print nothing but why a request is refused
   -s SOCKET      the socket of the server, else
                  /var/run/fail2ban/fail2ban.sock
   --str2sec TIME print the seconds of a time, as 10m or \"1h 30m\", and ask
@@ -24,8 +25,11 @@ Asks a fail2ban-server that runs, and prints its reply.
 
 Commands:
   ping                             whether a server is there
+  version                          the version of the server
   status [JAIL]                    the jails; or what one of them counts
+  status --all                     what each of them counts
   banned                           who is banned, jail by jail
+  banned IP ..                     which jails hold these addresses
   unban --all                      end all bans
   unban IP ..                      end the bans of these addresses
   reload                           read the configuration again
@@ -40,7 +44,9 @@ Commands:
   set JAIL maxretry N              ban for so many failures
   set JAIL idle on|off             let the logs be; follow them again
   get JAIL banip|findtime|bantime|maxretry|ignoreip|logpath|failregex
+  get JAIL ignoreregex|datepattern|maxmatches|bantime.increment|actions
                                    what the jail has
+  get JAIL banip --with-time       who is banned, since and until when
 
 Exit status:
    0  the request was accepted, and the reply was printed

@@ -17,7 +17,7 @@ where an address fails too often and where its ban ends. What it has taken is
 kept in two files beside its socket, and taken up again at the next start.
 At the socket it replies to fail2ban-client, by which it is also stopped.
 
-  --conf DIR     read the configuration in DIR: each file in it, or in a
+  -c, --conf DIR read the configuration in DIR: each file in it, or in a
                  directory in it, whose name ends in .conf or .local
   --turns N      stop after N turns; an idle server makes four a second
   --journal-limit BYTES

@@ -7,6 +7,12 @@ use Rattle.run_law.specs.Words.{all_turns, plan_of, usual_limit}
 asks_for_all_turns : plan_of (codes "--conf" ∷ codes "/c" ∷ []) ≡ Some (record { root = codes "/c"; turns = all_turns; limit = usual_limit })
 asks_for_all_turns = refl
 
+takes_the_short_word_too : plan_of (codes "-c" ∷ codes "/c" ∷ []) ≡ plan_of (codes "--conf" ∷ codes "/c" ∷ [])
+takes_the_short_word_too = refl
+
+refuses_a_word_between : plan_of (codes "--co" ∷ codes "/c" ∷ []) ≡ None
+refuses_a_word_between = refl
+
 asks_for_twelve : plan_of (codes "--conf" ∷ codes "/c" ∷ codes "--turns" ∷ codes "12" ∷ []) ≡ Some (record { root = codes "/c"; turns = 12; limit = usual_limit })
 unfolding digits
 asks_for_twelve = refl

@@ -8,4 +8,6 @@ pub mod ReadLemmas
 pub mod RunLemmas
 pub mod SectionLemmas
 pub mod TargetLemmas
+pub mod TextLemmas
 pub mod TreeLemmas
+pub mod ZoneLemmas

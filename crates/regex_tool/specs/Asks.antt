@@ -76,9 +76,10 @@ form_of None = Some Report
 form_of (Some text) = if bytes_eq text (codes "row") then Some Rows else if bytes_eq text (codes "ip") then Some Addresses else None
 
 -- what is shown, by the values of the arguments
-abbrev pub shows_of : (Text → Option Text) → Form → Shows
-shows_of given form = record {
+abbrev pub shows_of : (Text → Option Text) → Form → (zone : ℤ) → Shows
+shows_of given form zone = record {
   form = form;
+  zone = zone;
   detail = is_set (given (codes "detail"));
   matched = is_set (given (codes "detail")) || is_set (given (codes "print-all-matched"));
   ignored = is_set (given (codes "print-all-ignored"));
@@ -93,7 +94,7 @@ asks_with given (Some log) (Some regex) (Some form) (Some zone) = Some (record {
   ignore = given (codes "ignore");
   zone = zone;
   dir = given (codes "conf");
-  shows = shows_of given form;
+  shows = shows_of given form zone;
 })
 asks_with given _ _ _ _ = None
 
@@ -120,7 +121,7 @@ shown a = record {
   log = a.log.now;
   regex = a.regex.now;
   ignore = option_copied a.ignore;
-  zone = a.zone.seconds;
+  zone = a.zone;
   dir = option_copied a.dir;
   shows = a.shows;
 }

@@ -12,4 +12,5 @@ pub mod Results
 pub mod Runs
 pub mod Sections
 pub mod Targets
+pub mod Warnings
 pub mod Zones

@@ -1,7 +1,8 @@
 -- The lines that are shown of a log, and how.
-use Rattle.std.specs.Prelude.{ℕ, ◌++◌, Bool, List, [], ◌∷◌, Option, None, Some, is_some, codes, if◌then◌else◌}
+use Rattle.std.specs.Prelude.{ℕ, ℤ, ◌++◌, Bool, List, [], ◌∷◌, Option, None, Some, is_some, codes, if◌then◌else◌}
 use Rattle.std.specs.Fmt.{decimal}
 use Rattle.f2b_base.specs.Addresses.{printed}
+use Rattle.iso_moment.specs.Moments.{moment_text}
 use Rattle.filter_regex.specs.Rules.{Rules}
 use Rattle.filter_regex.specs.declared.finding.Finding.{Finding}
 use Rattle.filter_regex.specs.declared.finding.Finding.TheVariants.{Failure}
@@ -31,15 +32,15 @@ shown_line line = codes "   " ++ line_text line ++ codes "\n"
 abbrev pub shown_if : Bool → Line → List ℕ
 shown_if holds line = if holds then shown_line line else []
 
--- `ADDRESS SECONDS`, of a failure
-abbrev pub who_of : Finding → List ℕ
-who_of (Failure addr time number) = printed addr ++ codes " " ++ decimal time
-who_of _ = codes "- -"
+-- `ADDRESS SECONDS MOMENT`, of a failure
+abbrev pub who_of : (zone : ℤ) → Finding → List ℕ
+who_of zone (Failure addr time number) = printed addr ++ codes " " ++ decimal time ++ codes " " ++ moment_text zone time
+who_of zone _ = codes "- - -"
 
--- `   NUMBER) ADDRESS SECONDS LINE`, with the number of the pattern that matched the line
-abbrev pub detail_of : Option ℕ → Line → Finding → List ℕ
-detail_of None line finding = []
-detail_of (Some number) line finding = codes "   " ++ decimal number ++ codes ") " ++ who_of finding ++ codes " " ++ line_text line ++ codes "\n"
+-- `   NUMBER) ADDRESS SECONDS MOMENT LINE`, with the number of the pattern that matched the line
+abbrev pub detail_of : (zone : ℤ) → Option ℕ → Line → Finding → List ℕ
+detail_of zone None line finding = []
+detail_of zone (Some number) line finding = codes "   " ++ decimal number ++ codes ") " ++ who_of zone finding ++ codes " " ++ line_text line ++ codes "\n"
 
 -- `ADDRESS`, of a failure
 abbrev pub address_of : Finding → List ℕ
@@ -55,7 +56,7 @@ row_of line _ = []
 abbrev pub piece : Kind → Line → Finding → List ℕ
 piece Nothing line finding = []
 piece Matched line finding = shown_if (is_some (by_fail finding)) line
-piece Detail line finding = detail_of (by_fail finding) line finding
+piece (Detail zone) line finding = detail_of zone (by_fail finding) line finding
 piece Ignored line finding = shown_if (is_some (by_ignore finding)) line
 piece Missed line finding = shown_if (is_missed finding) line
 piece Address line finding = address_of finding
@@ -89,8 +90,8 @@ kind_of Rows = Row
 kind_of Addresses = Address
 
 -- how matched lines are shown
-abbrev pub matched_kind : (detail : Bool) → Kind
-matched_kind detail = if detail then Detail else Matched
+abbrev pub matched_kind : (detail : Bool) → (zone : ℤ) → Kind
+matched_kind detail zone = if detail then Detail zone else Matched
 
 abbrev pub kind_if : Bool → Kind → Kind
 kind_if holds kind = if holds then kind else Nothing
@@ -99,7 +100,7 @@ kind_if holds kind = if holds then kind else Nothing
 abbrev pub no_sections : Shows → Sections
 no_sections shows = record {
   first = empty_section (kind_of shows.form);
-  matched = empty_section (kind_if shows.matched (matched_kind shows.detail));
+  matched = empty_section (kind_if shows.matched (matched_kind shows.detail shows.zone));
   ignored = empty_section (kind_if shows.ignored Ignored);
   missed = empty_section (kind_if shows.missed Missed);
 }

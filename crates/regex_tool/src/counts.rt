@@ -8,7 +8,7 @@ use filter_regex::Finding;
 use std::alloc::Global;
 
 /// What came of the lines so far.
-#[derive(Debug, Drop)]
+#[derive(Drop)]
 pub(crate) struct Counts {
     pub lines: u64,
     pub ignored: u64,

@@ -8,7 +8,7 @@ use std::alloc::Global;
 use std::marker::Model;
 
 /// A count for each pattern of a list, which contracts see as a list.
-#[derive(Debug, Drop)]
+#[derive(Drop)]
 pub(crate) struct Decided {
     counts: Vec<u64>,
 }

@@ -1,11 +1,12 @@
 //! The jail that is tested.
-ghost use Rattle.std.specs.Prelude.{◌≡◌, ◌<◌, ◌++◌, ◌^◌, length, Some, option_copied, IfErr, IfOk, OnOk};
+ghost use Rattle.std.specs.Prelude.{◌≡◌, ◌<◌, ◌++◌, ◌∷◌, ◌^◌, [], length, Some, option_copied, IfErr, IfOk, OnOk};
 ghost use Rattle.regex_tool.specs.Asks.{shown};
 ghost use Rattle.regex_tool.specs.Definitions.{plain_jail, pattern_jail, option_text, jail_text, jail_file, is_of_filters, filter_tree, first_of, date_spec, date_or, lines_or, with_words, target_for, IsBase, IsDefined, IsJailOf};
 ghost use Rattle.regex_tool.specs.Checks.{IsFew, IsTestable};
 ghost use Rattle.regex_tool.specs.Readings.{IsOpened};
 ghost use Rattle.regex_tool.specs.Runs.{HasTreeCause, IsConfFail, IsJailFail};
 ghost use Rattle.regex_tool.specs.Targets.{shown as shown_target};
+ghost use Rattle.regex_tool.specs.Zones.{IsNear};
 
 use crate::status::ToolStatus;
 use crate::target::{Target, target_in};
@@ -45,13 +46,20 @@ fn plain_jail(alloc: Global, fail: Seq<Text>) -> Result<JailDef, NoMemory>
     })
 }
 
+/// A list of one pattern.
+fn one_pattern(alloc: Global, text: &str) -> Result<Seq<Text>, NoMemory>
+    ensures { IfOk result (λ lines. lines ≡ text.now ∷ []) }
+{
+    let mut lines = Seq::new(alloc);
+    lines.push(Text::from_str(alloc, text)?)?;
+    Ok(lines)
+}
+
 /// A jail with this one.
 fn pattern_jail(alloc: Global, regex: &str) -> Result<JailDef, NoMemory>
     ensures { IfOk result (λ jail. jail ≡ pattern_jail regex.now) }
 {
-    let mut fail = Seq::new(alloc);
-    fail.push(Text::from_str(alloc, regex)?)?;
-    plain_jail(alloc, fail)
+    plain_jail(alloc, one_pattern(alloc, regex)?)
 }
 
 fn push_options(text: &mut Bytes, options: Option<&str>) -> Result<(), NoMemory>
@@ -64,16 +72,23 @@ fn push_options(text: &mut Bytes, options: Option<&str>) -> Result<(), NoMemory>
     text.push_slice(options.as_bytes())
 }
 
+fn push_jail(text: &mut Bytes, target: Target<'_>) -> Result<(), NoMemory>
+    ensures { OnOk result (text.new ≡ text.old ++ jail_text (shown_target target.entry)) }
+{
+    text.push_slice(b"[")?;
+    text.push_slice(target.name.as_bytes())?;
+    text.push_slice(b"]\nenabled = true\nignoreself = false\nfilter = ")?;
+    text.push_slice(target.name.as_bytes())?;
+    push_options(text, target.options)?;
+    text.push_slice(b"\n")
+}
+
 /// The jail of a filter, in four lines of a file.
 fn jail_text(alloc: Global, target: Target<'_>) -> Result<Bytes, NoMemory>
     ensures { IfOk result (λ text. text ≡ jail_text (shown_target target.entry)) }
 {
-    let mut text = Bytes::from_slice(alloc, b"[")?;
-    text.push_slice(target.name.as_bytes())?;
-    text.push_slice(b"]\nenabled = true\nignoreself = false\nfilter = ")?;
-    text.push_slice(target.name.as_bytes())?;
-    push_options(&mut text, target.options)?;
-    text.push_slice(b"\n")?;
+    let mut text = Bytes::new(alloc);
+    push_jail(&mut text, target)?;
     Ok(text)
 }
 
@@ -136,46 +151,37 @@ fn date_spec(alloc: Global, text: &str) -> Result<DateSpec, NoMemory>
     Ok(DateSpec::Pattern(Text::from_str(alloc, text)?))
 }
 
-fn date_or(alloc: Global, given: Option<&str>, date: DateSpec) -> Result<DateSpec, NoMemory>
-    ensures { IfOk result (λ spec. spec ≡ date_or (option_copied given.entry) date) }
-{
-    match given {
-        Some(text) => date_spec(alloc, text),
-        None => Ok(date),
-    }
-}
-
-fn lines_or(alloc: Global, given: Option<&str>, lines: Seq<Text>) -> Result<Seq<Text>, NoMemory>
-    ensures { IfOk result (λ own. own ≡ lines_or (option_copied given.entry) lines) }
+/// A date pattern of the words stands in place of another.
+fn set_date(alloc: Global, given: Option<&str>, date: &mut DateSpec) -> Result<(), NoMemory>
+    ensures { OnOk result (date.new ≡ date_or (option_copied given.entry) date.old) }
 {
     let Some(text) = given else {
-        return Ok(lines);
+        return Ok(());
     };
-    let mut own = Seq::new(alloc);
-    own.push(Text::from_str(alloc, text)?)?;
-    Ok(own)
+    *date = date_spec(alloc, text)?;
+    Ok(())
 }
 
-/// The jail with patterns of the words in place of its own. Dates without a zone are those of the words' zone, and no address is left
-/// out.
-fn with_words(alloc: Global, asked: &Asked<'_>, jail: JailDef) -> Result<JailDef, NoMemory>
-    ensures { IfOk result (λ own. own ≡ with_words (shown asked.now) jail) }
+/// A pattern of the words stands in place of others.
+fn set_lines(alloc: Global, given: Option<&str>, lines: &mut Seq<Text>) -> Result<(), NoMemory>
+    ensures { OnOk result (lines.new ≡ lines_or (option_copied given.entry) lines.old) }
 {
-    Ok(JailDef {
-        name: jail.name,
-        watches: jail.watches,
-        zone: asked.zone.seconds,
-        date: date_or(alloc, asked.date, jail.date)?,
-        pref: jail.pref,
-        fail: jail.fail,
-        ignore_lines: lines_or(alloc, asked.ignore, jail.ignore_lines)?,
-        ignore: Seq::new(alloc),
-        findtime: jail.findtime,
-        maxretry: jail.maxretry,
-        maxmatches: jail.maxmatches,
-        rule: jail.rule,
-        actions: jail.actions,
-    })
+    let Some(text) = given else {
+        return Ok(());
+    };
+    *lines = one_pattern(alloc, text)?;
+    Ok(())
+}
+
+/// Patterns of the words stand in place of the jail's. Dates without a zone are those of the words' zone, and no address is left out.
+fn set_words(alloc: Global, asked: &Asked<'_>, jail: &mut JailDef) -> Result<(), NoMemory>
+    ensures words { OnOk result (jail.new ≡ with_words (shown asked.now) jail.old) }
+    ensures near { IsNear asked.now.zone }
+{
+    jail.zone = asked.zone.seconds();
+    jail.ignore = Seq::new(alloc);
+    set_date(alloc, asked.date, &mut jail.date)?;
+    set_lines(alloc, asked.ignore, &mut jail.ignore_lines)
 }
 
 /// A configuration that comes to nothing.
@@ -234,6 +240,7 @@ pub(crate) fn definition<F: Files>(
     ensures cause { IfErr result (HasTreeCause (target_for (shown asked.now)) (F.stands files.old) (F.stands files.new)) }
     ensures opened { IsOpened (F.stands files.old) (F.stands files.new) }
 {
-    let base = base_jail(alloc, asked, files)?;
-    Ok(with_words(alloc, asked, base)?)
+    let mut jail = base_jail(alloc, asked, files)?;
+    set_words(alloc, asked, &mut jail)?;
+    Ok(jail)
 }

@@ -29,6 +29,7 @@ mod shows;
 mod status;
 mod target;
 mod tool;
+mod warnings;
 mod words;
 mod zone;
 

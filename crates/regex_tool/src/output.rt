@@ -1,11 +1,14 @@
 //! All that is said of a test that is made.
 ghost use Rattle.std.specs.Prelude.{◌≡◌, ◌++◌, length, IfOk, OnOk};
-ghost use Rattle.regex_tool.specs.Outputs.{first_part, output, under};
+ghost use Rattle.regex_tool.specs.Checks.{IsFew};
+ghost use Rattle.regex_tool.specs.Outputs.{first_part, output, shown_lines, under};
 
 use crate::report::report;
 use crate::results::Results;
 use crate::section::Section;
+use crate::sections::Sections;
 use crate::shows::{Form, Shows};
+use crate::warnings::push_warnings;
 use f2b_base::{Bytes, JailDef, NoMemory, Plain};
 use std::alloc::Global;
 
@@ -45,6 +48,16 @@ fn push_under(
     text.push_slice(section.text.as_slice())
 }
 
+/// The lines of each kind that is shown.
+#[tactic(auto, unfolding(crate::specs::Outputs::shown_lines))]
+fn push_lines(text: &mut Bytes, shows: &Shows, sections: &Sections) -> Result<(), NoMemory>
+    ensures { OnOk result (text.new ≡ text.old ++ shown_lines shows.now sections.now) }
+{
+    push_under(text, b"Matched lines:\n", shows.matched, &sections.matched)?;
+    push_under(text, b"Ignored lines:\n", shows.ignored, &sections.ignored)?;
+    push_under(text, b"Missed lines:\n", shows.missed, &sections.missed)
+}
+
 /// What is said of a test, by what the words want to be shown.
 #[tactic(auto, unfolding(crate::specs::Outputs::output))]
 pub(crate) fn output(
@@ -55,27 +68,11 @@ pub(crate) fn output(
 ) -> Result<Bytes, NoMemory>
     requires fail { length results.now.counts.fail ≡ length jail.now.fail }
     requires ignore_lines { length results.now.counts.ignore_lines ≡ length jail.now.ignore_lines }
+    requires few { IsFew jail.now }
     ensures { IfOk result (λ text. text ≡ output shows jail.now results.now) }
 {
     let mut text = first_part(alloc, shows.form, jail, results)?;
-    let sections = &results.sections;
-    push_under(
-        &mut text,
-        b"Matched lines:\n",
-        shows.matched,
-        &sections.matched,
-    )?;
-    push_under(
-        &mut text,
-        b"Ignored lines:\n",
-        shows.ignored,
-        &sections.ignored,
-    )?;
-    push_under(
-        &mut text,
-        b"Missed lines:\n",
-        shows.missed,
-        &sections.missed,
-    )?;
+    push_lines(&mut text, &shows, &results.sections)?;
+    push_warnings(alloc, &mut text, shows.detail, jail)?;
     Ok(text)
 }

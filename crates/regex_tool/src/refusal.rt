@@ -18,7 +18,7 @@ fn numbered(alloc: Global, word: &str, number: u32) -> Result<Text, NoMemory>
     Ok(text)
 }
 
-fn place_text(alloc: Global, place: PatternPlace) -> Result<Text, NoMemory>
+pub(crate) fn place_text(alloc: Global, place: PatternPlace) -> Result<Text, NoMemory>
     ensures { IfOk result (λ text. text ≡ place_text place) }
 {
     match place {

@@ -12,7 +12,7 @@ use log_follow::Line;
 use std::alloc::Global;
 
 /// What came of the lines so far.
-#[derive(Debug, Drop)]
+#[derive(Drop)]
 pub(crate) struct Results {
     pub counts: Counts,
     pub sections: Sections,

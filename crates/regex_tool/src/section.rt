@@ -6,19 +6,21 @@ ghost use Rattle.regex_tool.specs.Sections.{address_of, detail_of, empty_section
 ghost use Rattle.regex_tool.specs.Counts.{by_fail};
 
 use crate::counts::{by_fail, by_ignore, is_missed};
+use crate::zone::Zone;
 use f2b_base::{Addr, Bytes, NoMemory};
 use filter_regex::Finding;
+use iso_moment::push_moment;
 use log_follow::Line;
 use std::alloc::Global;
 
 /// Which lines are shown, and how.
-#[derive(Clone, Copy, Debug)]
+#[derive(Clone, Copy)]
 pub(crate) enum Kind {
     Nothing,
     /// Each line that a pattern of failures matched.
     Matched,
-    /// The same, each with the number of the pattern, its address and its time.
-    Detail,
+    /// The same, each with the number of the pattern, its address, and its time in seconds and as a clock of the zone shows it.
+    Detail(Zone),
     Ignored,
     Missed,
     /// The address of each failure.
@@ -28,7 +30,7 @@ pub(crate) enum Kind {
 }
 
 /// Lines of one kind, as they are shown.
-#[derive(Debug, Drop)]
+#[derive(Drop)]
 pub(crate) struct Section {
     pub kind: Kind,
     pub text: Bytes,
@@ -67,25 +69,28 @@ fn push_addr(text: &mut Bytes, addr: Addr) -> Result<(), NoMemory>
 }
 
 /// Whose failure it is, and when.
-fn push_who(alloc: Global, text: &mut Bytes, finding: Finding) -> Result<(), NoMemory>
-    ensures { OnOk result (text.new ≡ text.old ++ who_of finding) }
+fn push_who(alloc: Global, text: &mut Bytes, zone: Zone, finding: Finding) -> Result<(), NoMemory>
+    ensures { OnOk result (text.new ≡ text.old ++ who_of zone finding) }
 {
     let Finding::Failure { addr, time, .. } = finding else {
-        return text.push_slice(b"- -");
+        return text.push_slice(b"- - -");
     };
     push_addr(text, addr)?;
     text.push_slice(b" ")?;
-    push_number(alloc, text, time)
+    push_number(alloc, text, time)?;
+    text.push_slice(b" ")?;
+    push_moment(text, zone.seconds(), time)
 }
 
 /// A line with the number of the pattern that matched it, if one did.
 fn push_detail(
     alloc: Global,
     text: &mut Bytes,
+    zone: Zone,
     line: &Line,
     finding: Finding,
 ) -> Result<(), NoMemory>
-    ensures { OnOk result (text.new ≡ text.old ++ detail_of (by_fail finding) line.now finding) }
+    ensures { OnOk result (text.new ≡ text.old ++ detail_of zone (by_fail finding) line.now finding) }
 {
     let Some(number) = by_fail(finding) else {
         return Ok(());
@@ -93,7 +98,7 @@ fn push_detail(
     text.push_slice(b"   ")?;
     push_number(alloc, text, u64::from(number))?;
     text.push_slice(b") ")?;
-    push_who(alloc, text, finding)?;
+    push_who(alloc, text, zone, finding)?;
     text.push_slice(b" ")?;
     text.push_slice(line_text(line))?;
     text.push_slice(b"\n")
@@ -143,7 +148,7 @@ fn push_piece(
     match kind {
         Kind::Nothing => Ok(()),
         Kind::Matched => push_if(text, by_fail(finding).is_some(), line),
-        Kind::Detail => push_detail(alloc, text, line, finding),
+        Kind::Detail(zone) => push_detail(alloc, text, zone, line, finding),
         Kind::Ignored => push_if(text, by_ignore(finding).is_some(), line),
         Kind::Missed => push_if(text, is_missed(finding), line),
         Kind::Address => push_address(text, finding),

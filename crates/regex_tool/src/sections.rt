@@ -4,13 +4,14 @@ ghost use Rattle.regex_tool.specs.Sections.{kind_if, kind_of, matched_kind, no_s
 
 use crate::section::{Kind, Section};
 use crate::shows::{Form, Shows};
+use crate::zone::Zone;
 use f2b_base::NoMemory;
 use filter_regex::Finding;
 use log_follow::Line;
 use std::alloc::Global;
 
 /// All lines that are shown, by their kinds.
-#[derive(Debug, Drop)]
+#[derive(Drop)]
 pub(crate) struct Sections {
     /// What stands in place of the report.
     pub first: Section,
@@ -36,10 +37,14 @@ fn kind_if(holds: bool, kind: Kind) -> Kind
 }
 
 /// How matched lines are shown.
-fn matched_kind(detail: bool) -> Kind
-    ensures { result ≡ matched_kind detail }
+fn matched_kind(detail: bool, zone: Zone) -> Kind
+    ensures { result ≡ matched_kind detail zone }
 {
-    if detail { Kind::Detail } else { Kind::Matched }
+    if detail {
+        Kind::Detail(zone)
+    } else {
+        Kind::Matched
+    }
 }
 
 impl Sections {
@@ -49,7 +54,10 @@ impl Sections {
     {
         Sections {
             first: Section::new(alloc, kind_of(shows.form)),
-            matched: Section::new(alloc, kind_if(shows.matched, matched_kind(shows.detail))),
+            matched: Section::new(
+                alloc,
+                kind_if(shows.matched, matched_kind(shows.detail, shows.zone)),
+            ),
             ignored: Section::new(alloc, kind_if(shows.ignored, Kind::Ignored)),
             missed: Section::new(alloc, kind_if(shows.missed, Kind::Missed)),
         }

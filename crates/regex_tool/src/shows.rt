@@ -1,5 +1,7 @@
 //! What is shown of a test.
 
+use crate::zone::Zone;
+
 /// What is said first.
 #[derive(Clone, Copy)]
 pub(crate) enum Form {
@@ -14,6 +16,8 @@ pub(crate) enum Form {
 #[derive(Clone, Copy)]
 pub(crate) struct Shows {
     pub form: Form,
+    /// Moments are shown as a clock of this zone has them.
+    pub zone: Zone,
     /// Lines that a pattern of failures matched are shown with what was found in them.
     pub detail: bool,
     /// Behind that, all lines that a pattern of failures matched.

@@ -43,7 +43,7 @@ fn is_filter_name(name: &str) -> bool
 }
 
 /// What stands before an ending.
-fn before_ending<'t>(ending: &str, text: &'t str) -> Option<&'t str>
+pub(crate) fn before_ending<'t>(ending: &str, text: &'t str) -> Option<&'t str>
     ensures { option_copied result ≡ before_ending ending.now text.now }
 {
     let front = text.strip_suffix(ending)?;

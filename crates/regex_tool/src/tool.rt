@@ -79,7 +79,8 @@ fn test<F: Files, K: Sink>(
 /// `--timezone ZONE`, no address left out, and failures of the last hundred years.
 ///
 /// One text is said: the report, or with `-o ip` and `-o row` a line for each failure, and behind it the lines that `-v`,
-/// `--print-all-matched`, `--print-all-ignored` and `--print-all-missed` show; or why the test is refused.
+/// `--print-all-matched`, `--print-all-ignored` and `--print-all-missed` show, and with `-v` what may be wrong with the patterns; or
+/// why the test is refused.
 pub fn regex_tool<F: Files, K: Sink>(
     alloc: Global,
     words: &[String],

@@ -1,7 +1,7 @@
 //! The words that the tester is called with.
 ghost use Rattle.std.specs.Prelude.{◌≡◌, false, map, option_copied, option_map, string_bytes, IfOk};
 ghost use Rattle.clap.specs.Words.{app_of, found_of, first_value, rule_of};
-ghost use Rattle.regex_tool.specs.Asks.{asks_by, bare_tool, flag, form_of, is_set, mark, shows_of, shown, tool, with_flags, with_places, with_values, Answers};
+ghost use Rattle.regex_tool.specs.Asks.{asks_by, bare_tool, flag, form_of, is_set, letter, mark, named, needed, shows_of, shown, tool, with_flags, with_places, with_values, Answers};
 
 use crate::shows::{Form, Shows};
 use crate::zone::{Zone, zone_or_utc};
@@ -35,24 +35,39 @@ pub(crate) enum Answer<'w> {
     NoMemory,
 }
 
+/// An option of one letter, which has a value.
+fn letter<'w>(alloc: Global, name: &'w str, short: char) -> Arg<'w>
+    ensures rule { rule_of result ≡ letter name.entry.now short }
+    ensures local { result.global ≡ false }
+{
+    Arg::new(alloc, name).short(short)
+}
+
+/// An option by its name, which has a value.
+fn named<'w>(alloc: Global, name: &'w str) -> Arg<'w>
+    ensures rule { rule_of result ≡ named name.entry.now }
+    ensures local { result.global ≡ false }
+{
+    Arg::new(alloc, name).long(name)
+}
+
 /// The options that have a value.
 fn with_values<'w>(alloc: Global, command: Command<'w>) -> Result<Command<'w>, AllocError>
     ensures { IfOk result (λ c. app_of c ≡ with_values (app_of command.entry)) }
 {
-    let date = Arg::new(alloc, "date").short('d');
-    let conf = Arg::new(alloc, "conf").short('c');
-    let out = Arg::new(alloc, "out").short('o');
-    let zone = Arg::new(alloc, "timezone").long("timezone");
-    command.arg(date)?.arg(conf)?.arg(out)?.arg(zone)
+    let command = command.arg(letter(alloc, "date", 'd'))?;
+    let command = command.arg(letter(alloc, "conf", 'c'))?;
+    let command = command.arg(letter(alloc, "out", 'o'))?;
+    command.arg(named(alloc, "timezone"))
 }
 
 /// An option of one letter that has none.
-fn mark<'w>(alloc: Global, name: &'w str, letter: char) -> Arg<'w>
-    ensures rule { rule_of result ≡ mark name.entry.now letter }
+fn mark<'w>(alloc: Global, name: &'w str, short: char) -> Arg<'w>
+    ensures rule { rule_of result ≡ mark name.entry.now short }
     ensures local { result.global ≡ false }
 {
     Arg::new(alloc, name)
-        .short(letter)
+        .short(short)
         .action(ArgAction::SetTrue)
 }
 
@@ -68,21 +83,27 @@ fn flag<'w>(alloc: Global, name: &'w str) -> Arg<'w>
 fn with_flags<'w>(alloc: Global, command: Command<'w>) -> Result<Command<'w>, AllocError>
     ensures { IfOk result (λ c. app_of c ≡ with_flags (app_of command.entry)) }
 {
-    let detail = mark(alloc, "detail", 'v');
-    let matched = flag(alloc, "print-all-matched");
-    let ignored = flag(alloc, "print-all-ignored");
-    let missed = flag(alloc, "print-all-missed");
-    command.arg(detail)?.arg(matched)?.arg(ignored)?.arg(missed)
+    let command = command.arg(mark(alloc, "detail", 'v'))?;
+    let command = command.arg(flag(alloc, "print-all-matched"))?;
+    let command = command.arg(flag(alloc, "print-all-ignored"))?;
+    command.arg(flag(alloc, "print-all-missed"))
+}
+
+/// A word that stands alone, and is needed.
+fn needed<'w>(alloc: Global, name: &'w str) -> Arg<'w>
+    ensures rule { rule_of result ≡ needed name.entry.now }
+    ensures local { result.global ≡ false }
+{
+    Arg::new(alloc, name).required(true)
 }
 
 /// The words that stand alone.
 fn with_places<'w>(alloc: Global, command: Command<'w>) -> Result<Command<'w>, AllocError>
     ensures { IfOk result (λ c. app_of c ≡ with_places (app_of command.entry)) }
 {
-    let log = Arg::new(alloc, "log").required(true);
-    let regex = Arg::new(alloc, "regex").required(true);
-    let ignore = Arg::new(alloc, "ignore");
-    command.arg(log)?.arg(regex)?.arg(ignore)
+    let command = command.arg(needed(alloc, "log"))?;
+    let command = command.arg(needed(alloc, "regex"))?;
+    command.arg(Arg::new(alloc, "ignore"))
 }
 
 fn bare_command<'w>(alloc: Global) -> Command<'w>
@@ -121,12 +142,13 @@ fn form_of(given: Option<&str>) -> Option<Form>
     }
 }
 
-fn shows_of(matches: &ArgMatches<'_>, form: Form) -> Shows
-    ensures { result ≡ shows_of (first_value (found_of matches.now)) form }
+fn shows_of(matches: &ArgMatches<'_>, form: Form, zone: Zone) -> Shows
+    ensures { result ≡ shows_of (first_value (found_of matches.now)) form zone }
 {
     let detail = is_set(matches.get_str("detail"));
     Shows {
         form,
+        zone,
         detail,
         matched: detail || is_set(matches.get_str("print-all-matched")),
         ignored: is_set(matches.get_str("print-all-ignored")),
@@ -149,7 +171,7 @@ fn asked_by<'w>(matches: &ArgMatches<'w>) -> Option<Asked<'w>>
         ignore: matches.get_str("ignore"),
         zone,
         dir: matches.get_str("conf"),
-        shows: shows_of(matches, form),
+        shows: shows_of(matches, form, zone),
     })
 }
 

@@ -1,14 +1,41 @@
 //! The zone of dates without one: `Z`, or `UTC` or `GMT` with nothing behind it or `+hhmm` or `-hhmm`.
-ghost use Rattle.std.specs.Prelude.{◌≡◌, ◌<◌, ◌≤◌, ◌&&◌, pos, neg_ℤ, int_lt, IsTrue, IfSome, length, option_and_then, option_copied, option_map};
+ghost use Rattle.std.specs.Prelude.{◌≡◌, ◌<◌, ◌≤◌, pos, neg_ℤ, IfSome, length, option_and_then, option_copied};
 ghost use Rattle.jail_conf.specs.Words.{number, if_between};
 ghost use Rattle.jail_conf.specs.Zones.{offset, behind_name, zone_of};
-ghost use Rattle.regex_tool.specs.Zones.{zone_if};
+ghost use Rattle.jiff_core.specs.Calendar.{IsWithin};
+ghost use Rattle.regex_tool.specs.Zones.{IsNear, zone_if};
 
-/// How many seconds a zone is ahead of UTC: less than a day, either way.
+use std::marker::Model;
+
+/// How many seconds a zone is ahead of UTC, which contracts see as that number: less than a day, either way.
 #[derive(Clone, Copy)]
 pub(crate) struct Zone {
-    pub seconds: i64,
-    ghost near: { IsTrue (int_lt (neg_ℤ (pos 86_400)) seconds && int_lt seconds (pos 86_400)) },
+    seconds: i64,
+}
+
+impl Model for Zone {
+    ghost use Rattle.std.specs.Prelude.{ℤ};
+    ghost use Rattle.regex_tool.specs.Zones.{IsNear};
+
+    ghost Value = { ℤ };
+
+    ghost view = { λ zone. zone.seconds };
+
+    ghost invariant = { λ zone. IsNear zone.seconds };
+
+    ghost inverse = { λ seconds. record { seconds = seconds } };
+}
+
+impl Zone {
+    /// How many seconds it is ahead of UTC.
+    #[tactic(auto, using(crate::proofs::ZoneLemmas::near_is_within))]
+    pub(crate) fn seconds(self) -> i64
+        ensures value { result ≡ self }
+        ensures near { IsNear self }
+        ensures within { IsWithin 86_399 result }
+    {
+        self.seconds
+    }
 }
 
 /// The number of two digits.
@@ -52,7 +79,7 @@ fn offset(digits: &[u8]) -> Option<u32>
 /// A zone east of UTC.
 fn east(seconds: u32) -> Zone
     requires { seconds < 86_400 }
-    ensures { result.seconds ≡ pos seconds }
+    ensures { result ≡ pos seconds }
 {
     Zone {
         seconds: i64::from(seconds),
@@ -62,7 +89,7 @@ fn east(seconds: u32) -> Zone
 /// A zone west of UTC.
 fn west(seconds: u32) -> Zone
     requires { seconds < 86_400 }
-    ensures { result.seconds ≡ neg_ℤ (pos seconds) }
+    ensures { result ≡ neg_ℤ (pos seconds) }
 {
     Zone {
         seconds: -i64::from(seconds),
@@ -71,7 +98,7 @@ fn west(seconds: u32) -> Zone
 
 /// What stands behind the name of a zone.
 fn behind_name(text: &[u8]) -> Option<Zone>
-    ensures { option_map (λ zone. zone.seconds) result ≡ behind_name text.now }
+    ensures { result ≡ behind_name text.now }
 {
     match text {
         [] => Some(east(0)),
@@ -83,7 +110,7 @@ fn behind_name(text: &[u8]) -> Option<Zone>
 
 /// The zone that a text names.
 fn zone_of(text: &str) -> Option<Zone>
-    ensures { option_map (λ zone. zone.seconds) result ≡ zone_of text.now }
+    ensures { result ≡ zone_of text.now }
 {
     if text == "Z" {
         return Some(east(0));
@@ -97,7 +124,7 @@ fn zone_of(text: &str) -> Option<Zone>
 
 /// The zone that a text names, and UTC where there is none.
 pub(crate) fn zone_or_utc(given: Option<&str>) -> Option<Zone>
-    ensures { option_map (λ zone. zone.seconds) result ≡ zone_if (option_copied given.entry) }
+    ensures { result ≡ zone_if (option_copied given.entry) }
 {
     match given {
         Some(text) => zone_of(text),

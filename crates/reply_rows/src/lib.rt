@@ -10,6 +10,10 @@
 #![tactic(auto)]
 
 #[cfg(test)]
+mod details;
+#[cfg(test)]
+mod more_rows;
+#[cfg(test)]
 mod rows;
 #[cfg(test)]
 mod state;

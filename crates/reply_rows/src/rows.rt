@@ -140,7 +140,7 @@ const STOPPING: [(&str, &str); 10] = [
     ),
 ];
 
-fn are_told(
+pub(crate) fn are_told(
     rt: &impl Abort,
     alloc: Global,
     core: &Core,

@@ -39,7 +39,7 @@ fn rule(alloc: Global) -> BanRule
 }
 
 /// A jail that has no logs, no patterns and no masks.
-fn bare(alloc: Global, name: &str) -> Result<JailDef, NoMemory>
+pub(crate) fn bare(alloc: Global, name: &str) -> Result<JailDef, NoMemory>
     ensures bounded { IfOk result IsBounded }
     ensures name { IfOk result (λ d. d.name ≡ name.now) }
     ensures watches { IfOk result (λ d. d.watches ≡ []) }
@@ -137,7 +137,7 @@ fn input(secs: u32, what: What) -> Input
     }
 }
 
-fn take(core: Core, secs: u32, what: What) -> Result<Core, NoMemory>
+pub(crate) fn take(core: Core, secs: u32, what: What) -> Result<Core, NoMemory>
     requires fit { IsFitWhat what }
     requires bounded { IsBoundedWhat what }
 {
@@ -150,7 +150,7 @@ pub(crate) fn quiet(alloc: Global) -> Result<Core, NoMemory> {
     take(Core::empty(alloc), 1000, configuration(alloc)?)
 }
 
-fn ban(alloc: Global, core: Core, jail: &str, addr: Addr) -> Result<Core, NoMemory> {
+pub(crate) fn ban(alloc: Global, core: Core, jail: &str, addr: Addr) -> Result<Core, NoMemory> {
     let mut addrs = Seq::new(alloc);
     addrs.push(addr)?;
     let jail = Text::from_str(alloc, jail)?;

@@ -6,7 +6,7 @@ use Rattle.std.specs.Str.Parse.{digits_value}
 use Rattle.std.proofs.lemmas.Bool.{leb-true, ltb-true}
 use Rattle.f2b_model.proofs.ListLemmas.{by_test}
 use Rattle.record_fields.proofs.NumberLemmas.{both_of}
-use Rattle.run_law.specs.Words.{Asked, all_turns, nothing_asked, number_of, once, plan_asked, plan_in, plan_of, usual_limit, with_option, with_options}
+use Rattle.run_law.specs.Words.{Asked, all_turns, is_conf, nothing_asked, number_of, once, plan_asked, plan_in, plan_of, usual_limit, with_option, with_options}
 use Rattle.run_law.specs.declared.plan.Plan.{Plan}
 
 -- a number that an option may ask for
@@ -87,7 +87,7 @@ planned_in root words plan is =
 
 pub planned : (words : List (List ℕ)) (plan : Plan) → plan_of words ≡ Some plan → IsPlanned plan
 planned (conf ∷ root ∷ words) plan is =
-    by_test (bytes_eq conf (codes "--conf")) _
+    by_test (is_conf conf) _
     (λ e. let same : plan_in root words ≡ Some plan = rw e at is in planned_in root words plan same)
     (λ e. absurd (let none : None ≡ Some plan = rw e at is in cc))
 planned _ plan is = absurd (cc)

@@ -1,5 +1,5 @@
 -- The words of the command line.
-use Rattle.std.specs.Prelude.{ℕ, ◌^◌, ◌-◌, ◌&&◌, nat_le, nat_lt, bytes_eq, codes, option_and_then, option_map, unwrap_or, List, [], ◌∷◌, Option, Some, None, if◌then◌else◌}
+use Rattle.std.specs.Prelude.{ℕ, ◌^◌, ◌-◌, ◌&&◌, ◌||◌, Bool, nat_le, nat_lt, bytes_eq, codes, option_and_then, option_map, unwrap_or, List, [], ◌∷◌, Option, Some, None, if◌then◌else◌}
 use Rattle.std.specs.Fmt.{decimal}
 use Rattle.std.specs.Str.Parse.{digits_value}
 use Rattle.run_law.specs.declared.plan.Plan.{Plan}
@@ -62,7 +62,11 @@ plan_asked root a = record { root = root; turns = unwrap_or a.turns all_turns; l
 abbrev pub plan_in : List ℕ → List (List ℕ) → Option Plan
 plan_in root words = if bytes_eq root [] then None else option_map (plan_asked root) (with_options words nothing_asked)
 
--- `--conf DIR`, and behind it `--turns N` and `--journal-limit BYTES`
+-- whether a word says that a directory follows
+abbrev pub is_conf : List ℕ → Bool
+is_conf word = bytes_eq word (codes "--conf") || bytes_eq word (codes "-c")
+
+-- `--conf DIR`, or `-c DIR`, and behind it `--turns N` and `--journal-limit BYTES`
 abbrev pub plan_of : List (List ℕ) → Option Plan
-plan_of (conf ∷ root ∷ words) = if bytes_eq conf (codes "--conf") then plan_in root words else None
+plan_of (conf ∷ root ∷ words) = if is_conf conf then plan_in root words else None
 plan_of _ = None

@@ -1,5 +1,6 @@
 //! The lines that the server says, each as a text and its stamp.
 ghost use Rattle.std.specs.Prelude.{◌≡◌, ◌++◌, IfOk, OnOk, codes};
+ghost use Rattle.std.specs.Fmt.{decimal};
 ghost use Rattle.f2b_base.specs.Addresses.{printed};
 ghost use Rattle.run_law.specs.Said.{stamped, ready_line, stopping_line, happening_text, line_of, rotated_line, unread_line};
 
@@ -7,14 +8,26 @@ use f2b_base::{Addr, Bytes, NoMemory, Text};
 use f2b_model::Happening;
 use std::alloc::Global;
 
+/// Room for most lines: the seconds, the name of a jail, and an address or a path. A line that is longer asks for more.
+const ROOM: usize = 128;
+
+/// The beginning of a line of this second, in seconds since 1970, with room for what mostly comes behind it.
+fn begun(alloc: Global, now: u64) -> Result<Bytes, NoMemory>
+    ensures { IfOk result (λ line. line ≡ decimal now ++ codes " ") }
+{
+    let seconds = format!(in alloc; "{now}")?;
+    let mut line = Bytes::from(Vec::with_capacity(alloc, ROOM)?);
+    line.push_slice(seconds.as_bytes())?;
+    line.push_slice(b" ")?;
+    Ok(line)
+}
+
 /// The text as a line of this second, in seconds since 1970.
 #[tactic(auto, unfolding(run_law::specs::Said::stamped))]
 pub fn stamped(alloc: Global, now: u64, text: &[u8]) -> Result<Bytes, NoMemory>
     ensures { IfOk result (λ line. line ≡ stamped now text.now) }
 {
-    let seconds = format!(in alloc; "{now}")?;
-    let mut line = Bytes::from_slice(alloc, seconds.as_bytes())?;
-    line.push_slice(b" ")?;
+    let mut line = begun(alloc, now)?;
     line.push_slice(text)?;
     line.push_slice(b"\n")?;
     Ok(line)
@@ -44,51 +57,46 @@ fn push_addr(text: &mut Bytes, addr: &Addr) -> Result<(), NoMemory>
     text.push_slice(&printed[..len])
 }
 
-fn jail_text(
-    alloc: Global,
+fn push_deed(
+    text: &mut Bytes,
     begin: &[u8],
     name: &Text,
     deed: &[u8],
     addr: &Addr,
-) -> Result<Bytes, NoMemory>
-    ensures { IfOk result (λ text. text ≡ begin.now ++ name.now ++ deed.now ++ printed addr.now) }
+) -> Result<(), NoMemory>
+    ensures { OnOk result (text.new ≡ text.old ++ begin.now ++ name.now ++ deed.now ++ printed addr.now) }
 {
-    let mut text = Bytes::from_slice(alloc, begin)?;
+    text.push_slice(begin)?;
     text.push_slice(name.as_str().as_bytes())?;
     text.push_slice(deed)?;
-    push_addr(&mut text, addr)?;
-    Ok(text)
+    push_addr(text, addr)
 }
 
-fn happening_text(alloc: Global, happening: &Happening) -> Result<Bytes, NoMemory>
-    ensures { IfOk result (λ text. text ≡ happening_text happening.now) }
+fn push_happening(text: &mut Bytes, happening: &Happening) -> Result<(), NoMemory>
+    ensures { OnOk result (text.new ≡ text.old ++ happening_text happening.now) }
 {
     match happening {
-        Happening::Counts { jail, addr } => jail_text(alloc, b"INFO [", jail, b"] Found ", addr),
-        Happening::Begins { jail, ban, .. } => jail_text(
-            alloc,
+        Happening::Counts { jail, addr } => push_deed(text, b"INFO [", jail, b"] Found ", addr),
+        Happening::Begins { jail, ban, .. } => push_deed(
+            text,
             b"NOTICE [",
             jail,
             b"] Ban ",
             &ban.addr,
         ),
-        Happening::Ends { jail, ban } => jail_text(
-            alloc,
-            b"NOTICE [",
-            jail,
-            b"] Unban ",
-            &ban.addr,
-        ),
+        Happening::Ends { jail, ban } => push_deed(text, b"NOTICE [", jail, b"] Unban ", &ban.addr),
     }
 }
 
 /// What a step did in a jail, as the line of its second.
-#[tactic(auto, unfolding(run_law::specs::Said::line_of))]
+#[tactic(auto, unfolding(run_law::specs::Said::line_of, run_law::specs::Said::stamped))]
 pub fn happening_line(alloc: Global, now: u64, happening: &Happening) -> Result<Bytes, NoMemory>
     ensures { IfOk result (λ line. line ≡ line_of now happening.now) }
 {
-    let text = happening_text(alloc, happening)?;
-    stamped(alloc, now, text.as_slice())
+    let mut line = begun(alloc, now)?;
+    push_happening(&mut line, happening)?;
+    line.push_slice(b"\n")?;
+    Ok(line)
 }
 
 /// That a log or a directory cannot be read, by the path that the jail names.

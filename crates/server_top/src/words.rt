@@ -1,6 +1,6 @@
 //! The words of the command line.
 ghost use Rattle.std.specs.Prelude.{◌≡◌, IfOk, Some, map, option_map, string_bytes};
-ghost use Rattle.run_law.specs.Words.{once, plan_in, plan_of, with_option, with_options};
+ghost use Rattle.run_law.specs.Words.{is_conf, once, plan_in, plan_of, with_option, with_options};
 ghost use Rattle.server_top.specs.Options.{asked_of};
 
 use crate::number::number;
@@ -116,13 +116,20 @@ fn plan_in(alloc: Global, root: &str, words: &[String]) -> Result<Option<Plan>, 
     }))
 }
 
-/// The plan that the words ask for, or none where they are not in the table: `--conf DIR`, and behind it `--turns N` and
+// Whether a word says that a directory follows.
+fn is_conf(word: &str) -> bool
+    ensures { result ≡ is_conf word.now }
+{
+    word == "--conf" || word == "-c"
+}
+
+/// The plan that the words ask for, or none where they are not in the table: `--conf DIR`, or `-c DIR`, and behind it `--turns N` and
 /// `--journal-limit BYTES`, each at most once.
 pub fn read_words(alloc: Global, words: &[String]) -> Result<Option<Plan>, NoMemory>
     ensures { IfOk result (λ plan. plan ≡ plan_of (map string_bytes words.now)) }
 {
     match words {
-        [conf, root, options @ ..] if conf.as_str() == "--conf" => {
+        [conf, root, options @ ..] if is_conf(conf.as_str()) => {
             plan_in(alloc, root.as_str(), options)
         }
         _ => Ok(None),

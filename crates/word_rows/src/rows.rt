@@ -58,6 +58,49 @@ const REQUESTS: [(&str, &str); 24] = [
     ("get sshd failregex", "GetFailregex { jail: \"sshd\" }"),
 ];
 
+/// Words beside the table of those that fail2ban's own documents have.
+const MORE_REQUESTS: [(&str, &str); 15] = [
+    ("version", "Version"),
+    ("status --all", "StatusAll"),
+    ("status --al", "StatusOf { jail: \"--al\" }"),
+    (
+        "banned 192.0.2.7 ::ffff:192.0.2.7 ::1",
+        "Holders { addrs: [V4(3221225991), V4(3221225991), V6(1)] }",
+    ),
+    (
+        "get sshd banip --with-time",
+        "GetBantimes { jail: \"sshd\" }",
+    ),
+    ("get sshd ignoreregex", "GetIgnoreregex { jail: \"sshd\" }"),
+    ("get sshd datepattern", "GetDatepattern { jail: \"sshd\" }"),
+    ("get sshd maxmatches", "GetMaxmatches { jail: \"sshd\" }"),
+    (
+        "get sshd bantime.increment",
+        "GetIncrement { jail: \"sshd\" }",
+    ),
+    ("get sshd actions", "GetActions { jail: \"sshd\" }"),
+    ("banned 192.0.2.7 localhost", "Bad address: word 3"),
+    ("version now", "Wrong number of words"),
+    ("get sshd actions nftables", "Wrong number of words"),
+    ("get sshd! banip --with-time", "Bad jail name"),
+    ("set sshd maxmatches 5", "Invalid command"),
+];
+
+/// What they leave as it was: with a word that is none of theirs, a command is refused as it is without them.
+const AS_BEFORE: [(&str, &str); 8] = [
+    ("banned localhost", "Wrong number of words"),
+    ("banned 192.0.2.07 192.0.2.7", "Wrong number of words"),
+    ("status --all --all", "Wrong number of words"),
+    ("get sshd banip --with-times", "Wrong number of words"),
+    (
+        "get sshd banip --with-time 192.0.2.7",
+        "Wrong number of words",
+    ),
+    ("get sshd ignoreip --with-time", "Wrong number of words"),
+    ("get sshd bantime.factor", "Invalid command"),
+    ("get --all banip", "GetBanip { jail: \"--all\" }"),
+];
+
 /// Values at their bounds.
 const BOUNDS: [(&str, &str); 8] = [
     (
@@ -219,6 +262,16 @@ fn are_told_of_words(rt: &impl Abort, alloc: Global, rows: &[(&[&str], &str)]) -
 #[test]
 fn each_command_is_its_request(rt: HostRuntime) -> Result<(), Fail> {
     are_told(&rt, rt.alloc(), &REQUESTS)
+}
+
+#[test]
+fn each_further_command_is_its_request(rt: HostRuntime) -> Result<(), Fail> {
+    are_told(&rt, rt.alloc(), &MORE_REQUESTS)
+}
+
+#[test]
+fn further_commands_leave_the_others_as_they_are(rt: HostRuntime) -> Result<(), Fail> {
+    are_told(&rt, rt.alloc(), &AS_BEFORE)
 }
 
 #[test]

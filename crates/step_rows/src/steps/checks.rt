@@ -1,8 +1,7 @@
 //! What is told of lanes: checks and tries that fail.
-use crate::steps::{ADD, Happens, Step, Who, after, ended, lane_lines, play, take};
-use jail_core::Core;
-use std::alloc::Global;
-use std::process::Abort;
+use crate::steps::happens::{Happens, Who};
+use crate::steps::play::{Step, play_after};
+use crate::steps::values::ADD;
 use std::test::Fail;
 
 /// The lane has a check, an address is banned and its job done, and job 2 bans another one.
@@ -19,7 +18,7 @@ const ANEW: [Step; 10] = [
     Step::CheckText(2, "test -e /x"),
     Step::At(1003, Happens::CheckFails(2)),
     Step::Lanes("check Status(1)\nanew\n"),
-    Step::NothingOfJails,
+    Step::Jails(""),
     Step::CheckOf(2, None),
     Step::CheckOf(3, None),
     Step::CheckOf(4, None),
@@ -29,8 +28,8 @@ const ANEW: [Step; 10] = [
 
 #[test]
 fn a_check_that_fails_starts_its_lane_anew(rt: HostRuntime) -> Result<(), Fail> {
-    let core = after(rt.alloc(), &WAITING)?;
-    play(&rt, rt.alloc(), core, &ANEW)
+    play_after(&rt, rt.alloc(), &WAITING, &ANEW)?;
+    Ok(())
 }
 
 const AFTER_A_STOP: [Step; 6] = [
@@ -44,47 +43,31 @@ const AFTER_A_STOP: [Step; 6] = [
 
 #[test]
 fn a_check_that_fails_after_a_stop_leaves_the_stop(rt: HostRuntime) -> Result<(), Fail> {
-    let core = after(rt.alloc(), &WAITING)?;
-    play(&rt, rt.alloc(), core, &AFTER_A_STOP)
-}
-
-/// Job 2 is due from this second on and not before, and a try of it fails then, for the last time or not.
-fn fails_at(
-    rt: &impl Abort,
-    alloc: Global,
-    core: Core,
-    secs: u32,
-    last: bool,
-) -> Result<Core, Fail> {
-    let before = u64::from(secs).saturating_sub(1);
-    assert!(rt; core.lanes().next_due(before, &[]).is_none());
-    assert!(rt; core.lanes().next_due(u64::from(secs), &[]).is_some());
-    let (core, told) = take(core, secs, ended(2, 1))?;
-    let lines = lane_lines(alloc, &told)?;
-    let want = format!(in alloc; "Ban Status(1) last {last}\n")?;
-    assert_eq!(rt; lines.as_str(), want.as_str());
-    assert_eq!(rt; core.lanes().find(2).is_none(), last);
-    Ok(core)
-}
-
-/// Job 2 fails at these seconds, for the last time or not.
-fn fails_each_time(
-    rt: &impl Abort,
-    alloc: Global,
-    core: Core,
-    tries: &[(u32, bool)],
-) -> Result<(), Fail> {
-    let mut core = core;
-    for (secs, last) in tries {
-        core = fails_at(rt, alloc, core, *secs, *last)?;
-    }
+    play_after(&rt, rt.alloc(), &WAITING, &AFTER_A_STOP)?;
     Ok(())
 }
 
-const TRIES: [(u32, bool); 3] = [(1003, false), (1005, false), (1009, true)];
+// Job 2 fails at 1003 and is due again after 2 seconds, and then after 4 more.
+const TRIES: [Step; 15] = [
+    Step::JobDue(1002, false),
+    Step::JobDue(1003, true),
+    Step::At(1003, Happens::Ends(2, 1)),
+    Step::Lanes("Ban Status(1) last false\n"),
+    Step::JobLeft(2, true),
+    Step::JobDue(1004, false),
+    Step::JobDue(1005, true),
+    Step::At(1005, Happens::Ends(2, 1)),
+    Step::Lanes("Ban Status(1) last false\n"),
+    Step::JobLeft(2, true),
+    Step::JobDue(1008, false),
+    Step::JobDue(1009, true),
+    Step::At(1009, Happens::Ends(2, 1)),
+    Step::Lanes("Ban Status(1) last true\n"),
+    Step::JobLeft(2, false),
+];
 
 #[test]
 fn the_third_try_that_fails_is_the_last(rt: HostRuntime) -> Result<(), Fail> {
-    let core = after(rt.alloc(), &WAITING)?;
-    fails_each_time(&rt, rt.alloc(), core, &TRIES)
+    play_after(&rt, rt.alloc(), &WAITING, &TRIES)?;
+    Ok(())
 }

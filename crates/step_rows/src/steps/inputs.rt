@@ -7,10 +7,12 @@ ghost use Rattle.f2b_model.specs.Sound.{same_kind};
 ghost use Rattle.f2b_model.specs.Storable.{patterns_of, IsJailName, IsStorableAction, IsStorableDef, IsStorableFailure, IsStorableInput, IsStorableOutcome, IsStorableWhat};
 ghost use Rattle.f2b_model.specs.Bounds.{IsTakenInput};
 
-use crate::steps::{ADD, PATH, action, configuration_of, definition, place, text};
+use crate::steps::values::{
+    ADD, action, configuration_of, configured, definition, failure, one, one_action, reading, two,
+};
 use f2b_base::{
-    ActionDef, Addr, Cidr, DEFAULT_PURGE, Defs, Failure, Family, Input, JailDef, LAST_MOMENT,
-    NoMemory, Outcome, Seq, Text, What,
+    ActionDef, Addr, Cidr, Failure, Family, Input, JailDef, LAST_MOMENT, NoMemory, Outcome, Seq,
+    Text, What,
 };
 use jail_core::Core;
 use std::alloc::Global;
@@ -59,20 +61,9 @@ fn two_families(alloc: Global, ban: &str) -> Result<Seq<ActionDef>, NoMemory>
     ensures kinds { IfOk result (AreDistinct same_kind) }
     ensures few { IfOk result (λ actions. length actions ≤ 32) }
 {
-    let mut actions = Seq::new(alloc);
-    actions.push(action(alloc, Family::Inet4, ban, CHECK)?)?;
-    actions.push(action(alloc, Family::Inet6, ban, CHECK)?)?;
-    Ok(actions)
-}
-
-/// One action for both families.
-fn one_action(alloc: Global) -> Result<Seq<ActionDef>, NoMemory>
-    ensures storable { IfOk result (AllOf IsStorableAction) }
-    ensures kinds { IfOk result (AreDistinct same_kind) }
-    ensures few { IfOk result (λ actions. length actions ≤ 32) }
-{
-    let mut actions = Seq::new(alloc);
-    actions.push(action(alloc, Family::Both, ADD, CHECK)?)?;
+    let of_ipv4 = action(alloc, Family::Inet4, ban, CHECK)?;
+    let of_ipv6 = action(alloc, Family::Inet6, ban, CHECK)?;
+    let actions = two(alloc, of_ipv4, of_ipv6)?;
     Ok(actions)
 }
 
@@ -82,8 +73,8 @@ fn sshd(alloc: Global, ban: &str) -> Result<JailDef, NoMemory>
     ensures name { IfOk result (λ d. d.name ≡ codes "sshd") }
     ensures patterns { IfOk result (λ d. patterns_of d ≡ 0) }
 {
-    let name = Text::from_str(alloc, "sshd")?;
-    definition(alloc, name, two_families(alloc, ban)?, 5)
+    let actions = two_families(alloc, ban)?;
+    definition(alloc, "sshd", actions, 5)
 }
 
 /// The jail `web`, which shows none.
@@ -92,8 +83,8 @@ fn web(alloc: Global) -> Result<JailDef, NoMemory>
     ensures name { IfOk result (λ d. d.name ≡ codes "web") }
     ensures patterns { IfOk result (λ d. patterns_of d ≡ 0) }
 {
-    let name = Text::from_str(alloc, "web")?;
-    definition(alloc, name, one_action(alloc)?, 0)
+    let actions = one_action(alloc, ADD, CHECK)?;
+    definition(alloc, "web", actions, 0)
 }
 
 /// A configuration of two jails is taken.
@@ -104,15 +95,8 @@ fn configuration_of_two(alloc: Global, one: JailDef, other: JailDef) -> Result<W
     requires patterns { patterns_of one + patterns_of other ≡ 0 }
     ensures { IfOk result IsStorableWhat }
 {
-    let mut jails = Seq::new(alloc);
-    jails.push(one)?;
-    jails.push(other)?;
-    Ok(What::Config {
-        defs: Defs {
-            purge: DEFAULT_PURGE,
-            jails,
-        },
-    })
+    let jails = two(alloc, one, other)?;
+    Ok(configured(jails))
 }
 
 /// A configuration of `sshd` is taken, and of `web` too or not.
@@ -187,26 +171,28 @@ impl Source {
         requires { secs ≤ last_moment }
         ensures { IfOk result IsStorableFailure }
     {
-        Ok(Failure {
-            addr: self.addr(),
-            time: secs.saturating_sub(self.below(620)),
-            line: text(self.alloc, "sshd[811]: failed")?,
-        })
+        let addr = self.addr();
+        let time = secs.saturating_sub(self.below(620));
+        failure(self.alloc, addr, time, "sshd[811]: failed")
+    }
+
+    fn found(&mut self, secs: u64) -> Result<Seq<Failure>, NoMemory>
+        requires { secs ≤ last_moment }
+        ensures { IfOk result (AllOf IsStorableFailure) }
+    {
+        let first = self.failure(secs)?;
+        let second = self.failure(secs)?;
+        let found = two(self.alloc, first, second)?;
+        Ok(found)
     }
 
     fn read(&mut self, secs: u64) -> Result<What, NoMemory>
         requires { secs ≤ last_moment }
         ensures { IfOk result IsStorableWhat }
     {
-        let mut found = Seq::new(self.alloc);
-        found.push(self.failure(secs)?)?;
-        found.push(self.failure(secs)?)?;
-        Ok(What::Read {
-            jail: self.jail()?,
-            path: text(self.alloc, PATH)?,
-            place: place(self.alloc, self.below(1000) as u32)?,
-            found,
-        })
+        let found = self.found(secs)?;
+        let jail = self.jail()?;
+        reading(self.alloc, jail, self.below(1000) as u32, found)
     }
 
     /// The end of a try of the job that may start.
@@ -245,11 +231,19 @@ impl Source {
     fn ban(&mut self) -> Result<What, NoMemory>
         ensures { IfOk result IsStorableWhat }
     {
-        let mut addrs = Seq::new(self.alloc);
-        addrs.push(self.addr())?;
-        Ok(What::Ban {
-            jail: self.jail()?,
-            addrs,
+        let addrs = one(self.alloc, self.addr())?;
+        let jail = self.jail()?;
+        Ok(What::Ban { jail, addrs })
+    }
+
+    /// All addresses are unbanned in a jail.
+    fn unban_all(&mut self) -> Result<What, NoMemory>
+        ensures { IfOk result IsStorableWhat }
+    {
+        let jail = self.jail()?;
+        Ok(What::Unban {
+            jail: Some(jail),
+            addrs: None,
         })
     }
 
@@ -258,13 +252,9 @@ impl Source {
         ensures { IfOk result IsStorableWhat }
     {
         if self.below(8) == 0 {
-            return Ok(What::Unban {
-                jail: Some(self.jail()?),
-                addrs: None,
-            });
+            return self.unban_all();
         }
-        let mut addrs = Seq::new(self.alloc);
-        addrs.push(self.addr())?;
+        let addrs = one(self.alloc, self.addr())?;
         Ok(What::Unban {
             jail: None,
             addrs: Some(addrs),
@@ -292,6 +282,24 @@ impl Source {
         }
     }
 
+    /// A try of an address in a jail.
+    fn attempt(&mut self) -> Result<What, NoMemory>
+        ensures { IfOk result IsStorableWhat }
+    {
+        let jail = self.jail()?;
+        Ok(What::Attempt {
+            jail,
+            addr: self.addr(),
+        })
+    }
+
+    fn idle(&mut self) -> Result<What, NoMemory>
+        ensures { IfOk result IsStorableWhat }
+    {
+        let jail = self.jail()?;
+        Ok(What::Idle { jail, idle: true })
+    }
+
     /// One of the kinds by which a user says something of a jail.
     fn command(&mut self) -> Result<What, NoMemory>
         ensures { IfOk result IsStorableWhat }
@@ -299,14 +307,8 @@ impl Source {
         match self.below(16) {
             0..=5 => self.ban(),
             6..=9 => self.unban(),
-            10..=12 => Ok(What::Attempt {
-                jail: self.jail()?,
-                addr: self.addr(),
-            }),
-            13 => Ok(What::Idle {
-                jail: self.jail()?,
-                idle: true,
-            }),
+            10..=12 => self.attempt(),
+            13 => self.idle(),
             _ => self.setting(),
         }
     }

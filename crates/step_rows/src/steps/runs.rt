@@ -1,12 +1,13 @@
 //! Runs of pseudo-random inputs, and the laws that hold of what they do.
 ghost use Rattle.std.specs.Prelude.{IfOk};
-ghost use Rattle.f2b_model.specs.Storable.{IsStorable};
+ghost use Rattle.f2b_model.specs.Bounds.{IsTakenInput};
+ghost use Rattle.f2b_model.specs.Storable.{IsStorableInput};
 
-use crate::steps::Pair;
 use crate::steps::inputs::Source;
-use f2b_base::{Addr, Ban, Job, JobKind, LaneId, NoMemory, Plain, Seq};
-use f2b_model::{Happening, LaneHappening, Told};
-use jail_core::Core;
+use crate::steps::pairs::{Pair, Stored, made_anew, pair_of};
+use crate::steps::play::{Scene, Takes, opened, same};
+use f2b_base::{Addr, Ban, Input, Job, JobKind, LaneId, NoMemory, Plain, Seq, View};
+use f2b_model::{Happening, LaneHappening};
 use std::alloc::Global;
 use std::process::Abort;
 use std::test::Fail;
@@ -34,11 +35,23 @@ impl Running {
     }
 }
 
+fn count_of(bans: &[Ban], addr: Addr) -> usize {
+    bans.iter().filter(|ban| ban.addr == addr).count()
+}
+
 /// No address is banned twice.
 fn expect_once_each(rt: &impl Abort, bans: &[Ban]) {
     for ban in bans {
-        let others = bans.iter().filter(|other| other.addr == ban.addr);
-        assert_eq!(rt; others.count(), 1, "{ban:?}");
+        same(rt, ban, &count_of(bans, ban.addr), &1);
+    }
+}
+
+/// Whether the epoch of a job's lane runs, and whether the last job of its address there banned it, as they are before the job.
+fn wanted(kind: JobKind) -> (bool, bool) {
+    match kind {
+        JobKind::Start => (false, false),
+        JobKind::Ban | JobKind::Reban => (true, false),
+        JobKind::Unban | JobKind::Stop => (true, true),
     }
 }
 
@@ -54,12 +67,16 @@ impl Seen {
     }
 
     /// Serials rise from ban to ban.
+    fn see_ban(&mut self, rt: &impl Abort, ban: &Ban) {
+        same(rt, ban, &(ban.serial >= self.next_ban), &true);
+        self.next_ban = ban.serial.saturating_add(1);
+        self.begun = self.begun.saturating_add(1);
+    }
+
     fn see_bans(&mut self, rt: &impl Abort, told: &[Happening]) {
         for happening in told {
             if let Happening::Begins { ban, .. } = happening {
-                assert!(rt; ban.serial >= self.next_ban, "{ban:?}");
-                self.next_ban = ban.serial.saturating_add(1);
-                self.begun = self.begun.saturating_add(1);
+                self.see_ban(rt, ban);
             }
         }
     }
@@ -72,38 +89,46 @@ impl Seen {
         }
     }
 
+    fn runs(&self, lane: &LaneId, addr: Option<Addr>) -> bool {
+        let running = self.running.as_slice();
+        running.iter().any(|open| open.is(lane, addr))
+    }
+
+    fn begin(&mut self, job: &Job) -> Result<(), NoMemory> {
+        let lane = job.lane.copy()?;
+        self.running.push(Running {
+            lane,
+            addr: job.addr,
+        })
+    }
+
+    fn end(&mut self, job: &Job) {
+        self.running.retain(|open| !open.is(&job.lane, job.addr));
+    }
+
+    fn end_all(&mut self, lane: &LaneId) {
+        self.running.retain(|open| open.lane != *lane);
+    }
+
     /// An epoch runs from a Start to the next Stop. In it a Ban or a Reban and an Unban of an address go in turn, and no other job of
     /// an address is there.
     fn see_job(&mut self, rt: &impl Abort, job: &Job) -> Result<(), NoMemory> {
-        let running = self.running.as_slice();
-        let runs = running.iter().any(|open| open.is(&job.lane, None));
-        let same = running.iter().any(|open| open.is(&job.lane, job.addr));
+        let runs = self.runs(&job.lane, None);
+        let banned = self.runs(&job.lane, job.addr);
+        same(rt, job, &(runs, banned), &wanted(job.kind));
         match job.kind {
-            JobKind::Start => assert!(rt; !runs, "{job:?}"),
-            JobKind::Ban | JobKind::Reban => assert!(rt; runs && !same, "{job:?}"),
-            JobKind::Unban | JobKind::Stop => assert!(rt; runs && same, "{job:?}"),
+            JobKind::Start | JobKind::Ban | JobKind::Reban => self.begin(job)?,
+            JobKind::Unban => self.end(job),
+            JobKind::Stop => self.end_all(&job.lane),
         }
-        match job.kind {
-            JobKind::Start | JobKind::Ban | JobKind::Reban => self.running.push(Running {
-                lane: job.lane.copy()?,
-                addr: job.addr,
-            }),
-            JobKind::Unban => {
-                self.running.retain(|open| !open.is(&job.lane, job.addr));
-                Ok(())
-            }
-            JobKind::Stop => {
-                self.running.retain(|open| open.lane != job.lane);
-                Ok(())
-            }
-        }
+        Ok(())
     }
 
     /// Ids rise from job to job.
     fn see_jobs(&mut self, rt: &impl Abort, jobs: &[Job]) -> Result<(), NoMemory> {
         let mut last = None;
         for job in jobs {
-            assert!(rt; last < Some(job.id), "{job:?}");
+            same(rt, job, &(last < Some(job.id)), &true);
             last = Some(job.id);
             if job.id >= self.next_job {
                 self.see_job(rt, job)?;
@@ -112,58 +137,110 @@ impl Seen {
         Ok(())
     }
 
-    /// What an input told, and the core after it.
-    fn see(&mut self, rt: &impl Abort, told: &Told, core: &Core) -> Result<(), NoMemory> {
-        let view = core.view()?;
+    fn see_view(&mut self, rt: &impl Abort, view: &View) -> Result<(), NoMemory> {
         for jail in view.jails.as_slice() {
             expect_once_each(rt, jail.bans.as_slice());
         }
-        self.see_bans(rt, told.jails.as_slice());
-        self.see_restarts(told.lanes.as_slice());
         self.see_jobs(rt, view.jobs.as_slice())?;
-        assert!(rt; view.next_job >= self.next_job);
+        same(rt, &view.next_job, &(view.next_job >= self.next_job), &true);
         self.next_job = view.next_job;
         Ok(())
+    }
+
+    /// What an input told, and the core after it.
+    fn see(&mut self, rt: &impl Abort, scene: &Scene) -> Result<(), NoMemory> {
+        self.see_bans(rt, scene.told.jails.as_slice());
+        self.see_restarts(scene.told.lanes.as_slice());
+        let view = scene.core.view()?;
+        self.see_view(rt, &view)
+    }
+
+    /// Much was seen.
+    fn is_much(&self) -> bool {
+        self.begun > 100 && self.restarts > 15 && self.next_job > 500
+    }
+}
+
+/// What goes on by the inputs of a source.
+trait Runs: Stored {
+    fn next(&self, source: &mut Source) -> Result<Input, NoMemory>
+        ensures taken { IfOk result IsTakenInput }
+        ensures storable { IfOk result IsStorableInput };
+
+    fn see(&self, rt: &impl Abort, seen: &mut Seen) -> Result<(), NoMemory>;
+}
+
+impl Runs for Scene {
+    fn next(&self, source: &mut Source) -> Result<Input, NoMemory> {
+        source.next_input(&self.core)
+    }
+
+    fn see(&self, rt: &impl Abort, seen: &mut Seen) -> Result<(), NoMemory> {
+        seen.see(rt, self)
     }
 }
 
 /// An input is taken, and seen.
-fn step(rt: &impl Abort, pair: Pair, source: &mut Source, seen: &mut Seen) -> Result<Pair, NoMemory>
-    ensures { IsStorable pair.again → IfOk result (λ next. IsStorable next.again) }
+fn step<S: Runs>(
+    rt: &impl Abort,
+    pair: Pair<S>,
+    source: &mut Source,
+    seen: &mut Seen,
+) -> Result<Pair<S>, NoMemory>
+    ensures { S.is_storable pair.again → IfOk result (λ next. S.is_storable next.again) }
 {
-    let input = source.next_input(&pair.core)?;
-    let (pair, told) = pair.take(rt, &input)?;
-    seen.see(rt, &told, &pair.core)?;
+    let input = pair.first.next(source)?;
+    let pair = pair.taken(rt, &input)?;
+    pair.first.see(rt, seen)?;
     Ok(pair)
 }
 
-/// Fifty inputs are taken.
-fn fifty_steps(
+/// Fifty inputs are taken, and the second one is made anew.
+fn fifty_steps<S: Runs>(
     rt: &impl Abort,
-    pair: Pair,
+    alloc: Global,
+    pair: Pair<S>,
     source: &mut Source,
     seen: &mut Seen,
-) -> Result<Pair, NoMemory>
-    requires { IsStorable pair.again }
-    ensures { IfOk result (λ next. IsStorable next.again) }
+) -> Result<Pair<S>, NoMemory>
+    requires { S.is_storable pair.again }
+    ensures { IfOk result (λ next. S.is_storable next.again) }
 {
     let mut pair = pair;
     for _ in 0..50 {
         pair = step(rt, pair, source, seen)?;
     }
-    Ok(pair)
+    made_anew(rt, alloc, pair)
+}
+
+/// Two thousand are.
+fn all_steps<S: Runs>(
+    rt: &impl Abort,
+    alloc: Global,
+    pair: Pair<S>,
+    source: &mut Source,
+    seen: &mut Seen,
+) -> Result<(), NoMemory>
+    requires { S.is_storable pair.again }
+{
+    let mut pair = pair;
+    for _ in 0..40 {
+        pair = fifty_steps(rt, alloc, pair, source, seen)?;
+    }
+    Ok(())
+}
+
+fn keep_the_laws(rt: &impl Abort, alloc: Global) -> Result<(), NoMemory> {
+    let mut source = Source::new(alloc, 1, 1_700_000_000);
+    let mut seen = Seen::new(alloc);
+    let pair = pair_of(alloc, opened(alloc))?;
+    all_steps(rt, alloc, pair, &mut source, &mut seen)?;
+    same(rt, &"much was seen", &seen.is_much(), &true);
+    Ok(())
 }
 
 #[test]
 fn two_thousand_inputs_keep_the_laws(rt: HostRuntime) -> Result<(), Fail> {
-    let alloc = rt.alloc();
-    let mut source = Source::new(alloc, 1, 1_700_000_000);
-    let mut seen = Seen::new(alloc);
-    let mut pair = Pair::empty(alloc);
-    for _ in 0..40 {
-        pair = fifty_steps(&rt, pair, &mut source, &mut seen)?;
-        pair = pair.made_anew(&rt, alloc)?;
-    }
-    assert!(rt; seen.begun > 100 && seen.restarts > 15 && seen.next_job > 500);
+    keep_the_laws(&rt, rt.alloc())?;
     Ok(())
 }

@@ -15,7 +15,7 @@ returns-in_default c =
     let asked = c.args.request.now in
     let o = c.in_default in
     let same =
-    default_tells moment now asked o.not-Ping o.not-Status o.not-StatusOf o.not-Banned o.not-UnbanAll o.not-Unban o.not-Reload o.not-Stop o.not-SetBanip o.not-SetUnbanip
-    o.not-SetAttempt o.not-GetBanip in
+    default_tells moment now asked o.not-Ping o.not-Version o.not-Status o.not-StatusAll o.not-StatusOf o.not-Banned o.not-Holders o.not-UnbanAll o.not-Unban o.not-Reload o.not-Stop
+    o.not-SetBanip o.not-SetUnbanip o.not-SetAttempt o.not-GetBanip o.not-GetBantimes in
     IfOk-weaker c.definition_text.result (λ text. text ≡ option_map_or (λ (d : JailDef). text_of_definition d asked) (definition_named now asked) [])
     (λ text. text ≡ text_of moment now asked) (λ text is. is ∙ same) c.definition_text.ensures

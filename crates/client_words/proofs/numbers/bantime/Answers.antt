@@ -1,4 +1,4 @@
-use Rattle.std.proofs.Common.{◌≡◌, ◌∙◌, ap, of_z, sym, FitsSigned, w64, to_z-of_z, rules}
+use Rattle.std.proofs.Common.{◌∙◌, ap, of_z, sym, FitsSigned, w64, to_z-of_z, rules}
 use Rattle.client_words.proofs.BoundLemmas.{base_is, time_word_is}
 use Rattle.client_words.proofs.numbers.bantime.Goals as goal
 

@@ -1,4 +1,4 @@
-use Rattle.std.proofs.Common.{◌≡◌, ◌∙◌, sym, FitsSigned, w64, to_z-of_z, rules}
+use Rattle.std.proofs.Common.{◌∙◌, sym, FitsSigned, w64, to_z-of_z, rules}
 use Rattle.client_words.proofs.BoundLemmas.{span_is, time_word_is}
 use Rattle.client_words.proofs.numbers.findtime.Goals as goal
 

@@ -5,8 +5,8 @@ use Rattle.regex_tool.proofs.words.with_flags.Goals as goal
 
 pub returns : goal.returns
 returns c =
-    IfOk-weaker c.arg-4.result _ _ (λ r h. h.shape c.flag-missed.ensures.local
-    ∙ ap₂ with_rule (c.in_ok-arg-3.ensures.shape c.flag-ignored.ensures.local
-    ∙ ap₂ with_rule (c.in_ok-arg-2.ensures.shape c.flag-matched.ensures.local
-    ∙ ap₂ with_rule (c.in_ok-arg.ensures.shape c.mark-detail.ensures.local
-    ∙ ap (with_rule (app_of c.args.command)) c.mark-detail.ensures.rule) c.flag-matched.ensures.rule) c.flag-ignored.ensures.rule) c.flag-missed.ensures.rule) c.arg-4.ensures
+    IfOk-weaker c.arg-4.result _ _ (λ r h. h.shape c.flag-3.ensures.local
+    ∙ ap₂ with_rule (c.in_ok-command-3.ensures.shape c.flag-2.ensures.local
+    ∙ ap₂ with_rule (c.in_ok-command-2.ensures.shape c.flag.ensures.local
+    ∙ ap₂ with_rule (c.in_ok-command.ensures.shape c.mark.ensures.local
+    ∙ ap (with_rule (app_of c.args.command)) c.mark.ensures.rule) c.flag.ensures.rule) c.flag-2.ensures.rule) c.flag-3.ensures.rule) c.arg-4.ensures

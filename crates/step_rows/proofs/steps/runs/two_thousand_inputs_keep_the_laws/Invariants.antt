@@ -1,6 +1,0 @@
--- The core that is made anew can be stored.
-use Rattle.f2b_model.specs.Storable.{IsStorable}
-use Rattle.step_rows.proofs.steps.runs.two_thousand_inputs_keep_the_laws.Given as goal
-
-abbrev pub invariant-loop : goal.invariant-loop
-invariant-loop g l = IsStorable l.pair.again
