@@ -38,11 +38,11 @@ use Rattle.run_law.specs.declared.status.Status.TheVariants.{Stopped}
 use Rattle.law_rows.proofs.RowJails.{added, after_all, clock, jail, last_input, nobody_comes, server, shown, turning}
 
 -- a view of no jails at 900
-abbrev view : View
+abbrev pub view : View
 view = record { at = 900; defs = record { purge = 86400; jails = [] }; stopping = false; up = []; jails = []; jobs = []; next_job = 0; next_ban = 0 }
 
 -- a run of that view with these clients, before a turn
-abbrev run : View → List Client → Run
+abbrev pub run : View → List Client → Run
 run v clients = turning (record (server v [] 9) { clients = clients })
 
 abbrev comes : ℕ → Event
@@ -141,7 +141,7 @@ offers_the_rest_in_the_next_turn = refl
 -- ---- a frame that is cut
 
 -- of its request the length came, which says so many bytes
-abbrev asking : ℕ → Client
+abbrev pub asking : ℕ → Client
 asking count = record (accepted 7 900) { hearing = record { came = 0 ∷ 0 ∷ 0 ∷ count ∷ []; refused = false } }
 
 abbrev cut : List Event
@@ -154,10 +154,10 @@ waits_for_the_rest = refl
 -- ---- words that are no command
 
 -- these words come behind their length
-abbrev asked : ℕ → List (List ℕ) → List Event
+abbrev pub asked : ℕ → List (List ℕ) → List Event
 asked count words = clock 910 ∷ nobody_comes ∷ GateRead 7 count (read.Bytes (spelling words)) ∷ []
 
-abbrev next_turn : List Event
+abbrev pub next_turn : List Event
 next_turn = Pause 250 ∷ clock 911 ∷ nobody_comes ∷ []
 
 says_that_there_is_no_such_command : next_call (after_all (run view (asking 6 ∷ [])) (asked 6 (codes "pong" ∷ []) ++ next_turn)) ≡ Some (AskSend 7 (0 ∷ 0 ∷ 0 ∷ 16 ∷ 1 ∷ codes "Invalid command"))
@@ -205,7 +205,7 @@ closes_none_a_second_sooner = refl
 
 -- ---- a ban by hand
 
-abbrev with_jail : View
+abbrev pub with_jail : View
 with_jail = record view { defs = record { purge = 86400; jails = jail (codes "a") [] [] ∷ [] }; jails = shown (codes "a") false [] [] ∷ [] }
 
 abbrev banning : List Event

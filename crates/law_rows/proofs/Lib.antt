@@ -6,4 +6,5 @@ mod TurnRows
 mod JournalRows
 mod BeginRows
 mod WordRows
-mod ClientRows
+pub mod ClientRows
+mod ReloadRows

@@ -55,11 +55,13 @@ use Rattle.run_law.specs.News.{News, brings, brings_by, entered, entering, goes_
 use Rattle.run_law.specs.Paths.{Naming, Path, first_naming, named, with_paths}
 use Rattle.run_law.specs.Patterns.{Pattern, patterns_of}
 use Rattle.run_law.specs.Pause.{turned}
-use Rattle.run_law.specs.Points.{Place, AtClock, AtLook, AtPoll, AtKill, AtAccept, AtClient, AtClose, AtStart, AtPause, Point, AtTree, AtMakes, AtStore, AtListen, AtFirst, AtNames, AtTurn, Over, Run}
+use Rattle.run_law.specs.Points.{Place, AtClock, AtLook, AtPoll, AtKill, AtAccept, AtClient, AtClose, Rereading, OfTree, OfMakes, OfNames, AtReload, AtStart, AtPause, Point, AtTree, AtMakes, AtStore, AtListen, AtFirst, AtNames, AtTurn, Over, Run}
 use Rattle.run_law.specs.Polls.{end_news, ended_as, gone, gone_passed, has_succeeded, killed_at, polled_at, still_point}
-use Rattle.run_law.specs.Server.{Server, begun, entry_in, input_at, is_spent, read_at, taken}
+use Rattle.run_law.specs.Server.{Server, begun, entry_in, following, input_at, is_spent, read_at, taken}
 use Rattle.run_law.specs.Serving.{Service, closes, lets_in, point_on, reads, serves, with_clients, writes}
-use Rattle.run_law.specs.Start.{defined, first_turn, listened, loads, made, makes_on, names_in, start_news, to_makes, to_names, tree_read, unread_by}
+use Rattle.run_law.specs.Reading.{names_in, names_next, unread_by}
+use Rattle.run_law.specs.Reload.{left_for, names_for, reload_news, reloaded, reloads, taken_for, tells_taken, tells_untaken, untaken_for}
+use Rattle.run_law.specs.Start.{defined, first_turn, listened, loads, made, makes_on, start_news, to_makes, to_names, tree_read}
 use Rattle.run_law.specs.Starts.{child_started, with_child, without_child}
 use Rattle.run_law.specs.Stops.{ComesInOrder, ComesTo, IsKept, IsOverAt, IsWrite}
 use Rattle.run_law.specs.Turn.{to_logs, to_looks, to_polls, to_starts}
@@ -68,7 +70,8 @@ use Rattle.run_law.specs.declared.status.Status.TheVariants.{Stopped, TurnsSpent
 use Rattle.run_law.proofs.FieldLemmas.{feed_slots}
 use Rattle.run_law.proofs.KeptLemmas.{steps_more}
 use Rattle.run_law.proofs.RestLemmas.{entry_is, slot_still}
-use Rattle.run_law.proofs.TurnLemmas.{IsOfTurn, logs_of_turn, looks_of_turn, onward_of_turn, polls_of_turn, starts_of_turn, still_of_turn, turn_by}
+use Rattle.run_law.proofs.ReadingLemmas.{makes_by, names_by, tree_by}
+use Rattle.run_law.proofs.TurnLemmas.{IsOfTurn, behind_of_turn, logs_of_turn, looks_of_turn, onward_of_turn, place_of_turn, polls_of_turn, starts_of_turn, still_of_turn, turn_by}
 use Rattle.slot_writes.specs.Entries.{Entry, Written, Full, Spent, body, entry, entry_of, fresh_slot, fresh_start, turn_calls}
 use Rattle.journal_slots.specs.declared.head.Head.{Head}
 use Rattle.journal_slots.specs.declared.head.Head.TheVariants.{Short, Ajar, Shut}
@@ -288,6 +291,32 @@ module _ (v : View) (slots : ℕ → List ℕ) (comes : ComesTo v slots) where
       serves_on : (x : Service) (t : Server) → Has t → Follows (serves x t r)
       serves_on x t has = brings_on x.news (point_on x.onward) (turn_passes (point_on x.onward) (onward_of_turn x.onward)) (with_clients x.clients t) has
 
+      -- ---- a reload
+
+      follow_passes : (i : ℕ) → Passes (reloaded i)
+      follow_passes i s u has = turn_by (λ q. Knows s q) (reloaded i u) (following u) (behind_of_turn i (following u)) (λ place. has) tt
+
+      renames_on : (before : List (List ℕ)) (settings : Settings) (naming : Naming) (left : List Path) (i : ℕ) (t : Server) → Has t → Follows (names_next (names_for i) (taken_for i) before settings naming left t r)
+      renames_on before settings naming left i t has = names_by (λ (x : Run). Follows x) (names_for i) (taken_for i) t r
+          (λ lines defined at. brings_on (record { before = lines; what = None; behind = [] }) (names_for i defined at) (turn_passes (names_for i defined at) (λ u. place_of_turn (AtReload (OfNames defined at) i) u)) t has)
+          (λ lines defs. brings_on (reload_news lines defs t) (reloaded i) (follow_passes i) (tells_taken i t) has) before settings naming left
+
+      left_on : (i : ℕ) (t : Server) → Has t → (settings : Settings) (ps : List Pattern) → Follows (left_for i t settings ps r)
+      left_on i t has settings [] = renames_on [] settings (first_naming settings.defs) (first_naming settings.defs).left i t has
+      left_on i t has settings (p ∷ ps) = plain_on (AtTurn (AtReload (OfMakes settings (p ∷ ps)) i) t) has
+
+      untaken_on : (i : ℕ) (t : Server) → Has t → (status : Status) → Follows (untaken_for i t status r)
+      untaken_on i t has status = serves_on (tells_untaken status i t) t has
+
+      reloads_on : (reading : Rereading) (event : Event) (i : ℕ) (t : Server) → Has t → Follows (reloads reading event i t r)
+      reloads_on OfTree (Config root answer) i t has =
+          tree_by (λ (x : Run). Follows x) (left_for i t) (untaken_for i t) r (left_on i t has) (λ status is. untaken_on i t has status) (stays_on same) answer
+      reloads_on (OfMakes settings left) (Make text answer) i t has =
+          makes_by (λ (x : Run). Follows x) (left_for i t) (untaken_for i t) r (left_on i t has) (λ status is. untaken_on i t has status) (stays_on same) left answer settings
+      reloads_on (OfNames settings naming) (Names dir answer) i t has =
+          let next = named (names_in answer) naming in renames_on (unread_by answer t.now naming.left) settings next next.left i t has
+      reloads_on _ _ i t has = stays_on same
+
       turned_on : (n : ℕ) (t : Server) → Has t → Follows (goes_to (turned n t) r)
       turned_on zero t has = plain_on (Over TurnsSpent) tt
       turned_on (suc n) t has = plain_on (AtTurn AtClock (record t { left = suc n })) has
@@ -301,6 +330,7 @@ module _ (v : View) (slots : ℕ → List ℕ) (comes : ComesTo v slots) where
       turns_on (AtClient i) (GateRead conn max answer) t has = serves_on (reads answer i t) t has
       turns_on (AtClient i) (GateWrite conn bytes answer) t has = serves_on (writes answer i t) t has
       turns_on (AtClose i) (GateClose conn) t has = serves_on (closes i t) t has
+      turns_on (AtReload reading i) event t has = reloads_on reading event i t has
       turns_on (AtStart child text) (ChildStart job command answer) t has = started_on answer child t has
       turns_on AtPause (Pause ms) t has = turned_on (t.left - 1) t has
       turns_on _ _ t has = stays_on same

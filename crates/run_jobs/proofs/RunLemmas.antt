@@ -57,21 +57,25 @@ use Rattle.run_law.specs.News.{News, after_news, brings, nothing, only}
 use Rattle.run_law.specs.Paths.{Path, Naming, first_naming, named, with_paths}
 use Rattle.run_law.specs.Patterns.{Pattern, patterns_of}
 use Rattle.run_law.specs.Pause.{turned}
-use Rattle.run_law.specs.Points.{Place, AtClock, AtLook, AtPoll, AtKill, AtAccept, AtClient, AtClose, AtStart, AtPause, Point, AtTree, AtMakes, AtStore, AtListen, AtFirst, AtNames, AtTurn, Over, Run}
+use Rattle.run_law.specs.Points.{Place, AtClock, AtLook, AtPoll, AtKill, AtAccept, AtClient, AtClose, Rereading, OfTree, OfMakes, OfNames, AtReload, AtStart, AtPause, Point, AtTree, AtMakes, AtStore, AtListen, AtFirst, AtNames, AtTurn, Over, Run}
 use Rattle.run_law.specs.Polls.{end_news, end_of, ended_as, gone, gone_passed, has_succeeded, killed_at, polled_at, still_point}
 use Rattle.run_law.specs.Served.{IsStartFor, Obeys, StartsAt, StartsInTurn, run_after}
-use Rattle.run_law.specs.Server.{Server, begun, is_stopping, jobs, lanes_up, log_jails, read_at}
-use Rattle.run_law.specs.Said.{ready_line}
+use Rattle.run_law.specs.Server.{Server, begun, following, is_stopping, jobs, lanes_up, log_jails, read_at}
+use Rattle.run_law.specs.Said.{ready_line, reloaded_line}
 use Rattle.run_law.specs.Serving.{Onward, Service, closes, lets_in, point_on, reads as reads_client, serves, with_clients, writes}
-use Rattle.run_law.specs.Start.{config_news, defined, first_turn, listened, loads, made, makes_on, names_in, start_news, to_makes, to_names, tree_read, unread_by}
+use Rattle.run_law.specs.Reading.{config_news, names_in, names_next, unread_by}
+use Rattle.run_law.specs.Reload.{left_for, names_for, reload_news, reloaded, reloads, taken_for, tells_taken, tells_untaken, untaken_for}
+use Rattle.run_law.specs.Start.{defined, first_turn, listened, loads, made, makes_on, start_news, to_makes, to_names, tree_read}
 use Rattle.run_law.specs.Starts.{child_started, with_child, without_child}
-use Rattle.run_law.specs.Turn.{at_pause, is_drained, look_point, start_place, start_point, to_accept, to_children, to_end, to_logs, to_looks, to_polls, to_starts}
+use Rattle.run_law.specs.Turn.{at_pause, behind_client, is_drained, look_point, start_place, start_point, to_accept, to_children, to_end, to_logs, to_looks, to_polls, to_starts}
 use Rattle.run_law.specs.Words.{plan_of}
 use Rattle.run_law.specs.declared.plan.Plan.{Plan}
+use Rattle.run_law.specs.declared.status.Status.{Status}
 use Rattle.run_law.specs.declared.status.Status.TheVariants.{Stopped}
 use Rattle.run_law.proofs.FieldLemmas.{feed_slots}
 use Rattle.run_law.proofs.NewsLemmas.{brings_point, measured_point, piece_point, synced_point, wrote_point}
-use Rattle.run_law.proofs.ServingLemmas.{accept_point, onward_point}
+use Rattle.run_law.proofs.ReadingLemmas.{makes_by, names_by, tree_by}
+use Rattle.run_law.proofs.ServingLemmas.{accept_point, behind_point, onward_point}
 use Rattle.run_law.proofs.StartedLemmas.{starts_in_turn}
 use Rattle.run_jobs.specs.Runs.{HoldBytes, TriesJobsInOrder, start_of, starts_in}
 use Rattle.run_jobs.proofs.OnceLemmas.{has_append, has_last}
@@ -109,7 +113,10 @@ module _ (started : List ℕ) where
   right_starts s right = right_start (startable s.now s.children (jobs s)) s right
 
   right_onward : (o : Onward) (s : Server) → IsServerInOrder started s → IsPointInOrder (point_on o s)
-  right_onward o s right = onward_point IsPointInOrder s (λ i. right) (λ i. right) (right_starts s right) o
+  right_onward o s right = onward_point IsPointInOrder s (λ i. right) (λ i. right) (right_starts s right) (λ i. right) o
+
+  right_behind : (i : ℕ) (s : Server) → IsServerInOrder started s → IsPointInOrder (behind_client i s)
+  right_behind i s right = behind_point IsPointInOrder s (λ j. right) (λ j. right) (right_starts s right) i
 
   right_accept : (s : Server) → IsServerInOrder started s → IsPointInOrder (to_accept s)
   right_accept s right = accept_point IsPointInOrder s (λ i. right) (λ i. right) (right_starts s right) right
@@ -253,6 +260,34 @@ module _ (started : List ℕ) where
   right_serves x s r is right =
       right_brings x.news (point_on x.onward) (right_onward x.onward) (with_clients x.clients s) r (record { lanes = right.lanes; children = right.children }) is
 
+  -- ---- a reload
+
+  right_followed : (i : ℕ) (s : Server) → IsServerInOrder started s → IsPointInOrder (reloaded i s)
+  right_followed i s right = right_behind i (following s) (record { lanes = right.lanes; children = right.children })
+
+  right_renames : (before : List (List ℕ)) (settings : Settings) (naming : Naming) (left : List Path) (i : ℕ) (s : Server) (r : Run) → IsServerInOrder started s
+      → IsPointInOrder (names_next (names_for i) (taken_for i) before settings naming left s r).point
+  right_renames before settings naming left i s r right = names_by (λ (x : Run). IsPointInOrder x.point) (names_for i) (taken_for i) s r
+      (λ lines defined at. right_brings (record { before = lines; what = None; behind = [] }) (names_for i defined at) (λ t is. is) s r right tt)
+      (λ lines defs. right_brings (reload_news lines defs s) (reloaded i) (right_followed i) (tells_taken i s) r (record { lanes = right.lanes; children = right.children })
+      (configures (config_changes s.state defs) lines defs (reloaded_line s.now ∷ []))) before settings naming left
+
+  right_left : (i : ℕ) (s : Server) (r : Run) → IsServerInOrder started s → (settings : Settings) (ps : List Pattern) → IsPointInOrder (left_for i s settings ps r).point
+  right_left i s r right settings [] = right_renames [] settings (first_naming settings.defs) (first_naming settings.defs).left i s r right
+  right_left i s r right settings (p ∷ ps) = right
+
+  right_untaken : (i : ℕ) (s : Server) (r : Run) → IsServerInOrder started s → (status : Status) → IsPointInOrder (untaken_for i s status r).point
+  right_untaken i s r right status = right_serves (tells_untaken status i s) s r tt right
+
+  right_reloads : (reading : Rereading) (event : Event) (i : ℕ) (s : Server) (r : Run) → IsServerInOrder started s → IsPointInOrder r.point → IsPointInOrder (reloads reading event i s r).point
+  right_reloads OfTree (Config root answer) i s r right same =
+      tree_by (λ (x : Run). IsPointInOrder x.point) (left_for i s) (untaken_for i s) r (right_left i s r right) (λ status is. right_untaken i s r right status) same answer
+  right_reloads (OfMakes settings left) (Make text answer) i s r right same =
+      makes_by (λ (x : Run). IsPointInOrder x.point) (left_for i s) (untaken_for i s) r (right_left i s r right) (λ status is. right_untaken i s r right status) same left answer settings
+  right_reloads (OfNames settings naming) (Names dir answer) i s r right same =
+      let next = named (names_in answer) naming in right_renames (unread_by answer s.now naming.left) settings next next.left i s r right
+  right_reloads _ _ i s r right same = same
+
   -- ---- an event that starts nothing
 
   abbrev IsNoStart : Event → Type 0
@@ -269,6 +304,7 @@ module _ (started : List ℕ) where
   right_turns (AtClient i) (GateRead conn max answer) s r none right same = right_serves (reads_client answer i s) s r (reads_fine started answer i s) right
   right_turns (AtClient i) (GateWrite conn bytes answer) s r none right same = right_serves (writes answer i s) s r tt right
   right_turns (AtClose i) (GateClose conn) s r none right same = right_serves (closes i s) s r tt right
+  right_turns (AtReload reading i) event s r none right same = right_reloads reading event i s r right same
   right_turns (AtStart c text) (ChildStart job command answer) s r none right same = absurd none
   right_turns AtPause (Pause ms) s r none right same = right_turned (s.left - 1) s right
   right_turns _ _ s r none right same = same

@@ -20,7 +20,7 @@ use Rattle.f2b_model.specs.declared.jail_now.JailNow.{JailNow}
 use Rattle.f2b_world.specs.declared.answer.Accept.{Accept}
 use Rattle.f2b_world.specs.declared.answer.Accept.TheVariants.{Conn, Quiet, Failed}
 use Rattle.f2b_world.specs.declared.answer.GateRead.{GateRead}
-use Rattle.run_law.specs.Requests.{to_command, to_heard, to_request}
+use Rattle.run_law.specs.Requests.{rereading, to_command, to_heard, to_request}
 use Rattle.run_law.specs.Server.{Server}
 use Rattle.run_law.specs.Serving.{lets_in, news_in, reads}
 use Rattle.run_jobs.proofs.ServerLemmas.{BringsStarted}
@@ -67,11 +67,15 @@ module _ (started : List ℕ) where
   unfolding effect
   effect_fine n asked = refused_fine (is_some (refusal n asked)) (change_of n asked) (change_fine n asked)
 
-  request_fine : (now : ℕ) (s : State) (asked : Request) → IsFine (to_request now s asked).news.what
-  request_fine now s request.Reload = tt
+  reread_fine : (o : Option (List ℕ)) → IsFine (news_in (Some (rereading o))).what
+  reread_fine (Some why) = tt
+  reread_fine None = tt
+
+  request_fine : (now : ℕ) (s : State) (asked : Request) → IsFine (news_in (Some (to_request now s asked))).what
+  request_fine now s request.Reload = reread_fine (refusal (now_of s) request.Reload)
   request_fine now s asked = effect_fine (now_of s) asked
 
-  command_fine : (now : ℕ) (s : State) (o : Result Request CommandError) → IsFine (to_command now s o).news.what
+  command_fine : (now : ℕ) (s : State) (o : Result Request CommandError) → IsFine (news_in (Some (to_command now s o))).what
   command_fine now s (Ok asked) = request_fine now s asked
   command_fine now s (Err error) = tt
 

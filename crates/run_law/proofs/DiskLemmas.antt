@@ -11,9 +11,10 @@ use Rattle.run_law.specs.Looks.{log_call}
 use Rattle.run_law.specs.News.{writing}
 use Rattle.run_law.specs.Paths.{Path}
 use Rattle.run_law.specs.Patterns.{Pattern}
-use Rattle.run_law.specs.Points.{Place, AtClock, AtLook, AtPoll, AtKill, AtAccept, AtClient, AtClose, AtStart, AtPause, Point, AtTree, AtMakes, AtStore, AtListen, AtFirst, AtNames, AtTurn, Over, Run}
+use Rattle.run_law.specs.Points.{Place, AtClock, AtLook, AtPoll, AtKill, AtAccept, AtClient, AtClose, Rereading, OfTree, OfMakes, OfNames, AtReload, AtStart, AtPause, Point, AtTree, AtMakes, AtStore, AtListen, AtFirst, AtNames, AtTurn, Over, Run}
 use Rattle.run_law.specs.Server.{Server}
-use Rattle.run_law.specs.Start.{make_call, names_call}
+use Rattle.run_law.specs.Reading.{make_call, names_call}
+use Rattle.run_law.specs.Reload.{reload_call}
 use Rattle.run_law.specs.declared.plan.Plan.{Plan}
 use Rattle.run_law.proofs.ServingLemmas.{asked_is}
 use Rattle.run_law.specs.declared.status.Status.TheVariants.{SinkFault}
@@ -60,16 +61,22 @@ names_no_write : (left : List Path) → IfSome (names_call left) IsNoWrite
 names_no_write [] = tt
 names_no_write (p ∷ ps) = tt
 
-turn_no_write : (place : Place) (s : Server) → IfSome (turn_call place s) IsNoWrite
-turn_no_write AtClock s = tt
-turn_no_write (AtLook i) s = mapped_no_write (slice_get s.logs i) log_call (λ l. tt)
-turn_no_write (AtPoll i) s = mapped_no_write (slice_get s.children.running i) (λ (c : Child). AskPoll c.job) (λ c. tt)
-turn_no_write (AtKill i) s = mapped_no_write (slice_get s.children.running i) (λ (c : Child). AskKill c.job) (λ c. tt)
-turn_no_write AtAccept s = tt
-turn_no_write (AtClient i) s = asked_is IsNoWrite (conn_at i s.clients) (asks_at i s.clients) (λ bytes. tt) (λ most. tt)
-turn_no_write (AtClose i) s = tt
-turn_no_write (AtStart c text) s = tt
-turn_no_write AtPause s = tt
+reload_no_write : (plan : Plan) (reading : Rereading) → IfSome (reload_call plan reading) IsNoWrite
+reload_no_write plan OfTree = tt
+reload_no_write plan (OfMakes settings left) = makes_no_write left
+reload_no_write plan (OfNames settings naming) = names_no_write naming.left
+
+turn_no_write : (plan : Plan) (place : Place) (s : Server) → IfSome (turn_call plan place s) IsNoWrite
+turn_no_write plan AtClock s = tt
+turn_no_write plan (AtLook i) s = mapped_no_write (slice_get s.logs i) log_call (λ l. tt)
+turn_no_write plan (AtPoll i) s = mapped_no_write (slice_get s.children.running i) (λ (c : Child). AskPoll c.job) (λ c. tt)
+turn_no_write plan (AtKill i) s = mapped_no_write (slice_get s.children.running i) (λ (c : Child). AskKill c.job) (λ c. tt)
+turn_no_write plan AtAccept s = tt
+turn_no_write plan (AtClient i) s = asked_is IsNoWrite (conn_at i s.clients) (asks_at i s.clients) (λ bytes. tt) (λ most. tt)
+turn_no_write plan (AtClose i) s = tt
+turn_no_write plan (AtReload reading i) s = reload_no_write plan reading
+turn_no_write plan (AtStart c text) s = tt
+turn_no_write plan AtPause s = tt
 
 pub point_no_write : (plan : Plan) (point : Point) → IfSome (point_call plan point) IsNoWrite
 point_no_write plan AtTree = tt
@@ -78,7 +85,7 @@ point_no_write plan (AtStore settings) = tt
 point_no_write plan (AtListen settings l) = tt
 point_no_write plan (AtFirst settings l) = tt
 point_no_write plan (AtNames settings naming s) = names_no_write naming.left
-point_no_write plan (AtTurn place s) = turn_no_write place s
+point_no_write plan (AtTurn place s) = turn_no_write plan place s
 point_no_write plan (Over status) = tt
 
 pub call_no_write : (plan : Plan) (point : Point) (owed : List (List ℕ)) → IfSome (call_of plan point owed) IsNoWrite

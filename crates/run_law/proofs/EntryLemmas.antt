@@ -34,7 +34,7 @@ pub saying_behind : (i : ℕ) (s : Server) → IsSaying (behind_client i s)
 saying_behind i s = behind_point IsSaying s (λ j. tt) (λ j. tt) (saying_starts s) i
 
 pub saying_onward : (o : Onward) (s : Server) → IsSaying (point_on o s)
-saying_onward o s = onward_point IsSaying s (λ j. tt) (λ j. tt) (saying_starts s) o
+saying_onward o s = onward_point IsSaying s (λ j. tt) (λ j. tt) (saying_starts s) (λ j. tt) o
 
 pub saying_accept : (s : Server) → IsSaying (to_accept s)
 saying_accept s = accept_point IsSaying s (λ j. tt) (λ j. tt) (saying_starts s) tt

@@ -41,15 +41,18 @@ use Rattle.run_law.specs.Looks.{look_news, look_taken, looked, looked_at, now_is
 use Rattle.run_law.specs.News.{News, brings, brings_by, entered, entering, goes_to, owing, refused, taking, writing}
 use Rattle.run_law.specs.Paths.{Path, Naming, first_naming, named, with_paths}
 use Rattle.run_law.specs.Patterns.{Pattern}
-use Rattle.run_law.specs.Points.{Place, AtClock, AtLook, AtPoll, AtKill, AtAccept, AtClient, AtClose, AtStart, AtPause, Point, AtTree, AtMakes, AtStore, AtListen, AtFirst, AtNames, AtTurn, Over, Run}
+use Rattle.run_law.specs.Points.{Place, AtClock, AtLook, AtPoll, AtKill, AtAccept, AtClient, AtClose, Rereading, OfTree, OfMakes, OfNames, AtReload, AtStart, AtPause, Point, AtTree, AtMakes, AtStore, AtListen, AtFirst, AtNames, AtTurn, Over, Run}
 use Rattle.run_law.specs.Polls.{end_news, ended_as, gone, has_succeeded, killed_at, polled_at}
 use Rattle.run_law.specs.Refusals.{status_lines}
 use Rattle.run_law.specs.Server.{Server, begun, entry_in, input_at, read_at}
 use Rattle.run_law.specs.Serving.{Service, closes, lets_in, point_on, reads, serves, with_clients, writes as writes_to}
-use Rattle.run_law.specs.Start.{defined, first_turn, listened, loads, made, makes_on, names_in, start_news, to_names, tree_read, unread_by}
+use Rattle.run_law.specs.Reading.{names_in, names_next, unread_by}
+use Rattle.run_law.specs.Reload.{left_for, names_for, reload_news, reloaded, reloads, taken_for, tells_taken, tells_untaken, untaken_for}
+use Rattle.run_law.specs.Start.{defined, first_turn, listened, loads, made, makes_on, start_news, to_names, tree_read}
 use Rattle.run_law.specs.Starts.{child_started, without_child}
 use Rattle.run_law.specs.Turn.{to_logs, to_looks, to_polls, to_starts}
 use Rattle.run_law.proofs.DiskLemmas.{writing_says}
+use Rattle.run_law.proofs.ReadingLemmas.{makes_by, names_by, tree_by}
 use Rattle.slot_writes.specs.Entries.{Entry, Written, Full, Spent}
 use Rattle.slot_writes.specs.Writes.{Write}
 use Rattle.run_law.specs.declared.status.Status.{Status}
@@ -145,6 +148,30 @@ module _ {A : Type 0} (field : Run → A) (goes : (point : Point) (r : Run) → 
   serves_stay : (x : Service) (s : Server) (r : Run) → field (serves x s r) ≡ field r
   serves_stay x s r = brings_stays x.news (point_on x.onward) (with_clients x.clients s) r
 
+  -- ---- a reload
+
+  renames_stay : (before : List (List ℕ)) (settings : Settings) (naming : Naming) (left : List Path) (i : ℕ) (s : Server) (r : Run)
+      → field (names_next (names_for i) (taken_for i) before settings naming left s r) ≡ field r
+  renames_stay before settings naming left i s r = names_by (λ (x : Run). field x ≡ field r) (names_for i) (taken_for i) s r
+      (λ lines defined at. brings_stays (record { before = lines; what = None; behind = [] }) (names_for i defined at) s r)
+      (λ lines defs. brings_stays (reload_news lines defs s) (reloaded i) (tells_taken i s) r) before settings naming left
+
+  left_stays : (i : ℕ) (s : Server) (r : Run) (settings : Settings) (ps : List Pattern) → field (left_for i s settings ps r) ≡ field r
+  left_stays i s r settings [] = renames_stay [] settings (first_naming settings.defs) (first_naming settings.defs).left i s r
+  left_stays i s r settings (p ∷ ps) = goes _ r
+
+  untaken_stays : (i : ℕ) (s : Server) (r : Run) (status : Status) → field (untaken_for i s status r) ≡ field r
+  untaken_stays i s r status = serves_stay (tells_untaken status i s) s r
+
+  reloads_stay : (reading : Rereading) (event : Event) (i : ℕ) (s : Server) (r : Run) → field (reloads reading event i s r) ≡ field r
+  reloads_stay OfTree (Config root answer) i s r =
+      tree_by (λ (x : Run). field x ≡ field r) (left_for i s) (untaken_for i s) r (left_stays i s r) (λ status is. untaken_stays i s r status) refl answer
+  reloads_stay (OfMakes settings left) (Make text answer) i s r =
+      makes_by (λ (x : Run). field x ≡ field r) (left_for i s) (untaken_for i s) r (left_stays i s r) (λ status is. untaken_stays i s r status) refl left answer settings
+  reloads_stay (OfNames settings naming) (Names dir answer) i s r =
+      let next = named (names_in answer) naming in renames_stay (unread_by answer s.now naming.left) settings next next.left i s r
+  reloads_stay _ _ i s r = refl
+
   turns_stay : (place : Place) (event : Event) (s : Server) (r : Run) → field (turns place event s r) ≡ field r
   turns_stay AtClock (Clock answer) s r = brings_stays (tick_news (read_at answer s)) to_logs (read_at answer s) r
   turns_stay (AtLook i) (LookAt path head from max answer) s r = looked_at_stays (slice_get s.logs i) answer i s r
@@ -154,6 +181,7 @@ module _ {A : Type 0} (field : Run → A) (goes : (point : Point) (r : Run) → 
   turns_stay (AtClient i) (GateRead conn max answer) s r = serves_stay (reads answer i s) s r
   turns_stay (AtClient i) (GateWrite conn bytes answer) s r = serves_stay (writes_to answer i s) s r
   turns_stay (AtClose i) (GateClose conn) s r = serves_stay (closes i s) s r
+  turns_stay (AtReload reading i) event s r = reloads_stay reading event i s r
   turns_stay (AtStart c text) (ChildStart job command answer) s r = started_stays answer c s r
   turns_stay AtPause (Pause ms) s r = goes _ r
   turns_stay _ _ s r = refl

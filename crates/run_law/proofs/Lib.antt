@@ -1,4 +1,5 @@
 pub mod ServingLemmas
+pub mod ReadingLemmas
 pub mod DiskLemmas
 pub mod PointLemmas
 pub mod NewsLemmas
@@ -9,6 +10,7 @@ pub mod RestLemmas
 pub mod WriteLemmas
 pub mod EntryLemmas
 pub mod StageLemmas
+pub mod ReaderLemmas
 pub mod SaidLemmas
 pub mod StartedLemmas
 pub mod PolledLemmas

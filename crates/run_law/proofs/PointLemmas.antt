@@ -81,7 +81,7 @@ point_goes a b event r there call at next plain =
     subst Q (plain ∙ ap (λ (p : Point). moved p event r) at.point) (goes_call a b event r call (may_beside r event beside (subst P (sym (next_at r there at)) next)))
 
 -- an event of a turn that is the call of its place
-pub turn_goes : (a b : Standing) (event : Event) (r : Run) (place : Place) (s : Server) → Called a event b → IsAt r (AtTurn place s) → IsNext (turn_call place s) event
+pub turn_goes : (a b : Standing) (event : Event) (r : Run) (place : Place) (s : Server) → Called a event b → IsAt r (AtTurn place s) → IsNext (turn_call r.plan place s) event
     → feed r event ≡ moved r.point event r → Goes a.told b.told r (turns place event s r)
 turn_goes a b event r place s call at next plain = point_goes a b event r (AtTurn place s) call at next plain
 

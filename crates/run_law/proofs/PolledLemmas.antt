@@ -22,6 +22,7 @@ use Rattle.f2b_world.specs.declared.event.Event.TheVariants.{Say, DiskLen, DiskR
 use Rattle.child_table.specs.Children.{Children, jobs_of}
 use Rattle.child_table.specs.Late.{is_late}
 use Rattle.child_table.specs.declared.child.Child.{Child}
+use Rattle.jail_conf.specs.declared.settings.Settings.{Settings}
 use Rattle.log_set.specs.Logs.{Watching, next_look}
 use Rattle.client_table.specs.Clients.{asks_at, conn_at}
 use Rattle.run_law.specs.Calls.{Call, AskKill, AskPoll, IsNext}
@@ -30,20 +31,26 @@ use Rattle.run_law.specs.Clock.{tick_news}
 use Rattle.run_law.specs.Law.{Free, MayCome, begin, call_of, feed, moved, point_call, turns}
 use Rattle.run_law.specs.Looks.{log_call, look_news, look_taken, looked, looked_at, now_is, unread_news}
 use Rattle.run_law.specs.News.{News, after_news, brings, server_after}
-use Rattle.run_law.specs.Points.{Place, AtClock, AtLook, AtPoll, AtKill, AtAccept, AtClient, AtClose, AtStart, AtPause, Point, AtTree, AtMakes, AtStore, AtListen, AtFirst, AtNames, AtTurn, Over, Run}
+use Rattle.run_law.specs.Points.{Place, AtClock, AtLook, AtPoll, AtKill, AtAccept, AtClient, AtClose, Rereading, OfTree, OfMakes, OfNames, AtReload, AtStart, AtPause, Point, AtTree, AtMakes, AtStore, AtListen, AtFirst, AtNames, AtTurn, Over, Run}
+use Rattle.run_law.specs.Paths.{Path, Naming, first_naming, named}
+use Rattle.run_law.specs.Patterns.{Pattern}
 use Rattle.run_law.specs.Polls.{end_news, ended_as, gone, gone_passed, has_succeeded, killed_at, polled_at, still_point}
+use Rattle.run_law.specs.Reading.{names_in, names_next, unread_by}
+use Rattle.run_law.specs.Reload.{left_for, names_for, reload_news, reloaded, reloads, taken_for, tells_taken, tells_untaken, untaken_for}
 use Rattle.run_law.specs.Served.{PollsEachOnce, pauses_in, polls_in, run_after}
-use Rattle.run_law.specs.Server.{Server, is_stopping, jobs, lanes_up, log_jails, read_at}
+use Rattle.run_law.specs.Server.{Server, following, is_stopping, jobs, lanes_up, log_jails, read_at}
 use Rattle.run_law.specs.Serving.{Onward, Service, closes, lets_in, point_on, reads, serves, with_clients, writes}
 use Rattle.run_law.specs.Starts.{child_started, with_child, without_child}
-use Rattle.run_law.specs.Turn.{at_pause, is_drained, look_point, start_place, start_point, to_accept, to_children, to_end, to_logs, to_looks, to_polls, to_starts}
+use Rattle.run_law.specs.Turn.{at_pause, behind_client, is_drained, look_point, start_place, start_point, to_accept, to_children, to_end, to_logs, to_looks, to_polls, to_starts}
 use Rattle.run_law.specs.declared.plan.Plan.{Plan}
+use Rattle.run_law.specs.declared.status.Status.{Status}
 use Rattle.run_law.specs.declared.status.Status.TheVariants.{Stopped}
 use Rattle.run_law.proofs.DiskLemmas.{next_behind}
 use Rattle.run_law.proofs.NewsLemmas.{brings_point, measured_point, piece_point, synced_point, wrote_point}
 use Rattle.run_law.proofs.PointLemmas.{paid_call}
 use Rattle.run_law.proofs.SaidLemmas.{pause_next, poll_next}
-use Rattle.run_law.proofs.ServingLemmas.{accept_point, asked_none, onward_point}
+use Rattle.run_law.proofs.ReadingLemmas.{makes_by, names_by, reload_none, tree_by}
+use Rattle.run_law.proofs.ServingLemmas.{accept_point, asked_none, behind_point, onward_point}
 
 -- ---- the children from a place on
 
@@ -81,6 +88,7 @@ module _ (ran : List ℕ) where
   IsPolled polled (AtTurn AtAccept s) = polled ≡ ran
   IsPolled polled (AtTurn (AtClient i) s) = polled ≡ ran
   IsPolled polled (AtTurn (AtClose i) s) = polled ≡ ran
+  IsPolled polled (AtTurn (AtReload reading i) s) = polled ≡ ran
   IsPolled polled (AtTurn (AtStart c text) s) = polled ≡ ran
   IsPolled polled (AtTurn AtPause s) = polled ≡ ran
   IsPolled polled (Over status) = Unit {0}
@@ -110,7 +118,10 @@ module _ (ran : List ℕ) where
     polled_starts s all = polled_start (startable s.now s.children (jobs s)) s all
 
     polled_onward : (o : Onward) (s : Server) → polled ≡ ran → IsPolled polled (point_on o s)
-    polled_onward o s all = onward_point (IsPolled polled) s (λ i. all) (λ i. all) (polled_starts s all) o
+    polled_onward o s all = onward_point (IsPolled polled) s (λ i. all) (λ i. all) (polled_starts s all) (λ i. all) o
+
+    polled_behind : (i : ℕ) (s : Server) → polled ≡ ran → IsPolled polled (behind_client i s)
+    polled_behind i s all = behind_point (IsPolled polled) s (λ j. all) (λ j. all) (polled_starts s all) i
 
     polled_accept : (s : Server) → polled ≡ ran → IsPolled polled (to_accept s)
     polled_accept s all = accept_point (IsPolled polled) s (λ i. all) (λ i. all) (polled_starts s all) all
@@ -193,6 +204,30 @@ module _ (ran : List ℕ) where
     polled_serves : (x : Service) (s : Server) (r : Run) → polled ≡ ran → IsPolled polled (serves x s r).point
     polled_serves x s r all = polled_brings x.news (point_on x.onward) (with_clients x.clients s) r (λ t is. polled_onward x.onward t all)
 
+    -- ---- a reload
+
+    polled_renames : (before : List (List ℕ)) (settings : Settings) (naming : Naming) (left : List Path) (i : ℕ) (s : Server) (r : Run) → polled ≡ ran
+        → IsPolled polled (names_next (names_for i) (taken_for i) before settings naming left s r).point
+    polled_renames before settings naming left i s r all = names_by (λ (x : Run). IsPolled polled x.point) (names_for i) (taken_for i) s r
+        (λ lines defined at. polled_brings (record { before = lines; what = None; behind = [] }) (names_for i defined at) s r (λ t is. all))
+        (λ lines defs. polled_brings (reload_news lines defs s) (reloaded i) (tells_taken i s) r (λ t is. polled_behind i (following t) all)) before settings naming left
+
+    polled_left : (i : ℕ) (s : Server) (r : Run) → polled ≡ ran → (settings : Settings) (ps : List Pattern) → IsPolled polled (left_for i s settings ps r).point
+    polled_left i s r all settings [] = polled_renames [] settings (first_naming settings.defs) (first_naming settings.defs).left i s r all
+    polled_left i s r all settings (p ∷ ps) = all
+
+    polled_untaken : (i : ℕ) (s : Server) (r : Run) → polled ≡ ran → (status : Status) → IsPolled polled (untaken_for i s status r).point
+    polled_untaken i s r all status = polled_serves (tells_untaken status i s) s r all
+
+    polled_reloads : (reading : Rereading) (event : Event) (i : ℕ) (s : Server) (r : Run) → polled ≡ ran → IsPolled polled r.point → IsPolled polled (reloads reading event i s r).point
+    polled_reloads OfTree (Config root answer) i s r all there =
+        tree_by (λ (x : Run). IsPolled polled x.point) (left_for i s) (untaken_for i s) r (polled_left i s r all) (λ status is. polled_untaken i s r all status) there answer
+    polled_reloads (OfMakes settings left) (Make text answer) i s r all there =
+        makes_by (λ (x : Run). IsPolled polled x.point) (left_for i s) (untaken_for i s) r (polled_left i s r all) (λ status is. polled_untaken i s r all status) there left answer settings
+    polled_reloads (OfNames settings naming) (Names dir answer) i s r all there =
+        let next = named (names_in answer) naming in polled_renames (unread_by answer s.now naming.left) settings next next.left i s r all
+    polled_reloads _ _ i s r all there = there
+
     -- ---- an event that is no poll, and no pause
 
     abbrev IsOther : Event → Type 0
@@ -210,6 +245,7 @@ module _ (ran : List ℕ) where
     polled_turns (AtClient i) (GateRead conn max answer) s r other here there = polled_serves (reads answer i s) s r here
     polled_turns (AtClient i) (GateWrite conn bytes answer) s r other here there = polled_serves (writes answer i s) s r here
     polled_turns (AtClose i) (GateClose conn) s r other here there = polled_serves (closes i s) s r here
+    polled_turns (AtReload reading i) event s r other here there = polled_reloads reading event i s r here there
     polled_turns (AtStart c text) (ChildStart job command answer) s r other here there = polled_child answer c s r here there
     polled_turns AtPause (Pause ms) s r other here there = absurd other
     polled_turns _ _ s r other here there = there
@@ -260,6 +296,7 @@ module _ (ran : List ℕ) where
     all_polled plan (AtTurn AtAccept s) ms here next = absurd next
     all_polled plan (AtTurn (AtClient i) s) ms here next = absurd (asked_none (Pause ms) (conn_at i s.clients) (asks_at i s.clients) (λ bytes is. is) (λ most is. is) next)
     all_polled plan (AtTurn (AtClose i) s) ms here next = absurd next
+    all_polled plan (AtTurn (AtReload reading i) s) ms here next = absurd (reload_none (Pause ms) (λ root is. is) (λ text is. is) (λ dir is. is) plan reading next)
     all_polled plan (AtTurn (AtStart c text) s) ms here next = absurd next
     all_polled plan (AtTurn AtPause s) ms here next = here
     all_polled plan (Over status) ms here next = absurd next
@@ -305,6 +342,7 @@ module _ (ran : List ℕ) where
     polled_poll plan (AtTurn AtAccept s) next here = absurd next
     polled_poll plan (AtTurn (AtClient i) s) next here = absurd (asked_none (ChildPoll job answer) (conn_at i s.clients) (asks_at i s.clients) (λ bytes is. is) (λ most is. is) next)
     polled_poll plan (AtTurn (AtClose i) s) next here = absurd next
+    polled_poll plan (AtTurn (AtReload reading i) s) next here = absurd (reload_none (ChildPoll job answer) (λ root is. is) (λ text is. is) (λ dir is. is) plan reading next)
     polled_poll plan (AtTurn (AtStart c text) s) next here = absurd next
     polled_poll plan (AtTurn AtPause s) next here = absurd next
     polled_poll plan (Over status) next here = absurd next

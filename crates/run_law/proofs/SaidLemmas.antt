@@ -17,14 +17,15 @@ use Rattle.run_law.specs.Law.{Free, Ends, IsOver, MayCome, begin, begin_with, ca
 use Rattle.run_law.specs.Looks.{log_call}
 use Rattle.run_law.specs.Paths.{Path}
 use Rattle.run_law.specs.Patterns.{Pattern}
-use Rattle.run_law.specs.Points.{Place, AtClock, AtLook, AtPoll, AtKill, AtAccept, AtClient, AtClose, AtStart, AtPause, Point, AtTree, AtMakes, AtStore, AtListen, AtFirst, AtNames, AtTurn, Over, Run}
+use Rattle.run_law.specs.Points.{Place, AtClock, AtLook, AtPoll, AtKill, AtAccept, AtClient, AtClose, AtReload, AtStart, AtPause, Point, AtTree, AtMakes, AtStore, AtListen, AtFirst, AtNames, AtTurn, Over, Run}
 use Rattle.run_law.specs.Said.{joined}
 use Rattle.run_law.specs.Served.{SaysAll, SaysInOrder, lines_by, run_after, said_by}
 use Rattle.run_law.specs.Server.{Server}
 use Rattle.run_law.specs.Stages.{IsSaying}
-use Rattle.run_law.specs.Start.{make_call, names_call}
+use Rattle.run_law.specs.Reading.{make_call, names_call}
 use Rattle.run_law.specs.Words.{plan_of}
 use Rattle.run_law.proofs.DiskLemmas.{next_behind, none_behind}
+use Rattle.run_law.proofs.ReadingLemmas.{reload_none}
 use Rattle.run_law.proofs.ServingLemmas.{asked_none}
 use Rattle.run_law.proofs.PointLemmas.{paid_call, saying_call}
 use Rattle.run_law.specs.declared.plan.Plan.{Plan}
@@ -54,16 +55,17 @@ kill_says_none : (o : Option Child) (bytes : List ℕ) (answer : Said) → IsNex
 kill_says_none None bytes answer next = next
 kill_says_none (Some c) bytes answer next = next
 
-turn_says_none : (place : Place) (s : Server) (bytes : List ℕ) (answer : Said) → IsNext (turn_call place s) (Say bytes answer) → ⊥
-turn_says_none AtClock s bytes answer next = next
-turn_says_none (AtLook i) s bytes answer next = look_says_none (slice_get s.logs i) bytes answer next
-turn_says_none (AtPoll i) s bytes answer next = poll_says_none (slice_get s.children.running i) bytes answer next
-turn_says_none (AtKill i) s bytes answer next = kill_says_none (slice_get s.children.running i) bytes answer next
-turn_says_none AtAccept s bytes answer next = next
-turn_says_none (AtClient i) s bytes answer next = asked_none (Say bytes answer) (conn_at i s.clients) (asks_at i s.clients) (λ sent is. is) (λ most is. is) next
-turn_says_none (AtClose i) s bytes answer next = next
-turn_says_none (AtStart c text) s bytes answer next = next
-turn_says_none AtPause s bytes answer next = next
+turn_says_none : (plan : Plan) (place : Place) (s : Server) (bytes : List ℕ) (answer : Said) → IsNext (turn_call plan place s) (Say bytes answer) → ⊥
+turn_says_none plan AtClock s bytes answer next = next
+turn_says_none plan (AtLook i) s bytes answer next = look_says_none (slice_get s.logs i) bytes answer next
+turn_says_none plan (AtPoll i) s bytes answer next = poll_says_none (slice_get s.children.running i) bytes answer next
+turn_says_none plan (AtKill i) s bytes answer next = kill_says_none (slice_get s.children.running i) bytes answer next
+turn_says_none plan AtAccept s bytes answer next = next
+turn_says_none plan (AtClient i) s bytes answer next = asked_none (Say bytes answer) (conn_at i s.clients) (asks_at i s.clients) (λ sent is. is) (λ most is. is) next
+turn_says_none plan (AtClose i) s bytes answer next = next
+turn_says_none plan (AtReload reading i) s bytes answer next = reload_none (Say bytes answer) (λ root is. is) (λ text is. is) (λ dir is. is) plan reading next
+turn_says_none plan (AtStart c text) s bytes answer next = next
+turn_says_none plan AtPause s bytes answer next = next
 
 -- a say is no call of a point
 point_says_none : (plan : Plan) (point : Point) (bytes : List ℕ) (answer : Said) → IsNext (point_call plan point) (Say bytes answer) → ⊥
@@ -73,7 +75,7 @@ point_says_none plan (AtStore settings) bytes answer next = next
 point_says_none plan (AtListen settings l) bytes answer next = next
 point_says_none plan (AtFirst settings l) bytes answer next = next
 point_says_none plan (AtNames settings naming s) bytes answer next = names_say_none naming.left bytes answer next
-point_says_none plan (AtTurn place s) bytes answer next = turn_says_none place s bytes answer next
+point_says_none plan (AtTurn place s) bytes answer next = turn_says_none plan place s bytes answer next
 point_says_none plan (Over status) bytes answer next = next
 
 -- the call while lines are owed: none once a line could not be said, and else all of them

@@ -4,9 +4,9 @@ use Rattle.std.specs.Prelude.{IfSome}
 use Rattle.client_table.specs.Clients.{Asks, Writes, Reads, Nothing, asks_at, is_over_at, most_clients}
 use Rattle.f2b_world.specs.declared.event.Event.{Event}
 use Rattle.run_law.specs.Calls.{Call, AskRead, AskSend, IsNext, Makes}
-use Rattle.run_law.specs.Points.{Point, AtTurn, AtAccept, AtClient, AtClose}
+use Rattle.run_law.specs.Points.{Point, AtTurn, AtAccept, AtClient, AtClose, AtReload, OfTree}
 use Rattle.run_law.specs.Server.{Server}
-use Rattle.run_law.specs.Serving.{Onward, From, Behind, asked_call, point_on}
+use Rattle.run_law.specs.Serving.{Onward, From, Behind, Rereads, asked_call, point_on}
 use Rattle.run_law.specs.Turn.{behind_client, client_place, to_accept, to_clients, to_starts}
 
 module _ (P : Point → Type 0) where
@@ -27,9 +27,10 @@ module _ (P : Point → Type 0) (s : Server) (client : (i : ℕ) → P (AtTurn (
   pub behind_point : (i : ℕ) → P (behind_client i s)
   behind_point i = if_point P (is_over_at s.now i s.clients) (AtTurn (AtClose i) s) (to_clients (i + 1) s) (close i) (clients_point (i + 1))
 
-  pub onward_point : (o : Onward) → P (point_on o s)
-  onward_point (From i) = clients_point i
-  onward_point (Behind i) = behind_point i
+  pub onward_point : ((i : ℕ) → P (AtTurn (AtReload OfTree i) s)) → (o : Onward) → P (point_on o s)
+  onward_point reload (From i) = clients_point i
+  onward_point reload (Behind i) = behind_point i
+  onward_point reload (Rereads i) = reload i
 
   pub accept_point : P (AtTurn AtAccept s) → P (to_accept s)
   unfolding to_accept

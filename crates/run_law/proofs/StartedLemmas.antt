@@ -39,14 +39,16 @@ use Rattle.run_law.specs.News.{News, after_news, brings}
 use Rattle.run_law.specs.Paths.{Path, Naming, first_naming, named, with_paths}
 use Rattle.run_law.specs.Patterns.{Pattern, patterns_of}
 use Rattle.run_law.specs.Pause.{turned}
-use Rattle.run_law.specs.Points.{Place, AtClock, AtLook, AtPoll, AtKill, AtAccept, AtClient, AtClose, AtStart, AtPause, Point, AtTree, AtMakes, AtStore, AtListen, AtFirst, AtNames, AtTurn, Over, Run}
+use Rattle.run_law.specs.Points.{Place, AtClock, AtLook, AtPoll, AtKill, AtAccept, AtClient, AtClose, Rereading, OfTree, OfMakes, OfNames, AtReload, AtStart, AtPause, Point, AtTree, AtMakes, AtStore, AtListen, AtFirst, AtNames, AtTurn, Over, Run}
 use Rattle.run_law.specs.Polls.{end_news, ended_as, gone, gone_passed, has_succeeded, killed_at, polled_at, still_point}
 use Rattle.run_law.specs.Served.{IsAllStarted, IsStartFor, StartsAt, StartsInTurn, run_after}
-use Rattle.run_law.specs.Server.{Server, begun, is_stopping, jobs, lanes_up, log_jails, read_at}
+use Rattle.run_law.specs.Server.{Server, begun, following, is_stopping, jobs, lanes_up, log_jails, read_at}
 use Rattle.run_law.specs.Serving.{Onward, Service, closes, lets_in, point_on, reads, serves, with_clients, writes}
-use Rattle.run_law.specs.Start.{defined, first_turn, listened, loads, made, makes_on, names_call, names_in, start_news, to_makes, to_names, tree_read, unread_by}
+use Rattle.run_law.specs.Reading.{names_call, names_in, names_next, unread_by}
+use Rattle.run_law.specs.Reload.{left_for, names_for, reload_news, reloaded, reloads, taken_for, tells_taken, tells_untaken, untaken_for}
+use Rattle.run_law.specs.Start.{defined, first_turn, listened, loads, made, makes_on, start_news, to_makes, to_names, tree_read}
 use Rattle.run_law.specs.Starts.{child_started, with_child, without_child}
-use Rattle.run_law.specs.Turn.{at_pause, is_drained, look_point, start_place, start_point, to_accept, to_children, to_end, to_logs, to_looks, to_polls, to_starts}
+use Rattle.run_law.specs.Turn.{at_pause, behind_client, is_drained, look_point, start_place, start_point, to_accept, to_children, to_end, to_logs, to_looks, to_polls, to_starts}
 use Rattle.run_law.specs.Words.{plan_of}
 use Rattle.run_law.specs.declared.plan.Plan.{Plan}
 use Rattle.run_law.specs.declared.status.Status.TheVariants.{Stopped}
@@ -54,7 +56,9 @@ use Rattle.run_law.proofs.DiskLemmas.{next_behind}
 use Rattle.run_law.proofs.NewsLemmas.{brings_point, measured_point, piece_point, synced_point, wrote_point}
 use Rattle.run_law.proofs.PointLemmas.{paid_call}
 use Rattle.run_law.proofs.SaidLemmas.{may_at, pause_next, start_next}
-use Rattle.run_law.proofs.ServingLemmas.{accept_point, asked_none, onward_point}
+use Rattle.run_law.specs.declared.status.Status.{Status}
+use Rattle.run_law.proofs.ReadingLemmas.{makes_by, names_by, reload_none, tree_by}
+use Rattle.run_law.proofs.ServingLemmas.{accept_point, asked_none, behind_point, onward_point}
 
 -- ---- points at which a start or a pause is as it should be
 
@@ -85,7 +89,10 @@ unfolding to_starts
 due_starts s = due_start (startable s.now s.children (jobs s)) s refl
 
 due_onward : (o : Onward) (s : Server) → IsDue (point_on o s)
-due_onward o s = onward_point IsDue s (λ i. tt) (λ i. tt) (due_starts s) o
+due_onward o s = onward_point IsDue s (λ i. tt) (λ i. tt) (due_starts s) (λ i. tt) o
+
+due_behind : (i : ℕ) (s : Server) → IsDue (behind_client i s)
+due_behind i s = behind_point IsDue s (λ j. tt) (λ j. tt) (due_starts s) i
 
 due_accept : (s : Server) → IsDue (to_accept s)
 due_accept s = accept_point IsDue s (λ i. tt) (λ i. tt) (due_starts s) tt
@@ -192,6 +199,30 @@ due_child StartNoMemory c s r same = same
 due_serves : (x : Service) (s : Server) (r : Run) → IsDue (serves x s r).point
 due_serves x s r = due_brings x.news (point_on x.onward) (due_onward x.onward) (with_clients x.clients s) r
 
+-- ---- a reload
+
+due_renames : (before : List (List ℕ)) (settings : Settings) (naming : Naming) (left : List Path) (i : ℕ) (s : Server) (r : Run)
+    → IsDue (names_next (names_for i) (taken_for i) before settings naming left s r).point
+due_renames before settings naming left i s r = names_by (λ (x : Run). IsDue x.point) (names_for i) (taken_for i) s r
+    (λ lines defined at. due_brings (record { before = lines; what = None; behind = [] }) (names_for i defined at) (λ t. tt) s r)
+    (λ lines defs. due_brings (reload_news lines defs s) (reloaded i) (λ t. due_behind i (following t)) (tells_taken i s) r) before settings naming left
+
+due_left : (i : ℕ) (s : Server) (r : Run) (settings : Settings) (ps : List Pattern) → IsDue (left_for i s settings ps r).point
+due_left i s r settings [] = due_renames [] settings (first_naming settings.defs) (first_naming settings.defs).left i s r
+due_left i s r settings (p ∷ ps) = tt
+
+due_untaken : (i : ℕ) (s : Server) (r : Run) (status : Status) → IsDue (untaken_for i s status r).point
+due_untaken i s r status = due_serves (tells_untaken status i s) s r
+
+due_reloads : (reading : Rereading) (event : Event) (i : ℕ) (s : Server) (r : Run) → IsDue r.point → IsDue (reloads reading event i s r).point
+due_reloads OfTree (Config root answer) i s r same =
+    tree_by (λ (x : Run). IsDue x.point) (left_for i s) (untaken_for i s) r (due_left i s r) (λ status is. due_untaken i s r status) same answer
+due_reloads (OfMakes settings left) (Make text answer) i s r same =
+    makes_by (λ (x : Run). IsDue x.point) (left_for i s) (untaken_for i s) r (due_left i s r) (λ status is. due_untaken i s r status) same left answer settings
+due_reloads (OfNames settings naming) (Names dir answer) i s r same =
+    let next = named (names_in answer) naming in due_renames (unread_by answer s.now naming.left) settings next next.left i s r
+due_reloads _ _ i s r same = same
+
 due_turns : (place : Place) (event : Event) (s : Server) (r : Run) → IsDue r.point → IsDue (turns place event s r).point
 due_turns AtClock (Clock answer) s r same = due_brings (tick_news (read_at answer s)) to_logs due_logs (read_at answer s) r
 due_turns (AtLook i) (LookAt path head from max answer) s r same = due_looked_at (slice_get s.logs i) answer i s r same
@@ -201,6 +232,7 @@ due_turns AtAccept (GateAccept answer) s r same = due_serves (lets_in answer s) 
 due_turns (AtClient i) (GateRead conn max answer) s r same = due_serves (reads answer i s) s r
 due_turns (AtClient i) (GateWrite conn bytes answer) s r same = due_serves (writes answer i s) s r
 due_turns (AtClose i) (GateClose conn) s r same = due_serves (closes i s) s r
+due_turns (AtReload reading i) event s r same = due_reloads reading event i s r same
 due_turns (AtStart c text) (ChildStart job command answer) s r same = due_child answer c s r same
 due_turns AtPause (Pause ms) s r same = due_turned (s.left - 1) s
 due_turns _ _ s r same = same
@@ -272,6 +304,7 @@ starts_at plan (AtTurn (AtKill i) s) id command answer due next = by_child (slic
 starts_at plan (AtTurn AtAccept s) id command answer due next = next
 starts_at plan (AtTurn (AtClient i) s) id command answer due next = asked_none (ChildStart id command answer) (conn_at i s.clients) (asks_at i s.clients) (λ bytes is. is) (λ most is. is) next
 starts_at plan (AtTurn (AtClose i) s) id command answer due next = next
+starts_at plan (AtTurn (AtReload reading i) s) id command answer due next = reload_none (ChildStart id command answer) (λ root is. is) (λ text is. is) (λ dir is. is) plan reading next
 starts_at plan (AtTurn (AtStart c text) s) id command answer due next = (due.0, due.1, next.0, next.1)
 starts_at plan (AtTurn AtPause s) id command answer due next = next
 starts_at plan (Over status) id command answer due next = next
@@ -307,6 +340,7 @@ all_started plan (AtTurn (AtKill i) s) ms due next = by_child (slice_get s.child
 all_started plan (AtTurn AtAccept s) ms due next = next
 all_started plan (AtTurn (AtClient i) s) ms due next = asked_none (Pause ms) (conn_at i s.clients) (asks_at i s.clients) (λ bytes is. is) (λ most is. is) next
 all_started plan (AtTurn (AtClose i) s) ms due next = next
+all_started plan (AtTurn (AtReload reading i) s) ms due next = reload_none (Pause ms) (λ root is. is) (λ text is. is) (λ dir is. is) plan reading next
 all_started plan (AtTurn (AtStart c text) s) ms due next = next
 all_started plan (AtTurn AtPause s) ms due next = due
 all_started plan (Over status) ms due next = next

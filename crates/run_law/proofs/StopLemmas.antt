@@ -56,18 +56,21 @@ use Rattle.run_law.specs.News.{News, brings, brings_by, entered, entering, goes_
 use Rattle.run_law.specs.Paths.{Naming, Path, first_naming, named, with_paths}
 use Rattle.run_law.specs.Patterns.{Pattern, patterns_of}
 use Rattle.run_law.specs.Pause.{turned}
-use Rattle.run_law.specs.Points.{Place, AtClock, AtLook, AtPoll, AtKill, AtAccept, AtClient, AtClose, AtStart, AtPause, Point, AtTree, AtMakes, AtStore, AtListen, AtFirst, AtNames, AtTurn, Over, Run}
+use Rattle.run_law.specs.Points.{Place, AtClock, AtLook, AtPoll, AtKill, AtAccept, AtClient, AtClose, Rereading, OfTree, OfMakes, OfNames, AtReload, AtStart, AtPause, Point, AtTree, AtMakes, AtStore, AtListen, AtFirst, AtNames, AtTurn, Over, Run}
 use Rattle.run_law.specs.Polls.{end_news, ended_as, gone, gone_passed, has_succeeded, killed_at, polled_at, still_point}
 use Rattle.run_law.specs.Refusals.{status_lines}
 use Rattle.run_law.specs.Served.{KeepsInputs, run_after}
-use Rattle.run_law.specs.Server.{Server, behind_entry, begun, entry_in, input_at, is_spent, read_at, taken}
+use Rattle.run_law.specs.Server.{Server, behind_entry, begun, entry_in, following, input_at, is_spent, read_at, taken}
 use Rattle.run_law.specs.Serving.{Service, closes, lets_in, point_on, reads, serves, with_clients, writes}
-use Rattle.run_law.specs.Start.{defined, first_turn, listened, loads, made, makes_on, names_in, start_news, to_makes, to_names, tree_read, unread_by}
+use Rattle.run_law.specs.Reading.{names_in, names_next, unread_by}
+use Rattle.run_law.specs.Reload.{left_for, names_for, reload_news, reloaded, reloads, taken_for, tells_taken, tells_untaken, untaken_for}
+use Rattle.run_law.specs.Start.{defined, first_turn, listened, loads, made, makes_on, start_news, to_makes, to_names, tree_read}
 use Rattle.run_law.specs.Starts.{child_started, with_child, without_child}
 use Rattle.run_law.specs.Stops.{BeginsOn, ComesInOrder, ComesTo, IsKept, IsOverAt, IsRegular, IsStored, IsWrite, held_in}
 use Rattle.run_law.specs.Turn.{to_logs, to_looks, to_polls, to_starts}
 use Rattle.run_law.specs.Words.{plan_of}
 use Rattle.run_law.specs.declared.plan.Plan.{Plan}
+use Rattle.run_law.proofs.ReadingLemmas.{makes_by, names_by, tree_by}
 use Rattle.run_law.specs.declared.status.Status.{Status}
 use Rattle.run_law.specs.declared.status.Status.TheVariants.{Stopped, TurnsSpent, ConfFault, ConfRefused, DiskFault, GateFault, JournalFull, SinkFault, ConfTooLarge, PatternRefused, NumbersSpent}
 use Rattle.run_law.proofs.DiskLemmas.{IsBeside, call_no_write, next_beside, none_left, written_call}
@@ -75,7 +78,7 @@ use Rattle.run_law.proofs.KeptLemmas.{IsFine, IsLive, fine_back, fine_stored, fi
 use Rattle.run_law.proofs.LoadLemmas.{Loads, loads_stored}
 use Rattle.run_law.proofs.RestLemmas.{Keeps, entry_image, entry_is, entry_keeps, keeps_held, keeps_image, keeps_settled, keeps_still, slot_still}
 use Rattle.run_law.proofs.SaidLemmas.{may_at}
-use Rattle.run_law.proofs.TurnLemmas.{IsOfTurn, logs_of_turn, looks_of_turn, onward_of_turn, polls_of_turn, starts_of_turn, still_of_turn, turn_by}
+use Rattle.run_law.proofs.TurnLemmas.{IsOfTurn, behind_of_turn, logs_of_turn, looks_of_turn, onward_of_turn, place_of_turn, polls_of_turn, starts_of_turn, still_of_turn, turn_by}
 use Rattle.run_law.proofs.WordLemmas.{planned}
 use Rattle.slot_writes.specs.Entries.{Entry, Written, Full, Spent, body, entry, entry_of, fresh_slot, fresh_start, turn_calls}
 use Rattle.slot_writes.specs.Rests.{PermitsBoth}
@@ -391,6 +394,29 @@ module _ (v : View) (first : History) (limit : ℕ) (l : Loaded) (is_loaded : lo
       serves_is : (x : Service) → Is (serves x t r) g
       serves_is x = brings_is x.news (point_on x.onward) (turn_passes (point_on x.onward) (onward_of_turn x.onward)) (with_clients x.clients t) has
 
+      -- with the logs of the jails that there are then
+      follow_passes : (i : ℕ) → Passes (reloaded i)
+      follow_passes i p st u h = let P : Point → Type 0 = λ q. Knows p st q × IsServing q in turn_by P (reloaded i u) (following u) (behind_of_turn i (following u)) (λ place. (h, tt)) (tt, tt)
+
+      renames_are : (before : List (List ℕ)) (settings : Settings) (naming : Naming) (left : List Path) (i : ℕ) → Is (names_next (names_for i) (taken_for i) before settings naming left t r) g
+      renames_are before settings naming left i = names_by (λ (x : Run). Is x g) (names_for i) (taken_for i) t r
+          (λ lines defined at. brings_is (record { before = lines; what = None; behind = [] }) (names_for i defined at) (turn_passes (names_for i defined at) (λ u. place_of_turn (AtReload (OfNames defined at) i) u)) t has)
+          (λ lines defs. brings_is (reload_news lines defs t) (reloaded i) (follow_passes i) (tells_taken i t) has) before settings naming left
+
+      remakes_are : (i : ℕ) (settings : Settings) (ps : List Pattern) → Is (left_for i t settings ps r) g
+      remakes_are i settings [] = renames_are [] settings (first_naming settings.defs) (first_naming settings.defs).left i
+      remakes_are i settings (p ∷ ps) = plain_is (AtTurn (AtReload (OfMakes settings (p ∷ ps)) i) t) has
+
+      untaken_is : (i : ℕ) (status : Status) → Is (untaken_for i t status r) g
+      untaken_is i status = serves_is (tells_untaken status i t)
+
+      reloads_are : (reading : Rereading) (event : Event) (i : ℕ) → Is (reloads reading event i t r) g
+      reloads_are OfTree (Config root answer) i = tree_by (λ (x : Run). Is x g) (left_for i t) (untaken_for i t) r (remakes_are i) (λ status is. untaken_is i status) (inl c) answer
+      reloads_are (OfMakes settings left) (Make text answer) i = makes_by (λ (x : Run). Is x g) (left_for i t) (untaken_for i t) r (remakes_are i) (λ status is. untaken_is i status) (inl c) left answer settings
+      reloads_are (OfNames settings naming) (Names dir answer) i =
+          let next = named (names_in answer) naming in renames_are (unread_by answer t.now naming.left) settings next next.left i
+      reloads_are _ _ i = inl c
+
       turned_is : (n : ℕ) → Is (goes_to (turned n t) r) g
       turned_is zero = plain_is (Over TurnsSpent) tt
       turned_is (suc n) = plain_is (AtTurn AtClock (record t { left = suc n })) has
@@ -404,6 +430,7 @@ module _ (v : View) (first : History) (limit : ℕ) (l : Loaded) (is_loaded : lo
       turns_are (AtClient i) (GateRead conn max answer) = serves_is (reads answer i t)
       turns_are (AtClient i) (GateWrite conn bytes answer) = serves_is (writes answer i t)
       turns_are (AtClose i) (GateClose conn) = serves_is (closes i t)
+      turns_are (AtReload reading i) event = reloads_are reading event i
       turns_are (AtStart child text) (ChildStart job command answer) = started_is answer child
       turns_are AtPause (Pause ms) = turned_is (t.left - 1)
       turns_are _ _ = inl c

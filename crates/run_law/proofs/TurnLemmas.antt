@@ -50,20 +50,23 @@ use Rattle.run_law.specs.Patterns.{Pattern, patterns_of}
 use Rattle.run_law.specs.Paths.{Path, Naming, first_naming, named, with_paths}
 use Rattle.run_law.specs.Pause.{paused, turned}
 use Rattle.run_law.specs.Polls.{end_news, ended_as, gone, gone_passed, has_succeeded, killed_at, polled_at, still_point}
-use Rattle.run_law.specs.Points.{Place, AtClock, AtLook, AtPoll, AtKill, AtAccept, AtClient, AtClose, AtStart, AtPause, Point, AtTree, AtMakes, AtStore, AtListen, AtFirst, AtNames, AtTurn, Over, Run}
+use Rattle.run_law.specs.Points.{Place, AtClock, AtLook, AtPoll, AtKill, AtAccept, AtClient, AtClose, Rereading, OfTree, OfMakes, OfNames, AtReload, AtStart, AtPause, Point, AtTree, AtMakes, AtStore, AtListen, AtFirst, AtNames, AtTurn, Over, Run}
 use Rattle.run_law.specs.Refusals.{status_lines}
 use Rattle.run_law.specs.Served.{CountsTurns, pauses_in}
-use Rattle.run_law.specs.Server.{Server, begun, is_stopping, jobs, lanes_up, log_jails, read_at}
+use Rattle.run_law.specs.Server.{Server, begun, following, is_stopping, jobs, lanes_up, log_jails, read_at}
 use Rattle.run_law.specs.Serving.{Onward, Service, closes, lets_in, point_on, reads, serves, with_clients, writes}
-use Rattle.run_law.specs.Start.{defined, first_turn, listened, loads, made, make_call, makes_on, names_call, names_in, start_news, to_makes, to_names, tree_read, unread_by}
+use Rattle.run_law.specs.Reading.{make_call, names_call, names_in, names_next, unread_by}
+use Rattle.run_law.specs.Reload.{left_for, names_for, reload_news, reloaded, reloads, taken_for, tells_taken, tells_untaken, untaken_for}
+use Rattle.run_law.specs.Start.{defined, first_turn, listened, loads, made, makes_on, start_news, to_makes, to_names, tree_read}
 use Rattle.run_law.specs.Starts.{child_started, with_child, without_child}
-use Rattle.run_law.specs.Turn.{at_pause, is_drained, look_point, start_place, start_point, to_accept, to_children, to_end, to_logs, to_looks, to_polls, to_starts}
+use Rattle.run_law.specs.Turn.{at_pause, behind_client, is_drained, look_point, start_place, start_point, to_accept, to_children, to_end, to_logs, to_looks, to_polls, to_starts}
 use Rattle.run_law.proofs.DiskLemmas.{next_behind, none_left}
 use Rattle.run_law.proofs.NewsLemmas.{brings_plan, brings_point}
 use Rattle.run_law.proofs.PointLemmas.{paid_call}
 use Rattle.slot_writes.specs.Writes.{Write}
 use Rattle.run_law.proofs.SaidLemmas.{pause_next}
-use Rattle.run_law.proofs.ServingLemmas.{accept_point, asked_none, onward_point}
+use Rattle.run_law.proofs.ReadingLemmas.{makes_by, names_by, reload_none, tree_by}
+use Rattle.run_law.proofs.ServingLemmas.{accept_point, asked_none, behind_point, onward_point}
 use Rattle.run_law.specs.declared.plan.Plan.{Plan}
 use Rattle.run_law.specs.declared.status.Status.{Status}
 use Rattle.run_law.specs.declared.status.Status.TheVariants.{Stopped, TurnsSpent, WorkloadDone, Usage, ConfFault, ConfRefused, DiskFault, NotAJournal, JournalFull, GateFault, SinkFault, ConfTooLarge, PatternRefused, NumbersSpent, NoMemory}
@@ -94,11 +97,15 @@ pub starts_of_turn : (s : Server) → IsOfTurn (to_starts s) s
 unfolding to_starts
 starts_of_turn s = start_of_turn (startable s.now s.children (jobs s)) s
 
-place_of_turn : (place : Place) (s : Server) → IsOfTurn (AtTurn place s) s
+pub place_of_turn : (place : Place) (s : Server) → IsOfTurn (AtTurn place s) s
 place_of_turn place s = record { place = place; is = inl refl }
 
 pub onward_of_turn : (o : Onward) (s : Server) → IsOfTurn (point_on o s) s
-onward_of_turn o s = onward_point (λ p. IsOfTurn p s) s (λ i. place_of_turn (AtClient i) s) (λ i. place_of_turn (AtClose i) s) (starts_of_turn s) o
+onward_of_turn o s = onward_point (λ p. IsOfTurn p s) s (λ i. place_of_turn (AtClient i) s) (λ i. place_of_turn (AtClose i) s) (starts_of_turn s)
+    (λ i. place_of_turn (AtReload OfTree i) s) o
+
+pub behind_of_turn : (i : ℕ) (s : Server) → IsOfTurn (behind_client i s) s
+behind_of_turn i s = behind_point (λ p. IsOfTurn p s) s (λ j. place_of_turn (AtClient j) s) (λ j. place_of_turn (AtClose j) s) (starts_of_turn s) i
 
 accept_of_turn : (s : Server) → IsOfTurn (to_accept s) s
 accept_of_turn s = accept_point (λ p. IsOfTurn p s) s (λ i. place_of_turn (AtClient i) s) (λ i. place_of_turn (AtClose i) s) (starts_of_turn s) (place_of_turn AtAccept s)
@@ -283,6 +290,34 @@ module _ (all made : ℕ) (r : Run) (plan : r.plan.turns ≡ all) (s : Server) (
   started_fits StartFailed c fits = turn_fits (end_news c NotStarted) to_starts (without_child c s) starts_of_turn refl
   started_fits StartNoMemory c fits = fits
 
+  -- with the logs of the jails that there are then
+  follows_fits : (news : News) (i : ℕ) (t : Server) → t.left ≡ s.left → Fits all made (brings news (reloaded i) t r)
+  follows_fits news i t left =
+      let u = after_news news t in
+      let same : u.left ≡ s.left = same_left news.what t ∙ left in
+      brings_fits all made r news (reloaded i) t plan sooner (of_turn all made (reloaded i u) (following u) (behind_of_turn i (following u)) (omega (arith, sum, same)) (omega (arith, some, same)))
+
+  renames_fit : (before : List (List ℕ)) (settings : Settings) (naming : Naming) (left : List Path) (i : ℕ) → Fits all made (names_next (names_for i) (taken_for i) before settings naming left s r)
+  renames_fit before settings naming left i = names_by (λ (x : Run). Fits all made x) (names_for i) (taken_for i) s r
+      (λ lines defined at. turn_fits (record { before = lines; what = None; behind = [] }) (names_for i defined at) s (λ u. place_of_turn (AtReload (OfNames defined at) i) u) refl)
+      (λ lines defs. follows_fits (reload_news lines defs s) i (tells_taken i s) refl) before settings naming left
+
+  left_fits : (i : ℕ) (settings : Settings) (ps : List Pattern) → Fits all made (left_for i s settings ps r)
+  left_fits i settings [] = renames_fit [] settings (first_naming settings.defs) (first_naming settings.defs).left i
+  left_fits i settings (p ∷ ps) = let place : Place = AtReload (OfMakes settings (p ∷ ps)) i in plain_fits (AtTurn place s) s (place_of_turn place s) refl
+
+  untaken_fits : (i : ℕ) (status : Status) → Fits all made (untaken_for i s status r)
+  untaken_fits i status = serves_fits (tells_untaken status i s)
+
+  reloads_fit : (reading : Rereading) (event : Event) (i : ℕ) → Fits all made r → Fits all made (reloads reading event i s r)
+  reloads_fit OfTree (Config root answer) i fits =
+      tree_by (λ (x : Run). Fits all made x) (left_for i s) (untaken_for i s) r (left_fits i) (λ status is. untaken_fits i status) fits answer
+  reloads_fit (OfMakes settings left) (Make text answer) i fits =
+      makes_by (λ (x : Run). Fits all made x) (left_for i s) (untaken_for i s) r (left_fits i) (λ status is. untaken_fits i status) fits left answer settings
+  reloads_fit (OfNames settings naming) (Names dir answer) i fits =
+      let next = named (names_in answer) naming in renames_fit (unread_by answer s.now naming.left) settings next next.left i
+  reloads_fit _ _ i fits = fits
+
   turned_fits : (n : ℕ) → s.left ≡ suc n → (r.owed ≡ []) × (r.writes ≡ []) → Fits all (suc made) (goes_to (turned n s) r)
   turned_fits zero left paid = record { plan = plan; point = omega (arith, sum, left); paid = paid }
   turned_fits (suc n) left paid = record { plan = plan; point = (omega (arith, sum, left), omega arith); paid = tt }
@@ -341,6 +376,7 @@ pause_fits all made r (AtTurn (AtKill i) s) ms plan point paid next = absurd (ki
 pause_fits all made r (AtTurn AtAccept s) ms plan point paid next = absurd next
 pause_fits all made r (AtTurn (AtClient i) s) ms plan point paid next = absurd (asked_none (Pause ms) (conn_at i s.clients) (asks_at i s.clients) (λ bytes is. is) (λ most is. is) next)
 pause_fits all made r (AtTurn (AtClose i) s) ms plan point paid next = absurd next
+pause_fits all made r (AtTurn (AtReload reading i) s) ms plan point paid next = absurd (reload_none (Pause ms) (λ root is. is) (λ text is. is) (λ dir is. is) r.plan reading next)
 pause_fits all made r (AtTurn (AtStart c text) s) ms plan point paid next = absurd next
 pause_fits all made r (AtTurn AtPause s) ms plan point paid next = paused_fits all made r plan s point.0 point.1 paid
 pause_fits all made r (Over status) ms plan point paid next = absurd next
@@ -355,6 +391,7 @@ turns_fit all made r AtAccept s (GateAccept answer) plan point fits plain = serv
 turns_fit all made r (AtClient i) s (GateRead conn max answer) plan point fits plain = serves_fits all made r plan s point.0 point.1 (reads answer i s)
 turns_fit all made r (AtClient i) s (GateWrite conn bytes answer) plan point fits plain = serves_fits all made r plan s point.0 point.1 (writes answer i s)
 turns_fit all made r (AtClose i) s (GateClose conn) plan point fits plain = serves_fits all made r plan s point.0 point.1 (closes i s)
+turns_fit all made r (AtReload reading i) s event plan point fits plain = reloads_fit all made r plan s point.0 point.1 reading event i fits
 turns_fit all made r (AtStart c text) s (ChildStart job command answer) plan point fits plain = started_fits all made r plan s point.0 point.1 answer c fits
 turns_fit all made r AtPause s (Pause ms) plan point fits plain = absurd plain
 turns_fit all made r _ s _ plan point fits plain = fits

@@ -13,12 +13,14 @@ use Rattle.run_law.specs.Disk.{IsLoading, measured, piece_read, synced, wrote}
 use Rattle.run_law.specs.Looks.{look_call, looked_at}
 use Rattle.run_law.specs.News.{goes_to, refused}
 use Rattle.run_law.specs.Pause.{pause_call, paused}
-use Rattle.run_law.specs.Points.{Place, AtClock, AtLook, AtPoll, AtKill, AtAccept, AtClient, AtClose, AtStart, AtPause, Point, AtTree, AtMakes, AtStore, AtListen, AtFirst, AtNames, AtTurn, Over, Run}
+use Rattle.run_law.specs.Points.{Place, AtClock, AtLook, AtPoll, AtKill, AtAccept, AtClient, AtClose, AtReload, AtStart, AtPause, Point, AtTree, AtMakes, AtStore, AtListen, AtFirst, AtNames, AtTurn, Over, Run}
 use Rattle.run_law.specs.Polls.{kill_call, killed_at, poll_call, polled_at}
 use Rattle.run_law.specs.Said.{joined}
 use Rattle.run_law.specs.Server.{Server}
 use Rattle.run_law.specs.Serving.{client_call, close_call, closes, lets_in, reads, serves, writes}
-use Rattle.run_law.specs.Start.{first_read, listen_call, listened, make_call, makes_on, names_call, names_read, store_call, store_named, tree_read}
+use Rattle.run_law.specs.Reading.{make_call, names_call}
+use Rattle.run_law.specs.Reload.{reload_call, reloads}
+use Rattle.run_law.specs.Start.{first_read, listen_call, listened, makes_on, names_read, store_call, store_named, tree_read}
 use Rattle.run_law.specs.Starts.{child_started, start_call}
 use Rattle.run_law.specs.Words.{plan_of}
 use Rattle.run_law.specs.declared.plan.Plan.{Plan}
@@ -28,16 +30,17 @@ use Rattle.slot_writes.specs.Writes.{Write}
 
 -- ---- the call that comes next
 
-abbrev pub turn_call : Place → Server → Option Call
-turn_call AtClock s = clock_call
-turn_call (AtLook i) s = look_call i s
-turn_call (AtPoll i) s = poll_call i s
-turn_call (AtKill i) s = kill_call i s
-turn_call AtAccept s = Some AskAccept
-turn_call (AtClient i) s = client_call i s
-turn_call (AtClose i) s = close_call i s
-turn_call (AtStart c text) s = start_call c text
-turn_call AtPause s = pause_call
+abbrev pub turn_call : Plan → Place → Server → Option Call
+turn_call plan AtClock s = clock_call
+turn_call plan (AtLook i) s = look_call i s
+turn_call plan (AtPoll i) s = poll_call i s
+turn_call plan (AtKill i) s = kill_call i s
+turn_call plan AtAccept s = Some AskAccept
+turn_call plan (AtClient i) s = client_call i s
+turn_call plan (AtClose i) s = close_call i s
+turn_call plan (AtReload reading i) s = reload_call plan reading
+turn_call plan (AtStart c text) s = start_call c text
+turn_call plan AtPause s = pause_call
 
 abbrev pub point_call : Plan → Point → Option Call
 point_call plan AtTree = Some (AskTree plan.root)
@@ -46,7 +49,7 @@ point_call plan (AtStore settings) = store_call settings
 point_call plan (AtListen settings l) = listen_call settings
 point_call plan (AtFirst settings l) = Some AskClock
 point_call plan (AtNames settings naming s) = names_call naming.left
-point_call plan (AtTurn place s) = turn_call place s
+point_call plan (AtTurn place s) = turn_call plan place s
 point_call plan (Over status) = None
 
 -- owed lines come before the call of the point, all in one call, but not once a line could not be said
@@ -85,6 +88,7 @@ turns AtAccept (GateAccept answer) s r = serves (lets_in answer s) s r
 turns (AtClient i) (GateRead conn max answer) s r = serves (reads answer i s) s r
 turns (AtClient i) (GateWrite conn bytes answer) s r = serves (writes answer i s) s r
 turns (AtClose i) (GateClose conn) s r = serves (closes i s) s r
+turns (AtReload reading i) event s r = reloads reading event i s r
 turns (AtStart c text) (ChildStart job command answer) s r = child_started answer c s r
 turns AtPause (Paused ms) s r = paused s r
 turns _ _ s r = r

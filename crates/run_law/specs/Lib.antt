@@ -20,8 +20,11 @@ pub mod Looks
 pub mod Polls
 pub mod Starts
 pub mod Pause
+pub mod Reading
+pub mod Reload
 pub mod Start
 pub mod Law
 pub mod Stages
+pub mod Readers
 pub mod Stops
 pub mod Served

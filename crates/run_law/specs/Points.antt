@@ -15,6 +15,14 @@ use Rattle.run_law.specs.declared.plan.Plan.{Plan}
 use Rattle.run_law.specs.declared.status.Status.{Status}
 use Rattle.slot_writes.specs.Writes.{Write}
 
+-- at which call the reading of a configuration for a client stands
+pub data Rereading : Type 0 where
+  OfTree : Rereading
+  -- at the first of the patterns that are still to be built
+  OfMakes : Settings → List Pattern → Rereading
+  -- at the names for the first path that is left
+  OfNames : Settings → Naming → Rereading
+
 -- at which call a turn stands
 pub data Place : Type 0 where
   AtClock : Place
@@ -29,6 +37,8 @@ pub data Place : Type 0 where
   AtClient : ℕ → Place
   -- that client is over
   AtClose : ℕ → Place
+  -- the configuration is read again, for that client
+  AtReload : Rereading → ℕ → Place
   -- at the start of a child, with its command
   AtStart : Child → List ℕ → Place
   AtPause : Place

@@ -87,6 +87,14 @@ status_text (PatternRefused jail place kind) = Some (pattern_refusal jail place 
 status_text NumbersSpent = Some (codes "numbers spent")
 status_text NoMemory = None
 
+-- what a client is told of a configuration that was read again and is not taken
+abbrev pub untaken_text : Status → List ℕ
+untaken_text ConfFault = codes "Configuration not read"
+untaken_text ConfTooLarge = codes "Configuration too large"
+untaken_text (ConfRefused error) = conf_refusal error
+untaken_text (PatternRefused jail place kind) = pattern_refusal jail place kind
+untaken_text _ = []
+
 -- a text that says what went wrong
 unfoldable pub error_line : ℕ → List ℕ → List ℕ
 error_line now text = stamped now (codes "ERROR " ++ text)

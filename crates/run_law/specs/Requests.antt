@@ -4,7 +4,7 @@ use Rattle.client_frames.specs.Comes.{Heard, Part, Words, TooLong, Empty, BadWor
 use Rattle.client_frames.specs.declared.answer.Answer.{Answer}
 use Rattle.client_replies.specs.Changes.{effect}
 use Rattle.client_replies.specs.Refusals.{refusal}
-use Rattle.client_replies.specs.Replies.{answer, refused, reply}
+use Rattle.client_replies.specs.Replies.{refused, reply}
 use Rattle.client_words.specs.Commands.{command_of}
 use Rattle.client_words.specs.Refusals.{refusal_of}
 use Rattle.client_words.specs.declared.error.CommandError.{CommandError}
@@ -16,10 +16,11 @@ use Rattle.f2b_model.specs.Whole.{State, now_of}
 use Rattle.run_law.specs.News.{News, nothing}
 use Rattle.run_law.specs.Said.{stopping_line}
 
--- an answer, and what is brought beside it
-pub record Response : Type 0 where
-  pub answer : Answer
-  pub news : News
+pub data Response : Type 0 where
+  -- it is answered so, and this is brought beside it
+  Answers : Answer → News → Response
+  -- the configuration is read again, and the answer comes behind that
+  ReadsAgain : Response
 
 -- a stop that comes is said
 abbrev pub stop_lines : ℕ → Option What → List (List ℕ)
@@ -30,16 +31,17 @@ abbrev pub changing : ℕ → Option What → News
 changing now what = record { before = []; what = what; behind = stop_lines now what }
 
 abbrev pub refusing : List ℕ → Response
-refusing why = record { answer = refused why; news = nothing }
+refusing why = Answers (refused why) nothing
 
--- no configuration is read again yet
-abbrev pub reload_refusal : Option (List ℕ) → List ℕ
-reload_refusal why = unwrap_or why (codes "Cannot reload yet")
+-- a configuration is read again unless the state refuses that
+abbrev pub rereading : Option (List ℕ) → Response
+rereading (Some why) = refusing why
+rereading None = ReadsAgain
 
 -- The reply and the input are those of the state that the request meets.
 abbrev pub to_request : ℕ → State → Request → Response
-to_request now s Reload = refusing (reload_refusal (refusal (now_of s) Reload))
-to_request now s asked = record { answer = reply now (now_of s) asked; news = changing now (effect (now_of s) asked) }
+to_request now s Reload = rereading (refusal (now_of s) Reload)
+to_request now s asked = Answers (reply now (now_of s) asked) (changing now (effect (now_of s) asked))
 
 -- the words of a request, or what is wrong with them first
 abbrev pub to_command : ℕ → State → Result Request CommandError → Response

@@ -22,6 +22,10 @@ stamped now text = decimal now ++ codes " " ++ text ++ codes "\n"
 unfoldable pub ready_line : ℕ → List ℕ
 ready_line now = stamped now (codes "INFO Server ready")
 
+-- the line of a configuration that was read again, and is taken
+unfoldable pub reloaded_line : ℕ → List ℕ
+reloaded_line now = stamped now (codes "INFO Reloaded")
+
 -- the line of a stop that was asked for
 unfoldable pub stopping_line : ℕ → List ℕ
 stopping_line now = stamped now (codes "INFO Stopping")

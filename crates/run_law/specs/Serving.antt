@@ -7,8 +7,8 @@ use Rattle.f2b_world.specs.declared.answer.GateRead.{GateRead}
 use Rattle.f2b_world.specs.declared.answer.GateWrite.{GateWrite}
 use Rattle.run_law.specs.Calls.{Call, AskRead, AskSend, AskClose}
 use Rattle.run_law.specs.News.{News, nothing, brings}
-use Rattle.run_law.specs.Points.{Point, Run}
-use Rattle.run_law.specs.Requests.{Response, to_heard}
+use Rattle.run_law.specs.Points.{OfTree, AtReload, Point, AtTurn, Run}
+use Rattle.run_law.specs.Requests.{Response, Answers, ReadsAgain, to_heard}
 use Rattle.run_law.specs.Server.{Server}
 use Rattle.run_law.specs.Turn.{behind_client, to_clients}
 
@@ -28,14 +28,16 @@ close_call i s = Some (AskClose (conn_at i s.clients))
 
 -- ---- what a call comes to
 
--- how the turn goes on: from the client of a place on, or behind a call on it
+-- how the turn goes on: from the client of a place on, behind a call on it, or at the configuration, which is read again for it
 pub data Onward : Type 0 where
   From : ℕ → Onward
   Behind : ℕ → Onward
+  Rereads : ℕ → Onward
 
 abbrev pub point_on : Onward → Server → Point
 point_on (From i) s = to_clients i s
 point_on (Behind i) s = behind_client i s
+point_on (Rereads i) s = AtTurn (AtReload OfTree i) s
 
 -- the clients that there are then, what is brought, and how the turn goes on
 pub record Service : Type 0 where
@@ -48,15 +50,23 @@ lets_in (Conn conn) s = record { clients = with_client (accepted conn s.now) s.c
 lets_in _ s = record { clients = s.clients; news = nothing; onward = From 0 }
 
 abbrev pub responded : Option Response → ℕ → List Client → List Client
-responded None i cs = cs
-responded (Some response) i cs = changed_at i (answered response.answer) cs
+responded (Some (Answers given news)) i cs = changed_at i (answered given) cs
+responded _ i cs = cs
 
 abbrev pub news_in : Option Response → News
-news_in None = nothing
-news_in (Some response) = response.news
+news_in (Some (Answers given news)) = news
+news_in _ = nothing
+
+abbrev pub onward_of : Option Response → ℕ → Onward
+onward_of (Some ReadsAgain) i = Rereads i
+onward_of _ i = Behind i
 
 abbrev pub reads_by : Option Response → GateRead → ℕ → Server → Service
-reads_by response answer i s = record { clients = responded response i (changed_at i (after_read s.now answer) s.clients); news = news_in response; onward = Behind i }
+reads_by response answer i s = record {
+  clients = responded response i (changed_at i (after_read s.now answer) s.clients);
+  news = news_in response;
+  onward = onward_of response i;
+}
 
 -- what is heard of it is responded to over the state before anything happens by it
 abbrev pub reads : GateRead → ℕ → Server → Service

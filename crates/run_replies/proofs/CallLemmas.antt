@@ -15,15 +15,17 @@ use Rattle.run_law.specs.Law.{MayCome, call_of, point_call}
 use Rattle.run_law.specs.Looks.{log_call}
 use Rattle.run_law.specs.Paths.{Path}
 use Rattle.run_law.specs.Patterns.{Pattern}
-use Rattle.run_law.specs.Points.{AtLook, AtPoll, AtKill, AtAccept, AtClient, AtClose, Point, AtMakes, AtNames, AtTurn, Over, Run}
+use Rattle.run_law.specs.Points.{AtLook, AtPoll, AtKill, AtAccept, AtClient, AtClose, AtReload, Point, AtMakes, AtNames, AtTurn, Over, Run}
+use Rattle.run_law.specs.Reading.{make_call, names_call}
 use Rattle.run_law.specs.Said.{joined}
 use Rattle.run_law.specs.Server.{Server}
 use Rattle.run_law.specs.Serving.{asked_call}
-use Rattle.run_law.specs.Start.{make_call, names_call}
+use Rattle.run_law.specs.Stages.{IsStill}
 use Rattle.run_law.specs.declared.plan.Plan.{Plan}
 use Rattle.run_law.specs.declared.status.Status.TheVariants.{SinkFault}
-use Rattle.run_law.proofs.DiskLemmas.{next_behind}
+use Rattle.run_law.proofs.DiskLemmas.{next_behind, none_left}
 use Rattle.run_law.proofs.PointLemmas.{paid_call}
+use Rattle.run_law.proofs.ReadingLemmas.{reload_none}
 
 -- ---- calls on clients are none of the others
 
@@ -73,6 +75,10 @@ at_point : (plan : Plan) (point : Point) (owed : List (List ℕ)) (event : Event
 at_point plan point [] event talk next = subst (λ (c : Option Call). IsNext c event) (paid_call plan point) next
 at_point plan point (line ∷ lines) event talk next = absurd (said_alone plan point line lines event talk next)
 
+none_owed : (plan : Plan) (point : Point) (owed : List (List ℕ)) (event : Event) → IsTalk event → IsNext (call_of plan point owed) event → owed ≡ []
+none_owed plan point [] event talk next = refl
+none_owed plan point (line ∷ lines) event talk next = absurd (said_alone plan point line lines event talk next)
+
 -- ---- accepts
 
 pub record AcceptsAt (point : Point) : Type 0 where
@@ -92,6 +98,7 @@ accept_by plan (AtTurn (AtClient i) s) answer next = absurd (by_asks (conn_at i 
     by_asks conn (Writes bytes) next = next
     by_asks conn (Reads most) next = next
     by_asks conn Nothing next = next
+accept_by plan (AtTurn (AtReload reading i) s) answer next = absurd (reload_none (GateAccept answer) (λ root is. is) (λ text is. is) (λ dir is. is) plan reading next)
 accept_by plan point answer next = absurd next
 
 pub accepts_at : (r : Run) (answer : Accept) → MayCome r (GateAccept answer) → AcceptsAt r.point
@@ -127,12 +134,20 @@ read_by plan (AtTurn (AtClient i) s) conn max answer next = by_asks (asks_at i s
       within = subst (λ (n : ℕ). IsReceived n answer) (sym next.1) next.2;
     }
     by_asks Nothing is next = absurd next
+read_by plan (AtTurn (AtReload reading i) s) conn max answer next = absurd (reload_none (ReadFrom conn max answer) (λ root is. is) (λ text is. is) (λ dir is. is) plan reading next)
 read_by plan point conn max answer next = absurd next
 
 pub reads_at : (r : Run) (conn max : ℕ) (answer : GateRead) → MayCome r (ReadFrom conn max answer) → ReadsAt r.point conn max answer
 reads_at r conn max answer may =
     let event : Event = ReadFrom conn max answer in
     read_by r.plan r.point conn max answer (at_point r.plan r.point r.owed event tt (next_behind r.writes (call_of r.plan r.point r.owed) event tt may))
+
+-- nothing is left to write then, and all lines are said
+pub read_still : (r : Run) (conn max : ℕ) (answer : GateRead) → MayCome r (ReadFrom conn max answer) → IsStill r
+read_still r conn max answer may =
+    let event : Event = ReadFrom conn max answer in
+    let call : Option Call = call_of r.plan r.point r.owed in
+    record { written = none_left r.writes call event tt may; paid = none_owed r.plan r.point r.owed event tt (next_behind r.writes call event tt may) }
 
 -- ---- writes
 
@@ -156,6 +171,7 @@ write_by plan (AtTurn (AtClient i) s) conn bytes answer next = by_asks (asks_at 
     by_asks (Writes sent) is next = record { place = i; server = s; at = refl; number = next.0; asks = subst (λ (b : List ℕ). asks_at i s.clients ≡ Writes b) (sym next.1) is }
     by_asks (Reads most) is next = absurd next
     by_asks Nothing is next = absurd next
+write_by plan (AtTurn (AtReload reading i) s) conn bytes answer next = absurd (reload_none (WriteTo conn bytes answer) (λ root is. is) (λ text is. is) (λ dir is. is) plan reading next)
 write_by plan point conn bytes answer next = absurd next
 
 pub writes_at : (r : Run) (conn : ℕ) (bytes : List ℕ) (answer : GateWrite) → MayCome r (WriteTo conn bytes answer) → WritesAt r.point conn bytes
@@ -184,6 +200,7 @@ close_by plan (AtTurn (AtClient i) s) conn next = absurd (by_asks (conn_at i s.c
     by_asks there (Reads most) next = next
     by_asks there Nothing next = next
 close_by plan (AtTurn (AtClose i) s) conn next = record { place = i; server = s; at = refl; number = next }
+close_by plan (AtTurn (AtReload reading i) s) conn next = absurd (reload_none (GateClose conn) (λ root is. is) (λ text is. is) (λ dir is. is) plan reading next)
 close_by plan point conn next = absurd next
 
 pub closes_at : (r : Run) (conn : ℕ) → MayCome r (GateClose conn) → ClosesAt r.point conn

@@ -1,6 +1,7 @@
 pub mod HeardLemmas
 pub mod NumberLemmas
 pub mod PlaceLemmas
+pub mod RereadLemmas
 pub mod CallLemmas
 pub mod LifeLemmas
 pub mod InUseLemmas

@@ -1,4 +1,5 @@
--- Whatever comes but a call on a client, the clients of a run are the same; and behind a call on one they are those that its service gives.
+-- Whatever comes but a call on a client, the clients of a run are the same, but for one for which a configuration was read again: it may be answered.
+-- And behind a call on one they are those that its service gives.
 use Rattle.std.proofs.Common.{ℕ, zero, suc, ◌≡◌, ◌+◌, ◌-◌, Bool, true, false, cond, nat_lt, List, [], ◌∷◌, length, get_or, Option, Some, None, Result, Ok, Err, refl}
 use Rattle.std.specs.Prelude.{slice_get}
 use Rattle.std.specs.Option.{option_map_or}
@@ -6,20 +7,20 @@ use Rattle.std.proofs.lemmas.Bool.{ltb-true}
 use Rattle.std.proofs.lemmas.Option.{slice_get-get_or}
 use Rattle.child_table.specs.Late.{is_late}
 use Rattle.child_table.specs.declared.child.Child.{Child}
-use Rattle.client_table.specs.Clients.{Asks, Client, Nothing, Reads, Writes, accepted, asks_at, is_over, is_over_at, most_clients}
+use Rattle.client_frames.specs.declared.answer.Answer.{Answer}
+use Rattle.client_table.specs.Clients.{Asks, Client, Nothing, Reads, Writes, accepted, answered, asks_at, changed_at, is_over, is_over_at, most_clients}
+use Rattle.f2b_base.specs.declared.jail.Defs.{Defs}
 use Rattle.f2b_base.specs.declared.input.What.{What}
 use Rattle.f2b_base.specs.declared.job.Job.{Job}
 use Rattle.f2b_base.specs.declared.job.Outcome.{Outcome}
 use Rattle.f2b_base.specs.declared.job.Outcome.TheVariants.{Status as EndedWith, NotStarted, TimedOut}
 use Rattle.f2b_base.specs.declared.job.UpLane.{UpLane}
 use Rattle.f2b_base.specs.declared.outside.TreeAnswer.{TreeAnswer}
-use Rattle.f2b_base.specs.declared.outside.TreeAnswer.TheVariants.{Tree, Failed as TreeFailed, TooLarge as TreeTooLarge, NoMemory as TreeNoMemory}
 use Rattle.f2b_world.specs.declared.answer.Listen.{Listen}
 use Rattle.f2b_world.specs.declared.answer.Listen.TheVariants.{Listening, Failed as ListenFailed}
 use Rattle.f2b_world.specs.declared.answer.Look.{Look}
 use Rattle.f2b_world.specs.declared.answer.Look.TheVariants.{File, Absent, Failed as LookFailed, NoMemory as LookNoMemory}
 use Rattle.f2b_world.specs.declared.answer.MakeAnswer.{MakeAnswer}
-use Rattle.f2b_world.specs.declared.answer.MakeAnswer.TheVariants.{Built, Syntax as WasSyntax, TooBig as WasTooBig}
 use Rattle.f2b_world.specs.declared.answer.PollAnswer.{PollAnswer}
 use Rattle.f2b_world.specs.declared.answer.PollAnswer.TheVariants.{Running, Ended as PollEnded, Failed as PollFailed}
 use Rattle.f2b_world.specs.declared.answer.Said.TheVariants.{Done, Failed as SayFailed}
@@ -27,8 +28,6 @@ use Rattle.f2b_world.specs.declared.answer.StartAnswer.{StartAnswer}
 use Rattle.f2b_world.specs.declared.answer.StartAnswer.TheVariants.{Started, Failed as StartFailed, NoMemory as StartNoMemory}
 use Rattle.f2b_world.specs.declared.event.Event.{Event}
 use Rattle.f2b_world.specs.declared.event.Event.TheVariants.{Say, DiskLen, DiskRead, DiskWrite, DiskSync, Make, Clock, Config, StoreAt, Names, Look as LookAt, ChildStart, ChildPoll, ChildKill, GateListen, GateAccept, GateRead, GateWrite, GateClose, Pause}
-use Rattle.jail_conf.specs.Conf.{conf}
-use Rattle.jail_conf.specs.declared.conf_error.ConfError.{ConfError}
 use Rattle.jail_conf.specs.declared.settings.Settings.{Settings}
 use Rattle.log_set.specs.Logs.{Watching, next_look}
 use Rattle.reconcile.specs.Loads.{Loaded, loaded}
@@ -36,18 +35,23 @@ use Rattle.run_law.specs.Children.{checked_first, startable}
 use Rattle.run_law.specs.Clock.{tick_news}
 use Rattle.run_law.specs.Law.{feed, moved, turns}
 use Rattle.run_law.specs.Looks.{look_news, look_taken, looked, looked_at, now_is, unread_news}
-use Rattle.run_law.specs.News.{News, after_news, brings, server_after}
-use Rattle.run_law.specs.Paths.{Path, Naming, first_naming, named, with_paths}
-use Rattle.run_law.specs.Patterns.{Pattern, patterns_of}
+use Rattle.run_law.specs.News.{News, after_news, brings, refused, server_after}
+use Rattle.run_law.specs.Paths.{Path, Naming, first_naming, named}
+use Rattle.run_law.specs.Patterns.{Pattern}
 use Rattle.run_law.specs.Pause.{turned}
-use Rattle.run_law.specs.Points.{Place, AtClock, AtLook, AtPoll, AtKill, AtAccept, AtClient, AtClose, AtStart, AtPause, Point, AtTree, AtMakes, AtStore, AtListen, AtFirst, AtNames, AtTurn, Over, Run}
+use Rattle.run_law.specs.Points.{Place, AtClock, AtLook, AtPoll, AtKill, AtAccept, AtClient, AtClose, Rereading, OfTree, OfMakes, OfNames, AtReload, AtStart, AtPause, Point, AtTree, AtMakes, AtStore, AtListen, AtFirst, AtNames, AtTurn, Over, Run}
 use Rattle.run_law.specs.Polls.{end_news, ended_as, gone, gone_passed, has_succeeded, killed_at, polled_at, still_point}
-use Rattle.run_law.specs.Server.{Server, begun, is_stopping, jobs, lanes_up, log_jails, read_at}
-use Rattle.run_law.specs.Serving.{Onward, From, Behind, Service, point_on, serves, with_clients}
-use Rattle.run_law.specs.Start.{defined, first_turn, listened, loads, made, makes_on, names_in, start_news, to_makes, to_names, tree_read, unread_by}
+use Rattle.run_law.specs.Reading.{names_in, names_next, unread_by}
+use Rattle.run_law.specs.Reload.{left_for, names_for, reload_news, reloaded, reloads, taken_for, tells_taken, tells_untaken, untaken_for}
+use Rattle.run_law.specs.Server.{Server, begun, following, is_stopping, jobs, lanes_up, log_jails, read_at}
+use Rattle.run_law.specs.Serving.{Onward, From, Behind, Rereads, Service, point_on, serves, with_clients}
+use Rattle.run_law.specs.Start.{first_turn, left_to_make, listened, loads, makes_on, start_news, starts_with, to_makes, to_names, tree_read}
 use Rattle.run_law.specs.Starts.{child_started, with_child, without_child}
 use Rattle.run_law.specs.Turn.{at_pause, behind_client, client_place, is_drained, look_point, start_place, start_point, to_accept, to_children, to_clients, to_end, to_logs, to_looks, to_polls, to_starts}
+use Rattle.run_law.specs.declared.status.Status.{Status}
 use Rattle.run_law.specs.declared.status.Status.TheVariants.{Stopped}
+use Rattle.run_law.proofs.ReadingLemmas.{makes_by, names_by, tree_by}
+use Rattle.run_replies.specs.Replied.{taken, untaken}
 use Rattle.run_law.proofs.NewsLemmas.{brings_point, measured_point, piece_point, synced_point, wrote_point}
 
 -- a client stands at a place
@@ -72,20 +76,33 @@ IsNoTalk (GateWrite conn bytes answer) = ⊥
 IsNoTalk (GateClose conn) = ⊥
 IsNoTalk _ = Unit {0}
 
+-- what happened, if that is an input, leaves the clients as they are
+kept_after : (P : List Client → Type 0) (o : Option What) (s : Server) → P s.clients → P (server_after o s).clients
+kept_after P None s has = has
+kept_after P (Some what) s has = has
+
 -- ---- something that holds of the clients
 
-module _ (Q : List Client → Type 0) where
+-- something holds of the place of a client for which the turn goes on to read a configuration again
+abbrev pub IsThere : (ℕ → List Client → Type 0) → Onward → List Client → Type 0
+IsThere R (Rereads i) cs = R i cs
+IsThere R _ cs = Unit {0}
+
+-- something stays where the client is answered for which a configuration is read again
+abbrev pub IsStable : (List Client → Type 0) → Point → Type 0
+IsStable Q (AtTurn (AtReload reading i) s) = (given : Answer) → Q (changed_at i (answered given) s.clients)
+IsStable Q _ = Unit {0}
+
+-- Q is what holds of the clients, and R of the place of one for which a configuration is read again
+module _ (Q : List Client → Type 0) (R : ℕ → List Client → Type 0) where
   -- It holds at a point: before a first reading there are none, and when a run is over they are gone. One that is to be closed stands at its place.
   abbrev pub HasClients : Point → Type 0
   HasClients (AtTurn (AtClose i) s) = Q s.clients × Stands i s.clients
+  HasClients (AtTurn (AtReload reading i) s) = Q s.clients × R i s.clients
   HasClients (AtTurn place s) = Q s.clients
   HasClients (AtNames settings naming s) = Q s.clients
   HasClients (Over status) = Unit {0}
   HasClients _ = Q []
-
-  pub of_turn : (place : Place) (s : Server) → HasClients (AtTurn place s) → Q s.clients
-  of_turn (AtClose i) s has = has.0
-  of_turn _ s has = has
 
   has_if : (b : Bool) (p q : Point) → HasClients p → HasClients q → HasClients (cond b p q)
   has_if true p q at_true at_false = at_true
@@ -126,9 +143,10 @@ module _ (Q : List Client → Type 0) where
       by_over true is = (has, over_stands s.now i s.clients is)
       by_over false is = has_clients (i + 1) s has
 
-  has_onward : (o : Onward) (s : Server) → Q s.clients → HasClients (point_on o s)
-  has_onward (From i) s has = has_clients i s has
-  has_onward (Behind i) s has = has_behind i s has
+  has_onward : (o : Onward) (s : Server) → Q s.clients → IsThere R o s.clients → HasClients (point_on o s)
+  has_onward (From i) s has there = has_clients i s has
+  has_onward (Behind i) s has there = has_behind i s has
+  has_onward (Rereads i) s has there = (has, there)
 
   has_accept : (s : Server) → Q s.clients → HasClients (to_accept s)
   unfolding to_accept
@@ -166,37 +184,25 @@ module _ (Q : List Client → Type 0) where
 
   -- ---- what an event brings
 
-  has_after : (o : Option What) (s : Server) → Q s.clients → Q (server_after o s).clients
-  has_after None s has = has
-  has_after (Some what) s has = has
-
   has_brings : (news : News) (next : Server → Point) → ((t : Server) → Q t.clients → HasClients (next t)) → (s : Server) (r : Run) → Q s.clients → HasClients (brings news next s r).point
-  has_brings news next leads s r has = brings_point HasClients (λ need limit. tt) tt news next s r (leads (after_news news s) (has_after news.what s has))
+  has_brings news next leads s r has = brings_point HasClients (λ need limit. tt) tt news next s r (leads (after_news news s) (kept_after Q news.what s has))
 
   -- behind a call on a client
-  pub has_served : (x : Service) (s : Server) (r : Run) → Q x.clients → HasClients (serves x s r).point
-  has_served x s r has = has_brings x.news (point_on x.onward) (has_onward x.onward) (with_clients x.clients s) r has
+  pub has_served : (x : Service) (s : Server) (r : Run) → Q x.clients → IsThere R x.onward x.clients → HasClients (serves x s r).point
+  has_served x s r has there =
+      let t : Server = with_clients x.clients s in
+      brings_point HasClients (λ need limit. tt) tt x.news (point_on x.onward) t r
+      (has_onward x.onward (after_news x.news t) (kept_after Q x.news.what t has) (kept_after (IsThere R x.onward) x.news.what t there))
 
   -- ---- the start of a run
 
-  has_defined : (o : Result Settings ConfError) (r : Run) → Q [] → HasClients (defined o r).point
-  has_defined (Ok settings) r has = has_makes settings (patterns_of settings.defs) has
-  has_defined (Err error) r has = tt
-
   has_tree : (answer : TreeAnswer) (r : Run) → Q [] → HasClients r.point → HasClients (tree_read answer r).point
-  has_tree (Tree tree) r has same = has_defined (conf tree) r has
-  has_tree TreeFailed r has same = tt
-  has_tree TreeTooLarge r has same = tt
-  has_tree TreeNoMemory r has same = same
-
-  has_made : (answer : MakeAnswer) (settings : Settings) (p : Pattern) (ps : List Pattern) (r : Run) → Q [] → HasClients (made answer settings p ps r).point
-  has_made Built settings p ps r has = has_makes settings ps has
-  has_made WasSyntax settings p ps r has = tt
-  has_made WasTooBig settings p ps r has = tt
+  has_tree answer r has same =
+      tree_by (λ (x : Run). HasClients x.point) left_to_make (refused 0) r (λ settings ps. has_makes settings ps has) (λ status is. tt) same answer
 
   has_makes_on : (left : List Pattern) (answer : MakeAnswer) (settings : Settings) (r : Run) → Q [] → HasClients r.point → HasClients (makes_on left answer settings r).point
-  has_makes_on [] answer settings r has same = same
-  has_makes_on (p ∷ ps) answer settings r has same = has_made answer settings p ps r has
+  has_makes_on left answer settings r has same =
+      makes_by (λ (x : Run). HasClients x.point) left_to_make (refused 0) r (λ defined ps. has_makes defined ps has) (λ status is. tt) same left answer settings
 
   has_loads : (o : Result Loaded (ℕ × ℕ)) (settings : Settings) (r : Run) → Q [] → HasClients (loads o settings r).point
   has_loads (Ok l) settings r has = has
@@ -207,8 +213,37 @@ module _ (Q : List Client → Type 0) where
   has_listened ListenFailed settings l r has = tt
 
   has_names : (before : List (List ℕ)) (settings : Settings) (naming : Naming) (left : List Path) (s : Server) (r : Run) → Q s.clients → HasClients (to_names before settings naming left s r).point
-  has_names before settings naming [] s r has = has_brings (start_news before (with_paths settings.defs naming.found) s) first_turn (λ t is. is) s r has
-  has_names before settings naming (p ∷ ps) s r has = has_brings (record { before = before; what = None; behind = [] }) (AtNames settings naming) (λ t is. is) s r has
+  has_names before settings naming left s r has = names_by (λ (x : Run). HasClients x.point) AtNames starts_with s r
+      (λ lines defined at. has_brings (record { before = lines; what = None; behind = [] }) (AtNames defined at) (λ t is. is) s r has)
+      (λ lines defs. has_brings (start_news lines defs s) first_turn (λ t is. is) s r has) before settings naming left
+
+  -- ---- a reload
+
+  pub has_untaken : (status : Status) (i : ℕ) (s : Server) (r : Run) → Q (changed_at i (answered (untaken status)) s.clients) → HasClients (untaken_for i s status r).point
+  has_untaken status i s r has = has_served (tells_untaken status i s) s r has tt
+
+  pub has_taken : (before : List (List ℕ)) (defs : Defs) (i : ℕ) (s : Server) (r : Run) → Q (changed_at i (answered taken) s.clients) → HasClients (taken_for i before defs s r).point
+  has_taken before defs i s r has = has_brings (reload_news before defs s) (reloaded i) (λ t is. has_behind i (following t) is) (tells_taken i s) r has
+
+  -- that holds of the clients, also once the one at the place is answered
+  module _ (i : ℕ) (s : Server) (r : Run) (has : Q s.clients) (there : R i s.clients) (stable : (given : Answer) → Q (changed_at i (answered given) s.clients)) where
+    has_renames : (before : List (List ℕ)) (settings : Settings) (naming : Naming) (left : List Path) → HasClients (names_next (names_for i) (taken_for i) before settings naming left s r).point
+    has_renames before settings naming left = names_by (λ (x : Run). HasClients x.point) (names_for i) (taken_for i) s r
+        (λ lines defined at. brings_point HasClients (λ need limit. tt) tt (record { before = lines; what = None; behind = [] }) (names_for i defined at) s r (has, there))
+        (λ lines defs. has_taken lines defs i s r (stable taken)) before settings naming left
+
+    has_left : (settings : Settings) (ps : List Pattern) → HasClients (left_for i s settings ps r).point
+    has_left settings [] = has_renames [] settings (first_naming settings.defs) (first_naming settings.defs).left
+    has_left settings (p ∷ ps) = (has, there)
+
+    has_reloads : (reading : Rereading) (event : Event) → HasClients r.point → HasClients (reloads reading event i s r).point
+    has_reloads OfTree (Config root answer) same =
+        tree_by (λ (x : Run). HasClients x.point) (left_for i s) (untaken_for i s) r has_left (λ status is. has_untaken status i s r (stable (untaken status))) same answer
+    has_reloads (OfMakes settings left) (Make text answer) same =
+        makes_by (λ (x : Run). HasClients x.point) (left_for i s) (untaken_for i s) r has_left (λ status is. has_untaken status i s r (stable (untaken status))) same left answer settings
+    has_reloads (OfNames settings naming) (Names dir answer) same =
+        let next = named (names_in answer) naming in has_renames (unread_by answer s.now naming.left) settings next next.left
+    has_reloads _ _ same = same
 
   -- ---- a turn
 
@@ -241,36 +276,48 @@ module _ (Q : List Client → Type 0) where
   has_child StartFailed c s r has same = has_brings (end_news c NotStarted) to_starts has_starts (without_child c s) r has
   has_child StartNoMemory c s r has same = same
 
-  has_turns : (place : Place) (event : Event) (s : Server) (r : Run) → IsNoTalk event → Q s.clients → HasClients r.point → HasClients (turns place event s r).point
-  has_turns AtClock (Clock answer) s r none has same = has_brings (tick_news (read_at answer s)) to_logs has_logs (read_at answer s) r has
-  has_turns (AtLook i) (LookAt path head from max answer) s r none has same = has_looked_at (slice_get s.logs i) answer i s r has same
-  has_turns (AtPoll i) (ChildPoll job answer) s r none has same = has_polled (slice_get s.children.running i) answer i s r has same
-  has_turns (AtKill i) (ChildKill job) s r none has same = has_killed (slice_get s.children.running i) i s r has same
-  has_turns AtAccept (GateAccept answer) s r none has same = absurd none
-  has_turns (AtClient i) (GateRead conn max answer) s r none has same = absurd none
-  has_turns (AtClient i) (GateWrite conn bytes answer) s r none has same = absurd none
-  has_turns (AtClose i) (GateClose conn) s r none has same = absurd none
-  has_turns (AtStart c text) (ChildStart job command answer) s r none has same = has_child answer c s r has same
-  has_turns AtPause (Pause ms) s r none has same = has_turned (s.left - 1) s has
-  has_turns _ _ s r none has same = same
+  has_turns : (place : Place) (event : Event) (s : Server) (r : Run) → IsNoTalk event → HasClients (AtTurn place s) → IsStable Q (AtTurn place s) → HasClients r.point → HasClients (turns place event s r).point
+  has_turns AtClock (Clock answer) s r none has stable same = has_brings (tick_news (read_at answer s)) to_logs has_logs (read_at answer s) r has
+  has_turns (AtLook i) (LookAt path head from max answer) s r none has stable same = has_looked_at (slice_get s.logs i) answer i s r has same
+  has_turns (AtPoll i) (ChildPoll job answer) s r none has stable same = has_polled (slice_get s.children.running i) answer i s r has same
+  has_turns (AtKill i) (ChildKill job) s r none has stable same = has_killed (slice_get s.children.running i) i s r has same
+  has_turns AtAccept (GateAccept answer) s r none has stable same = absurd none
+  has_turns (AtClient i) (GateRead conn max answer) s r none has stable same = absurd none
+  has_turns (AtClient i) (GateWrite conn bytes answer) s r none has stable same = absurd none
+  has_turns (AtClose i) (GateClose conn) s r none has stable same = absurd none
+  has_turns (AtReload reading i) event s r none has stable same = has_reloads i s r has.0 has.1 stable reading event same
+  has_turns (AtStart c text) (ChildStart job command answer) s r none has stable same = has_child answer c s r has same
+  has_turns AtPause (Pause ms) s r none has stable same = has_turned (s.left - 1) s has
+  has_turns _ _ s r none has stable same = same
 
-  has_moved : (point : Point) (event : Event) (r : Run) → IsNoTalk event → HasClients point → HasClients r.point → HasClients (moved point event r).point
-  has_moved AtTree (Config root answer) r none has same = has_tree answer r has same
-  has_moved (AtMakes settings left) (Make text answer) r none has same = has_makes_on left answer settings r has same
-  has_moved (AtStore settings) (StoreAt socket answer) r none has same = has_loads (loaded r.plan.limit r.slots) settings r has
-  has_moved (AtListen settings l) (GateListen socket answer) r none has same = has_listened answer settings l r has
-  has_moved (AtFirst settings l) (Clock answer) r none has same = has_names [] settings (first_naming settings.defs) (first_naming settings.defs).left (begun r.plan.turns l answer) r has
-  has_moved (AtNames settings naming s) (Names dir answer) r none has same =
+  has_moved : (point : Point) (event : Event) (r : Run) → IsNoTalk event → HasClients point → IsStable Q point → HasClients r.point → HasClients (moved point event r).point
+  has_moved AtTree (Config root answer) r none has stable same = has_tree answer r has same
+  has_moved (AtMakes settings left) (Make text answer) r none has stable same = has_makes_on left answer settings r has same
+  has_moved (AtStore settings) (StoreAt socket answer) r none has stable same = has_loads (loaded r.plan.limit r.slots) settings r has
+  has_moved (AtListen settings l) (GateListen socket answer) r none has stable same = has_listened answer settings l r has
+  has_moved (AtFirst settings l) (Clock answer) r none has stable same =
+      has_names [] settings (first_naming settings.defs) (first_naming settings.defs).left (begun r.plan.turns l answer) r has
+  has_moved (AtNames settings naming s) (Names dir answer) r none has stable same =
       let next = named (names_in answer) naming in has_names (unread_by answer s.now naming.left) settings next next.left s r has
-  has_moved (AtTurn place s) event r none has same = has_turns place event s r none (of_turn place s has) same
-  has_moved _ _ r none has same = same
+  has_moved (AtTurn place s) event r none has stable same = has_turns place event s r none has stable same
+  has_moved _ _ r none has stable same = same
 
   -- whatever comes but a call on a client
-  pub has_fed : (r : Run) (event : Event) → IsNoTalk event → HasClients r.point → HasClients (feed r event).point
-  has_fed r (Say bytes Done) none same = same
-  has_fed r (Say bytes SayFailed) none same = tt
-  has_fed r (DiskLen slot answer) none same = measured_point HasClients tt r same answer
-  has_fed r (DiskRead slot at len answer) none same = piece_point HasClients tt r same answer
-  has_fed r (DiskWrite slot at bytes answer) none same = wrote_point HasClients tt r same answer
-  has_fed r (DiskSync slot answer) none same = synced_point HasClients tt r same answer
-  has_fed r event none same = has_moved r.point event r none same same
+  pub has_fed : (r : Run) (event : Event) → IsNoTalk event → IsStable Q r.point → HasClients r.point → HasClients (feed r event).point
+  has_fed r (Say bytes Done) none stable same = same
+  has_fed r (Say bytes SayFailed) none stable same = tt
+  has_fed r (DiskLen slot answer) none stable same = measured_point HasClients tt r same answer
+  has_fed r (DiskRead slot at len answer) none stable same = piece_point HasClients tt r same answer
+  has_fed r (DiskWrite slot at bytes answer) none stable same = wrote_point HasClients tt r same answer
+  has_fed r (DiskSync slot answer) none stable same = synced_point HasClients tt r same answer
+  has_fed r event none stable same = has_moved r.point event r none same stable same
+
+-- what holds of the clients says that something weaker does
+module _ (Q S : List Client → Type 0) (R T : ℕ → List Client → Type 0) (weaker : (cs : List Client) → Q cs → S cs) (other : (i : ℕ) (cs : List Client) → R i cs → T i cs) where
+  pub has_weaker : (point : Point) → HasClients Q R point → HasClients S T point
+  has_weaker (AtTurn (AtClose i) s) has = (weaker s.clients has.0, has.1)
+  has_weaker (AtTurn (AtReload reading i) s) has = (weaker s.clients has.0, other i s.clients has.1)
+  has_weaker (AtTurn place s) has = weaker s.clients has
+  has_weaker (AtNames settings naming s) has = weaker s.clients has
+  has_weaker (Over status) has = tt
+  has_weaker point has = weaker [] has

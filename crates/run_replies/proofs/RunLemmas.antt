@@ -1,5 +1,5 @@
 -- From the law alone: each client of a run is replied what the model does, in order.
-use Rattle.std.proofs.Common.{ℕ, ◌≡◌, false, List, [], ◌∷◌, ◌++◌, Option, Some, None, refl, sym, ap, ◌∙◌, subst, append_assoc, append-nil}
+use Rattle.std.proofs.Common.{ℕ, ◌≡◌, inl, inr, false, List, [], ◌∷◌, ◌++◌, Option, Some, None, refl, sym, ap, ◌∙◌, subst, append_assoc, append-nil}
 use Rattle.std.proofs.lemmas.Bool.{or_parts}
 use Rattle.client_table.specs.Clients.{Client, accepted}
 use Rattle.f2b_world.specs.Told.{History, connected_after, grown, is_in}
@@ -16,14 +16,14 @@ use Rattle.run_law.specs.Server.{Server}
 use Rattle.run_law.specs.Serving.{lets_in}
 use Rattle.run_law.specs.Words.{plan_of}
 use Rattle.run_law.specs.declared.plan.Plan.{Plan}
-use Rattle.run_replies.specs.Replied.{IsReplied, RepliesInOrder}
+use Rattle.run_replies.specs.Replied.{IsReplied, RepliesInOrder, waiting}
 use Rattle.run_replies.specs.Talks.{closes_it, is_closed}
 use Rattle.run_replies.proofs.CallLemmas.{accepts_at}
 use Rattle.run_replies.proofs.LifeLemmas.{lived_none, lived_replied}
-use Rattle.run_replies.proofs.NumberLemmas.{AreNumbered, client_of, none_of, own_added}
+use Rattle.run_replies.proofs.NumberLemmas.{AreNumbered, none_of, own_added}
 use Rattle.run_replies.proofs.PlaceLemmas.{HasClients, has_served}
-use Rattle.run_replies.proofs.InUseLemmas.{Numbered, numbered_on}
-use Rattle.run_replies.proofs.WalkLemmas.{Lives, lives_on}
+use Rattle.run_replies.proofs.InUseLemmas.{HasNumbers, Numbered, numbered_on}
+use Rattle.run_replies.proofs.WalkLemmas.{Goes, IsOther, Lives, Of, lives_on, one_waiting, settled_waiting}
 
 -- ---- the parts of a walk
 
@@ -53,28 +53,40 @@ module _ (words : List (List ℕ)) (slots : ℕ → List ℕ) (conn : ℕ) where
       → Lives words slots conn (before ++ GateAccept (Conn conn) ∷ []) [] (grown g (GateAccept (Conn conn) ∷ [])) (feed (run_after words slots before) (GateAccept (Conn conn)))
   accepted_lives before g comes are =
       let event : Event = GateAccept (Conn conn) in
+      let start : List Event = before ++ event ∷ [] in
       let r : Run = run_after words slots before in
       let used : List ℕ = connected_after [] g.events in
       let there = accepts_at r (Conn conn) comes.allowed in
       let s : Server = there.server in
       let next : Client = accepted conn s.now in
-      let here : AreNumbered used s.clients = subst (λ (p : Point). HasClients (AreNumbered used) p) there.at are in
+      let here : AreNumbered used s.clients = subst (λ (p : Point). HasNumbers used p) there.at are in
       let new : is_in conn used ≡ false = comes.honest in
-      let of : List Client → Type 0 = λ cs. client_of conn cs ≡ Some next in
+      let of : List Client → Type 0 = Of words slots conn start next in
+      let other : ℕ → List Client → Type 0 = IsOther words slots conn start in
       record {
         numbers = numbered_on g r event comes are;
-        client = next;
-        here = subst (λ (p : Point). HasClients of (moved p event r).point) (sym there.at)
-            (has_served of (lets_in (Conn conn) s) s r (own_added next conn s.clients (none_of used conn s.clients here new) refl));
-        lived = lived_none words slots conn (before ++ event ∷ []);
+        goes = inl (record {
+          client = next;
+          here = subst (λ (p : Point). HasClients of other (moved p event r).point) (sym there.at)
+              (has_served of other (lets_in (Conn conn) s) s r (own_added next conn s.clients (none_of used conn s.clients here new) refl) tt);
+          lived = lived_none words slots conn start;
+        });
       }
+
+  -- so it is replied
+  goes_replied : (start life : List Event) (r : Run) → r ≡ run_after words slots (start ++ life) → Goes words slots conn start life r → IsReplied words slots conn start life
+  goes_replied start life r is (inl settled) =
+      let c : Client = settled.client in
+      lived_replied words slots conn start life c.hearing.came c.hearing.refused c.unwritten 0
+      (ap (λ (q : Run). waiting conn q.point) (sym is) ∙ settled_waiting words slots conn start c r.point settled.here) settled.lived
+  goes_replied start life r is (inr w) =
+      lived_replied words slots conn start life w.client.hearing.came false [] 1 (ap (λ (q : Run). waiting conn q.point) (sym is) ∙ one_waiting words slots conn start life r w) w.waits.lived
 
   -- as long as it is not closed
   life_replied : (start xs later life : List Event) (g : History) (r : Run) → r ≡ run_after words slots (start ++ life) → Along feed MayCome Free r g (xs ++ later)
       → is_closed conn xs ≡ false → Lives words slots conn start life g r → IsReplied words slots conn start (life ++ xs)
   life_replied start [] later life g r is along stays lives =
-      let c : Client = lives.client in
-      subst (λ (es : List Event). IsReplied words slots conn start es) (sym (append-nil life)) (lived_replied words slots conn start life c.hearing.came c.hearing.refused c.unwritten lives.lived)
+      subst (λ (es : List Event). IsReplied words slots conn start es) (sym (append-nil life)) (goes_replied start life r is lives.goes)
   life_replied start (x ∷ xs) later life g r is along stays lives =
       let parts = or_parts (closes_it conn x) (is_closed conn xs) stays in
       let next : feed r x ≡ run_after words slots (start ++ (life ++ x ∷ [])) =

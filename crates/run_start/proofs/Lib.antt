@@ -5,6 +5,8 @@ pub mod FoundLemmas
 pub mod ListingLemmas
 pub mod JailLemmas
 pub mod WalkLemmas
+pub mod NamesLemmas
+pub mod ConfigureLemmas
 pub mod BeginLemmas
 pub mod FollowLemmas
 pub mod DirectoryLemmas

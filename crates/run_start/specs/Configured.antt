@@ -1,21 +1,15 @@
--- The configuration as an input, at the end of the walk over its paths.
-use Rattle.std.specs.Prelude.{◌≡◌, Bool, true, false, Option, Some, None, map}
+-- A configuration as an input, with the paths that were found.
+use Rattle.std.specs.Prelude.{ℕ, ◌≡◌, Bool, true, false, List, Option, Some, None, map}
 use Rattle.f2b_base.specs.declared.input.What.{What}
 use Rattle.f2b_base.specs.declared.input.What.TheVariants.{Config}
 use Rattle.f2b_base.specs.declared.jail.Defs.{Defs}
 use Rattle.f2b_model.specs.Lists.{AllOf}
 use Rattle.f2b_model.specs.Whole.{Now}
 use Rattle.f2b_model.specs.declared.jail_now.JailNow.{JailNow}
-use Rattle.f2b_world.specs.Told.{Standing}
-use Rattle.jail_conf.specs.declared.settings.Settings.{Settings}
 use Rattle.run_law.specs.Changes.{config_changes}
-use Rattle.run_law.specs.Points.{Run}
+use Rattle.run_law.specs.News.{News}
+use Rattle.run_law.specs.Reading.{config_news}
 use Rattle.run_law.specs.Server.{Server}
-use Rattle.run_law.specs.Stages.{IsStill}
-use Rattle.run_law.specs.declared.plan.Plan.{Plan}
-use Rattle.run_start.specs.First.{Begun}
-use Rattle.run_start.specs.Walks.{KeepsBegun, walking}
-use Rattle.run_start.specs.declared.walk.PathWalk.{PathWalk}
 use Rattle.run_steps.specs.Keeping.{KeepsClocked}
 use Rattle.run_steps.specs.declared.clocked.Clocked.{Clocked}
 
@@ -28,6 +22,10 @@ input_if false defs = None
 pub record TellsInput (kept : Clocked) (defs : Defs) (what : Option What) : Type 0 where
   pub tells : (s : Server) → KeepsClocked s kept → what ≡ input_if (config_changes s.state defs) defs
 
+-- the configuration between these lines
+abbrev pub configuring : List (List ℕ) → Defs → List (List ℕ) → Server → News
+configuring before defs behind s = config_news (config_changes s.state defs) before defs behind
+
 -- the jails are those of the definitions, and none is idle
 pub record HasJails (defs : Defs) (n : Now) : Type 0 where
   pub definitions : map (λ (j : JailNow). j.definition) n.jails.jails ≡ defs.jails
@@ -37,7 +35,3 @@ pub record HasJails (defs : Defs) (n : Now) : Type 0 where
 abbrev pub IsConfiguring : Defs → Now → Option What → Type 0
 IsConfiguring defs n (Some what) = what ≡ Config defs
 IsConfiguring defs n None = HasJails defs n
-
--- from the end of the walk to the first turn
-pub record Configures (old new : Standing) (settings : Settings) (walk : PathWalk) (after : Clocked) : Type 0 where
-  pub runs : (plan : Plan) (here : Run) (s : Server) → IsStill here → KeepsBegun plan s walk.clocked → Begun old new plan settings (walking settings walk s here) after

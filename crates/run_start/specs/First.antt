@@ -10,11 +10,13 @@ use Rattle.run_law.specs.Law.{Goes, Halts}
 use Rattle.run_law.specs.Paths.{Path, with_paths}
 use Rattle.run_law.specs.Points.{AtFirst, Run}
 use Rattle.run_law.specs.Server.{Server, jails}
-use Rattle.run_law.specs.Stages.{IsAt}
-use Rattle.run_law.specs.Start.{first_turn}
+use Rattle.run_law.specs.Stages.{IsAt, IsStill}
+use Rattle.run_law.specs.Start.{first_turn, starts_with}
 use Rattle.run_law.specs.declared.plan.Plan.{Plan}
 use Rattle.run_law.specs.declared.status.Status.{Status}
 use Rattle.run_start.specs.Followed.{AreAwake}
+use Rattle.run_start.specs.Names.{HasFound}
+use Rattle.run_start.specs.declared.named.Named.{Named}
 use Rattle.run_steps.specs.Keeping.{KeepsClocked}
 use Rattle.run_steps.specs.Starting.{KeepsLoaded}
 use Rattle.run_steps.specs.declared.clocked.Clocked.{Clocked}
@@ -37,6 +39,23 @@ pub record Begun (old new : Standing) (plan : Plan) (settings : Settings) (r : R
   pub goes : Goes old.told new.told r to
   pub at : IsAt to (first_turn server)
   pub keeps : KeepsFirst plan settings server kept
+
+-- what the code keeps of a server to which nothing happened since it was loaded
+pub record KeepsBegun (plan : Plan) (s : Server) (kept : Clocked) : Type 0 where
+  pub clocked : KeepsClocked s kept
+  pub logs : s.logs ≡ []
+  pub children : s.children ≡ nobody
+  pub clients : s.clients ≡ []
+  pub left : s.left ≡ plan.turns
+
+-- from where all paths are found to the first turn
+pub record Configures (old new : Standing) (named : Named) (after : Clocked) : Type 0 where
+  pub runs : (plan : Plan) (settings : Settings) (here : Run) (s : Server) → IsStill here → HasFound settings.defs named.defs → KeepsBegun plan s named.clocked
+      → Begun old new plan settings (starts_with named.before named.defs s here) after
+
+-- the run ends on the way
+pub record ConfigureFails (old new : Standing) (named : Named) (status : Status) : Type 0 where
+  pub runs : (here : Run) (s : Server) → IsStill here → KeepsClocked s named.clocked → Halts old.told new.told (starts_with named.before named.defs s here) status
 
 -- from the first reading of the clock to the first turn, where the engine is what was loaded
 pub record Begins (old new : Standing) (plan : Plan) (settings : Settings) (engine : EngineNow) (kept : Clocked) : Type 0 where

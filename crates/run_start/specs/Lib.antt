@@ -4,5 +4,6 @@ pub mod First
 pub mod Followed
 pub mod Found
 pub mod Listings
+pub mod Names
 pub mod Read
 pub mod Walks

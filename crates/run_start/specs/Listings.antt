@@ -5,7 +5,7 @@ use Rattle.f2b_world.specs.declared.answer.NamesAnswer.{NamesAnswer}
 use Rattle.f2b_world.specs.declared.answer.NamesAnswer.TheVariants.{Failed as NamesFailed, NoMemory as NamesNoMemory}
 use Rattle.f2b_world.specs.declared.event.Event.TheVariants.{Names}
 use Rattle.run_law.specs.Paths.{Path, directory}
-use Rattle.run_law.specs.Start.{names_in, unread_by}
+use Rattle.run_law.specs.Reading.{names_in, unread_by}
 use Rattle.run_start.specs.declared.listing.Listing.{Listing}
 
 -- the directory of the path was asked for its names

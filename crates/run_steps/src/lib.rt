@@ -20,7 +20,8 @@ mod taking;
 mod told;
 
 pub use clocked::Clocked;
-pub use line::{ready_line, rotated_line, stopping_line, unread_line};
+pub use line::{ready_line, reloaded_line, rotated_line, stopping_line, unread_line};
+pub use refusal::{error_line, untaken_text};
 pub use running::Running;
 pub use say::{refuse, say_all};
 pub use taking::bring;

@@ -2,7 +2,7 @@
 ghost use Rattle.std.specs.Prelude.{◌≡◌, ◌++◌, IfOk, OnOk, codes};
 ghost use Rattle.std.specs.Fmt.{decimal};
 ghost use Rattle.f2b_base.specs.Addresses.{printed};
-ghost use Rattle.run_law.specs.Said.{stamped, ready_line, stopping_line, happening_text, line_of, rotated_line, unread_line};
+ghost use Rattle.run_law.specs.Said.{stamped, ready_line, reloaded_line, stopping_line, happening_text, line_of, rotated_line, unread_line};
 
 use f2b_base::{Addr, Bytes, NoMemory, Text};
 use f2b_model::Happening;
@@ -47,6 +47,14 @@ pub fn stopping_line(alloc: Global, now: u64) -> Result<Bytes, NoMemory>
     ensures { IfOk result (λ line. line ≡ stopping_line now) }
 {
     stamped(alloc, now, b"INFO Stopping")
+}
+
+/// That a configuration was read again and is taken.
+#[tactic(auto, unfolding(run_law::specs::Said::reloaded_line))]
+pub fn reloaded_line(alloc: Global, now: u64) -> Result<Bytes, NoMemory>
+    ensures { IfOk result (λ line. line ≡ reloaded_line now) }
+{
+    stamped(alloc, now, b"INFO Reloaded")
 }
 
 fn push_addr(text: &mut Bytes, addr: &Addr) -> Result<(), NoMemory>

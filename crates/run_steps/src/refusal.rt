@@ -1,7 +1,7 @@
-//! The line that stands before the end of a run that was refused.
+//! What went wrong, as a text: in the line before the end of a run that was refused, and of a configuration that is not taken.
 ghost use Rattle.std.specs.Prelude.{◌≡◌, ◌++◌, IfOk, OnOk};
 ghost use Rattle.std.specs.Fmt.{decimal};
-ghost use Rattle.run_law.specs.Refusals.{place_text, build_text, pattern_refusal, ini_text, kind_text, conf_refusal, status_text, error_line, error_lines, status_lines};
+ghost use Rattle.run_law.specs.Refusals.{place_text, build_text, pattern_refusal, ini_text, kind_text, conf_refusal, status_text, untaken_text, error_line, error_lines, status_lines};
 
 use crate::line::stamped;
 use f2b_base::{Bytes, NoMemory, Seq, Text};
@@ -12,46 +12,46 @@ use run_law::Status;
 use std::alloc::Global;
 
 // A number behind what stands there.
-fn push_number(text: &mut Bytes, alloc: Global, number: u64) -> Result<(), NoMemory>
+fn push_number(text: &mut Text, alloc: Global, number: u64) -> Result<(), NoMemory>
     ensures { OnOk result (text.new ≡ text.old ++ decimal number) }
 {
     let digits = format!(in alloc; "{number}")?;
-    text.push_slice(digits.as_bytes())
+    text.push_str(digits.as_str())
 }
 
-fn numbered(alloc: Global, kind: &[u8], number: u64) -> Result<Bytes, NoMemory>
+fn numbered(alloc: Global, kind: &str, number: u64) -> Result<Text, NoMemory>
     ensures { IfOk result (λ text. text ≡ kind.now ++ decimal number) }
 {
-    let mut text = Bytes::from_slice(alloc, kind)?;
+    let mut text = Text::from_str(alloc, kind)?;
     push_number(&mut text, alloc, number)?;
     Ok(text)
 }
 
-fn named(alloc: Global, kind: &[u8], name: &Text) -> Result<Bytes, NoMemory>
+fn named(alloc: Global, kind: &str, name: &Text) -> Result<Text, NoMemory>
     ensures { IfOk result (λ text. text ≡ kind.now ++ name.now) }
 {
-    let mut text = Bytes::from_slice(alloc, kind)?;
-    text.push_slice(name.as_str().as_bytes())?;
+    let mut text = Text::from_str(alloc, kind)?;
+    text.push_str(name.as_str())?;
     Ok(text)
 }
 
-fn place_text(alloc: Global, place: PatternPlace) -> Result<Bytes, NoMemory>
+fn place_text(alloc: Global, place: PatternPlace) -> Result<Text, NoMemory>
     ensures { IfOk result (λ text. text ≡ place_text place) }
 {
     match place {
-        PatternPlace::Date => Bytes::from_slice(alloc, b"datepattern"),
-        PatternPlace::Pref => Bytes::from_slice(alloc, b"prefregex"),
-        PatternPlace::Fail(number) => numbered(alloc, b"failregex ", u64::from(number)),
-        PatternPlace::Ignore(number) => numbered(alloc, b"ignoreregex ", u64::from(number)),
+        PatternPlace::Date => Text::from_str(alloc, "datepattern"),
+        PatternPlace::Pref => Text::from_str(alloc, "prefregex"),
+        PatternPlace::Fail(number) => numbered(alloc, "failregex ", u64::from(number)),
+        PatternPlace::Ignore(number) => numbered(alloc, "ignoreregex ", u64::from(number)),
     }
 }
 
-fn build_text(kind: BuildKind) -> &'static [u8]
+fn build_text(kind: BuildKind) -> &'static str
     ensures { result.now ≡ build_text kind }
 {
     match kind {
-        BuildKind::Syntax => b"Syntax",
-        BuildKind::TooBig => b"TooBig",
+        BuildKind::Syntax => "Syntax",
+        BuildKind::TooBig => "TooBig",
     }
 }
 
@@ -61,127 +61,137 @@ fn pattern_refusal(
     jail: &Text,
     place: PatternPlace,
     kind: BuildKind,
-) -> Result<Bytes, NoMemory>
+) -> Result<Text, NoMemory>
     ensures { IfOk result (λ text. text ≡ pattern_refusal jail.now place kind) }
 {
     let place = place_text(alloc, place)?;
-    let mut text = Bytes::from_slice(alloc, b"Pattern refused: ")?;
-    text.push_slice(jail.as_str().as_bytes())?;
-    text.push_slice(b" ")?;
-    text.push_slice(place.as_slice())?;
-    text.push_slice(b" ")?;
-    text.push_slice(build_text(kind))?;
+    let mut text = Text::from_str(alloc, "Pattern refused: ")?;
+    text.push_str(jail.as_str())?;
+    text.push_str(" ")?;
+    text.push_str(place.as_str())?;
+    text.push_str(" ")?;
+    text.push_str(build_text(kind))?;
     Ok(text)
 }
 
-fn ini_text(alloc: Global, error: IniError) -> Result<Bytes, NoMemory>
+fn ini_text(alloc: Global, error: IniError) -> Result<Text, NoMemory>
     ensures { IfOk result (λ text. text ≡ ini_text error) }
 {
     match error {
-        IniError::NoSection(line) => numbered(alloc, b"NoSection ", line),
-        IniError::NoDelimiter(line) => numbered(alloc, b"NoDelimiter ", line),
-        IniError::Indent(line) => numbered(alloc, b"Indent ", line),
-        IniError::NotUtf8(at) => numbered(alloc, b"NotUtf8 ", at),
-        IniError::NoMemory => Bytes::from_slice(alloc, b"NoMemory"),
+        IniError::NoSection(line) => numbered(alloc, "NoSection ", line),
+        IniError::NoDelimiter(line) => numbered(alloc, "NoDelimiter ", line),
+        IniError::Indent(line) => numbered(alloc, "Indent ", line),
+        IniError::NotUtf8(at) => numbered(alloc, "NotUtf8 ", at),
+        IniError::NoMemory => Text::from_str(alloc, "NoMemory"),
     }
 }
 
 // A kind by its name, and behind it what it carries; a fault of a file stands for itself.
-fn kind_text(alloc: Global, kind: &ConfKind) -> Result<Bytes, NoMemory>
+fn kind_text(alloc: Global, kind: &ConfKind) -> Result<Text, NoMemory>
     ensures { IfOk result (λ text. text ≡ kind_text kind.now) }
 {
     match kind {
         ConfKind::Ini(error) => ini_text(alloc, *error),
-        ConfKind::MissingInclude(path) => named(alloc, b"MissingInclude ", path),
-        ConfKind::Missing(name) => named(alloc, b"Missing ", name),
-        ConfKind::TooDeep(name) => named(alloc, b"TooDeep ", name),
-        ConfKind::BadPercent(at) => numbered(alloc, b"BadPercent ", *at),
-        ConfKind::IncludeLoop => Bytes::from_slice(alloc, b"IncludeLoop"),
-        ConfKind::BadName => Bytes::from_slice(alloc, b"BadName"),
-        ConfKind::BadBool => Bytes::from_slice(alloc, b"BadBool"),
-        ConfKind::BadOptions => Bytes::from_slice(alloc, b"BadOptions"),
-        ConfKind::MissingFile => Bytes::from_slice(alloc, b"MissingFile"),
-        ConfKind::BadGlob => Bytes::from_slice(alloc, b"BadGlob"),
-        ConfKind::BadZone => Bytes::from_slice(alloc, b"BadZone"),
-        ConfKind::BadDate => Bytes::from_slice(alloc, b"BadDate"),
-        ConfKind::BadTag => Bytes::from_slice(alloc, b"BadTag"),
-        ConfKind::NoHost => Bytes::from_slice(alloc, b"NoHost"),
-        ConfKind::TwoHosts => Bytes::from_slice(alloc, b"TwoHosts"),
-        ConfKind::BadAddress => Bytes::from_slice(alloc, b"BadAddress"),
-        ConfKind::BadTime => Bytes::from_slice(alloc, b"BadTime"),
-        ConfKind::BadNumber => Bytes::from_slice(alloc, b"BadNumber"),
-        ConfKind::Unsupported => Bytes::from_slice(alloc, b"Unsupported"),
-        ConfKind::DoubleAction => Bytes::from_slice(alloc, b"DoubleAction"),
-        ConfKind::TooMany => Bytes::from_slice(alloc, b"TooMany"),
+        ConfKind::MissingInclude(path) => named(alloc, "MissingInclude ", path),
+        ConfKind::Missing(name) => named(alloc, "Missing ", name),
+        ConfKind::TooDeep(name) => named(alloc, "TooDeep ", name),
+        ConfKind::BadPercent(at) => numbered(alloc, "BadPercent ", *at),
+        ConfKind::IncludeLoop => Text::from_str(alloc, "IncludeLoop"),
+        ConfKind::BadName => Text::from_str(alloc, "BadName"),
+        ConfKind::BadBool => Text::from_str(alloc, "BadBool"),
+        ConfKind::BadOptions => Text::from_str(alloc, "BadOptions"),
+        ConfKind::MissingFile => Text::from_str(alloc, "MissingFile"),
+        ConfKind::BadGlob => Text::from_str(alloc, "BadGlob"),
+        ConfKind::BadZone => Text::from_str(alloc, "BadZone"),
+        ConfKind::BadDate => Text::from_str(alloc, "BadDate"),
+        ConfKind::BadTag => Text::from_str(alloc, "BadTag"),
+        ConfKind::NoHost => Text::from_str(alloc, "NoHost"),
+        ConfKind::TwoHosts => Text::from_str(alloc, "TwoHosts"),
+        ConfKind::BadAddress => Text::from_str(alloc, "BadAddress"),
+        ConfKind::BadTime => Text::from_str(alloc, "BadTime"),
+        ConfKind::BadNumber => Text::from_str(alloc, "BadNumber"),
+        ConfKind::Unsupported => Text::from_str(alloc, "Unsupported"),
+        ConfKind::DoubleAction => Text::from_str(alloc, "DoubleAction"),
+        ConfKind::TooMany => Text::from_str(alloc, "TooMany"),
     }
 }
 
 #[tactic(auto, unfolding(run_law::specs::Refusals::conf_refusal))]
-fn conf_refusal(alloc: Global, error: &ConfError) -> Result<Bytes, NoMemory>
+fn conf_refusal(alloc: Global, error: &ConfError) -> Result<Text, NoMemory>
     ensures { IfOk result (λ text. text ≡ conf_refusal error.now) }
 {
     let kind = kind_text(alloc, &error.kind)?;
-    let mut text = Bytes::from_slice(alloc, b"Configuration refused: ")?;
-    text.push_slice(error.file.as_str().as_bytes())?;
-    text.push_slice(b" [")?;
-    text.push_slice(error.section.as_str().as_bytes())?;
-    text.push_slice(b"] ")?;
-    text.push_slice(error.name.as_str().as_bytes())?;
-    text.push_slice(b": ")?;
-    text.push_slice(kind.as_slice())?;
+    let mut text = Text::from_str(alloc, "Configuration refused: ")?;
+    text.push_str(error.file.as_str())?;
+    text.push_str(" [")?;
+    text.push_str(error.section.as_str())?;
+    text.push_str("] ")?;
+    text.push_str(error.name.as_str())?;
+    text.push_str(": ")?;
+    text.push_str(kind.as_str())?;
     Ok(text)
 }
 
 // Two numbers, each behind a text.
 fn two_numbers(
     alloc: Global,
-    front: &[u8],
+    front: &str,
     first: u64,
-    between: &[u8],
+    between: &str,
     second: u64,
-) -> Result<Bytes, NoMemory>
+) -> Result<Text, NoMemory>
     ensures { IfOk result (λ text. text ≡ front.now ++ decimal first ++ between.now ++ decimal second) }
 {
     let mut text = numbered(alloc, front, first)?;
-    text.push_slice(between)?;
+    text.push_str(between)?;
     push_number(&mut text, alloc, second)?;
     Ok(text)
 }
 
 // The text of a status that has one; of another one none.
-fn status_text(alloc: Global, status: &Status) -> Result<Option<Bytes>, NoMemory>
+fn status_text(alloc: Global, status: &Status) -> Result<Option<Text>, NoMemory>
     ensures { IfOk result (λ text. text ≡ status_text status.now) }
 {
     let text = match status {
         Status::Stopped | Status::TurnsSpent | Status::WorkloadDone => return Ok(None),
         Status::SinkFault | Status::NoMemory => return Ok(None),
-        Status::Usage => Bytes::from_slice(alloc, b"usage"),
-        Status::ConfFault => Bytes::from_slice(alloc, b"configuration not read"),
+        Status::Usage => Text::from_str(alloc, "usage"),
+        Status::ConfFault => Text::from_str(alloc, "configuration not read"),
         Status::ConfRefused(error) => conf_refusal(alloc, error),
-        Status::DiskFault => Bytes::from_slice(alloc, b"disk"),
+        Status::DiskFault => Text::from_str(alloc, "disk"),
         Status::NotAJournal { slot, at } => {
-            two_numbers(
-                alloc,
-                b"not a journal: slot ",
-                u64::from(*slot),
-                b" at ",
-                *at,
-            )
+            two_numbers(alloc, "not a journal: slot ", u64::from(*slot), " at ", *at)
         }
         Status::JournalFull { need, limit } => {
-            two_numbers(alloc, b"journal full: ", *need, b" of ", *limit)
+            two_numbers(alloc, "journal full: ", *need, " of ", *limit)
         }
-        Status::GateFault => Bytes::from_slice(alloc, b"socket"),
-        Status::ConfTooLarge => Bytes::from_slice(alloc, b"Configuration too large"),
+        Status::GateFault => Text::from_str(alloc, "socket"),
+        Status::ConfTooLarge => Text::from_str(alloc, "Configuration too large"),
         Status::PatternRefused { jail, place, kind } => pattern_refusal(alloc, jail, *place, *kind),
-        Status::NumbersSpent => Bytes::from_slice(alloc, b"numbers spent"),
+        Status::NumbersSpent => Text::from_str(alloc, "numbers spent"),
     }?;
     Ok(Some(text))
 }
 
-// A text that says what went wrong, as a line.
+/// Why a configuration that was read again is not taken, as its client is told.
+pub fn untaken_text(alloc: Global, status: &Status) -> Result<Text, NoMemory>
+    ensures { IfOk result (λ text. text ≡ untaken_text status.now) }
+{
+    match status {
+        Status::ConfFault => Text::from_str(alloc, "Configuration not read"),
+        Status::ConfTooLarge => Text::from_str(alloc, "Configuration too large"),
+        Status::ConfRefused(error) => conf_refusal(alloc, error),
+        Status::PatternRefused { jail, place, kind } => pattern_refusal(alloc, jail, *place, *kind),
+        Status::Stopped | Status::TurnsSpent | Status::WorkloadDone => Ok(Text::new(alloc)),
+        Status::Usage | Status::DiskFault | Status::NotAJournal { .. } => Ok(Text::new(alloc)),
+        Status::JournalFull { .. } | Status::GateFault => Ok(Text::new(alloc)),
+        Status::SinkFault | Status::NumbersSpent | Status::NoMemory => Ok(Text::new(alloc)),
+    }
+}
+
+/// A text that says what went wrong, as a line of this second.
 #[tactic(auto, unfolding(run_law::specs::Refusals::error_line))]
-fn error_line(alloc: Global, now: u64, text: &[u8]) -> Result<Bytes, NoMemory>
+pub fn error_line(alloc: Global, now: u64, text: &[u8]) -> Result<Bytes, NoMemory>
     ensures { IfOk result (λ line. line ≡ error_line now text.now) }
 {
     let mut error = Bytes::from_slice(alloc, b"ERROR ")?;
@@ -196,7 +206,7 @@ pub fn status_lines(alloc: Global, now: u64, status: &Status) -> Result<Seq<Byte
 {
     let mut lines = Seq::new(alloc);
     if let Some(text) = status_text(alloc, status)? {
-        lines.push(error_line(alloc, now, text.as_slice())?)?;
+        lines.push(error_line(alloc, now, text.as_str().as_bytes())?)?;
     }
     Ok(lines)
 }

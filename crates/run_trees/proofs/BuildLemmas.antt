@@ -1,4 +1,4 @@
--- The patterns of a jail are built, one call after another, up to the first that is not built.
+-- The patterns of a jail are built, one call after another, up to the first that is not built, whoever reads its configuration.
 use Rattle.std.proofs.Common.{ℕ, zero, suc, ◌≡◌, ◌++◌, List, [], ◌∷◌, map, take, drop, Option, Some, None, Result, Ok, Err, refl, sym, ap, ◌∙◌, append_assoc, subst, arith}
 use Rattle.std.specs.Prelude.{Contains}
 use Rattle.std.specs.List.{flat_map}
@@ -8,6 +8,7 @@ use Rattle.f2b_base.specs.declared.jail.JailDef.{JailDef}
 use Rattle.f2b_model.specs.Lists.{AllOf}
 use Rattle.f2b_world.specs.Told.{History, Standing, Adds, grown}
 use Rattle.f2b_world.specs.Walks.{after, Along}
+use Rattle.f2b_world.specs.declared.answer.MakeAnswer.{MakeAnswer}
 use Rattle.f2b_world.specs.declared.answer.MakeAnswer.TheVariants.{Built as WasBuilt}
 use Rattle.f2b_world.specs.declared.event.Event.{Event}
 use Rattle.f2b_world.specs.declared.event.Event.TheVariants.{Make}
@@ -24,21 +25,19 @@ use Rattle.filter_regex.specs.declared.error.PatternPlace.{PatternPlace}
 use Rattle.jail_conf.specs.declared.settings.Settings.{Settings}
 use Rattle.reconcile.specs.Laws.{ChangesNoSlot}
 use Rattle.run_law.specs.Calls.{Call, AskMake, IsNext}
-use Rattle.run_law.specs.Law.{Free, Goes, Halts, MayCome, feed, moved, next_call}
-use Rattle.run_law.specs.News.{goes_to, refused}
+use Rattle.run_law.specs.Law.{Free, Goes, Halts, MayCome, feed, next_call}
+use Rattle.run_law.specs.News.{goes_to}
 use Rattle.run_law.specs.Patterns.{Pattern, pattern_in, patterns_of_jail}
 use Rattle.run_law.specs.Points.{Point, Run}
-use Rattle.run_law.specs.Stages.{HasCause, IsAt, IsRefusedAs, IsSteady, Refuses}
-use Rattle.run_law.specs.Start.{to_makes}
-use Rattle.run_law.specs.declared.status.Status.{Status}
+use Rattle.run_law.specs.Readers.{Reader}
+use Rattle.run_law.specs.Reading.{makes_one}
+use Rattle.run_law.specs.Stages.{HasCause, IsStill, IsSteady}
 use Rattle.run_law.specs.declared.status.Status.TheVariants.{PatternRefused, NoMemory}
-use Rattle.run_law.proofs.CauseLemmas.{refused_cause}
-use Rattle.run_law.proofs.DiskLemmas.{may_beside, next_beside}
 use Rattle.run_law.proofs.LongLemmas.{goes_on}
-use Rattle.run_law.proofs.PointLemmas.{halts_after, halts_here, next_at}
+use Rattle.run_law.proofs.PointLemmas.{next_at}
 use Rattle.run_steps.specs.Starting.{LeavesSlots}
-use Rattle.run_trees.specs.Building.{BuildFails, Builds, IsCaused}
-use Rattle.run_trees.specs.Trees.{IsOfTree}
+use Rattle.run_trees.specs.Reads.{BuildFails, Builds, BuildsShort, not_taken, with_left}
+use Rattle.run_trees.specs.Trees.{IsCaused, IsOfTree, IsUntaken}
 
 abbrev Placed : Type 0
 Placed = PatternPlace × List ℕ
@@ -50,167 +49,172 @@ run_after r es = after feed MayCome Free r es
 abbrev Passes : Run → History → List Event → Type 0
 Passes r g es = Along feed MayCome Free r g es
 
-module _ (d : JailDef) (settings : Settings) (left : List Pattern) where
-  -- at the first of these patterns of the jail, with the rest behind them
-  abbrev at_first : List Placed → Point
-  at_first ps = to_makes settings (map (pattern_in d) ps ++ left)
+module _ (k : Reader) (d : JailDef) (settings : Settings) (left : List Pattern) (r : Run) (still : IsStill r) where
+  -- these patterns of the jail are left, and the rest behind them
+  abbrev all_left : List Placed → List Pattern
+  all_left ps = map (pattern_in d) ps ++ left
 
-  -- the run, come to that point
-  abbrev come : List Placed → Run → Run
-  come ps r = goes_to (at_first ps) r
+  abbrev come : List Placed → Run
+  come ps = with_left settings (all_left ps) k r
 
-  come_at : (ps : List Placed) (r : Run) → IsAt r (at_first ps) → r ≡ come ps r
-  come_at ps r at = ap (λ (p : Point). goes_to p r) at.point
+  -- at the call for the first of them
+  abbrev first_point : Placed → List Placed → Point
+  first_point p ps = k.at_makes settings (pattern_in d p) (all_left ps)
 
-  next_make : (p : Placed) (ps : List Placed) (r : Run) → IsAt r (at_first (p ∷ ps)) → next_call r ≡ Some (AskMake p.1)
-  next_make p ps r at = next_at r (at_first (p ∷ ps)) at
+  abbrev at_first : Placed → List Placed → Run
+  at_first p ps = goes_to (first_point p ps) r
 
-  may_make : (p : Placed) (ps : List Placed) (r : Run) (event : Event) → IsAt r (at_first (p ∷ ps)) → IsNext (Some (AskMake p.1)) event → MayCome r event
-  may_make p ps r event at is =
-      let P : Option Call → Type 0 = λ c. IsNext c event in
-      may_beside r event (next_beside (Some (AskMake p.1)) event tt is) (subst P (sym (next_make p ps r at)) is)
+  stands : (p : Placed) (ps : List Placed) → come (p ∷ ps) ≡ at_first p ps
+  stands p ps = k.stands settings (pattern_in d p) (all_left ps) r
+
+  may_make : (p : Placed) (ps : List Placed) (made : MakeAnswer) → MayCome (at_first p ps) (Make p.1 made)
+  may_make p ps made =
+      let P : Option Call → Type 0 = λ c. IsNext c (Make p.1 made) in
+      let next : next_call (at_first p ps) ≡ Some (AskMake p.1) =
+      next_at (at_first p ps) (first_point p ps) (record { point = refl; still = record { written = still.written; paid = still.paid } })
+      ∙ k.asks_make r.plan settings (pattern_in d p) (all_left ps) in
+      subst P (sym next) refl
+
+  fed : (p : Placed) (ps : List Placed) (made : MakeAnswer) → feed (at_first p ps) (Make p.1 made) ≡ makes_one k.left_to_make k.untaken made settings (pattern_in d p) (all_left ps) (at_first p ps)
+  fed p ps made = k.makes settings (pattern_in d p) (all_left ps) p.1 made (at_first p ps)
 
   -- a pattern that was built leads to the next
-  feed_built : (p : Placed) (ps : List Placed) (r : Run) → IsAt r (at_first (p ∷ ps)) → feed r (Make p.1 WasBuilt) ≡ come ps r
-  feed_built p ps r at = ap (λ (point : Point). moved point (Make p.1 WasBuilt) r) at.point
+  feed_built : (p : Placed) (ps : List Placed) → feed (at_first p ps) (Make p.1 WasBuilt) ≡ come ps
+  feed_built p ps = fed p ps WasBuilt ∙ k.from_any settings (all_left ps) (first_point p ps) r
 
-  passes : (ps : List Placed) (r : Run) (g : History) → IsAt r (at_first ps) → Passes r g (built ps)
-  passes [] r g at = tt
-  passes (p ∷ ps) r g at =
+  -- one that was refused leads away
+  feed_refused : (place : PatternPlace) (text : List ℕ) (kind : BuildKind) (ps : List Placed)
+      → feed (at_first (place, text) ps) (Make text (answer kind)) ≡ not_taken (PatternRefused d.name place kind) k r
+  feed_refused place text Syntax ps = fed (place, text) ps (answer Syntax) ∙ k.untaken_from_any (PatternRefused d.name place Syntax) (first_point (place, text) ps) r
+  feed_refused place text TooBig ps = fed (place, text) ps (answer TooBig) ∙ k.untaken_from_any (PatternRefused d.name place TooBig) (first_point (place, text) ps) r
+
+  passes : (ps : List Placed) (g : History) → Passes (come ps) g (built ps)
+  passes [] g = tt
+  passes (p ∷ ps) g =
       let event : Event = Make p.1 WasBuilt in
-      let P : Run → Type 0 = λ s. Passes s (grown g (event ∷ [])) (built ps) in
-      let there : IsAt (come ps r) (at_first ps) = record { point = refl; still = record { written = at.still.written; paid = at.still.paid } } in (
-        record { holds = tt; allowed = may_make p ps r event at refl; honest = tt; bounded = tt },
-        subst P (sym (feed_built p ps r at)) (passes ps (come ps r) (grown g (event ∷ [])) there),
+      let P : Run → Type 0 = λ s. Passes s g (built (p ∷ ps)) in
+      let Q : Run → Type 0 = λ s. Passes s (grown g (event ∷ [])) (built ps) in
+      subst P (sym (stands p ps)) (
+        record { holds = tt; allowed = may_make p ps WasBuilt; honest = tt; bounded = tt },
+        subst Q (sym (feed_built p ps)) (passes ps (grown g (event ∷ []))),
       )
 
-  comes_to : (ps : List Placed) (r : Run) → IsAt r (at_first ps) → run_after r (built ps) ≡ come [] r
-  comes_to [] r at = come_at [] r at
-  comes_to (p ∷ ps) r at =
-      let there : IsAt (come ps r) (at_first ps) = record { point = refl; still = record { written = at.still.written; paid = at.still.paid } } in
-      ap (λ (s : Run). run_after s (built ps)) (feed_built p ps r at) ∙ comes_to ps (come ps r) there
+  comes_to : (ps : List Placed) → run_after (come ps) (built ps) ≡ come []
+  comes_to [] = refl
+  comes_to (p ∷ ps) =
+      ap (λ (s : Run). run_after s (built (p ∷ ps))) (stands p ps) ∙ ap (λ (s : Run). run_after s (built ps)) (feed_built p ps) ∙ comes_to ps
 
-  -- a pattern that was refused ends the run
-  feed_refused : (place : PatternPlace) (text : List ℕ) (kind : BuildKind) (ps : List Placed) (r : Run) → IsAt r (at_first ((place, text) ∷ ps))
-      → feed r (Make text (answer kind)) ≡ refused 0 (PatternRefused d.name place kind) r
-  feed_refused place text Syntax ps r at = ap (λ (point : Point). moved point (Make text (answer Syntax)) r) at.point
-  feed_refused place text TooBig ps r at = ap (λ (point : Point). moved point (Make text (answer TooBig)) r) at.point
-
-  last_make : (g : History) (place : PatternPlace) (text : List ℕ) (kind : BuildKind) (ps : List Placed) (r : Run) → IsAt r (at_first ((place, text) ∷ ps)) → Passes r g (Make text (answer kind) ∷ [])
-  last_make g place text Syntax ps r at = (record { holds = tt; allowed = may_make (place, text) ps r (Make text (answer Syntax)) at refl; honest = tt; bounded = tt }, tt)
-  last_make g place text TooBig ps r at = (record { holds = tt; allowed = may_make (place, text) ps r (Make text (answer TooBig)) at refl; honest = tt; bounded = tt }, tt)
+  last_make : (g : History) (place : PatternPlace) (text : List ℕ) (kind : BuildKind) (ps : List Placed) → Passes (come ((place, text) ∷ ps)) g (Make text (answer kind) ∷ [])
+  last_make g place text Syntax ps =
+      let P : Run → Type 0 = λ s. Passes s g (Make text (answer Syntax) ∷ []) in
+      subst P (sym (stands (place, text) ps)) (record { holds = tt; allowed = may_make (place, text) ps (answer Syntax); honest = tt; bounded = tt }, tt)
+  last_make g place text TooBig ps =
+      let P : Run → Type 0 = λ s. Passes s g (Make text (answer TooBig) ∷ []) in
+      subst P (sym (stands (place, text) ps)) (record { holds = tt; allowed = may_make (place, text) ps (answer TooBig); honest = tt; bounded = tt }, tt)
 
   -- all were built
-  goes_through : (a b : Option History) (ps : List Placed) (r : Run) → IsAt r (at_first ps) → Adds a b (λ g es. es ≡ built ps) → Goes a b r (come [] r)
-  goes_through a None ps r at adds = record { events = tt }
-  goes_through a (Some h) ps r at adds =
-      let P : List Event → Type 0 = λ es. Passes r adds.0 es in
+  goes_through : (a b : Option History) (ps : List Placed) → Adds a b (λ g es. es ≡ built ps) → Goes a b (come ps) (come [])
+  goes_through a None ps adds = record { events = tt }
+  goes_through a (Some h) ps adds =
+      let P : List Event → Type 0 = λ es. Passes (come ps) adds.0 es in
       record {
         events = (
           adds.0,
           adds.1,
           adds.2,
           adds.3,
-          (subst P (sym adds.4) (passes ps r adds.0 at), ap (λ (es : List Event). run_after r es) adds.4 ∙ comes_to ps r at),
+          (subst P (sym adds.4) (passes ps adds.0), ap (λ (es : List Event). run_after (come ps) es) adds.4 ∙ comes_to ps),
         );
       }
 
-module _ (d : JailDef) (settings : Settings) (left : List Pattern) where
+module _ (k : Reader) (d : JailDef) (settings : Settings) (left : List Pattern) (r : Run) (still : IsStill r) where
   -- what stands behind the first of the jail's patterns
   abbrev behind : List Placed → List Pattern
   behind ps = map (pattern_in d) ps ++ left
 
-  divided : (ps before after : List Placed) → ps ≡ before ++ after → at_first d settings left ps ≡ at_first d settings (behind after) before
-  divided ps before after is =
-      ap (at_first d settings left) is
-      ∙ ap (λ (all : List Pattern). to_makes settings (all ++ left)) (map-append (pattern_in d) before after)
-      ∙ ap (to_makes settings) (append_assoc (map (pattern_in d) before) (map (pattern_in d) after) left)
+  abbrev standing : List Placed → Run
+  standing ps = with_left settings (behind ps) k r
 
-  divided_at : (ps before after : List Placed) (r : Run) → ps ≡ before ++ after → IsAt r (at_first d settings left ps) → IsAt r (at_first d settings (behind after) before)
-  divided_at ps before after r is at = record { point = at.point ∙ divided ps before after is; still = at.still }
+  -- the first of these patterns, and those behind them
+  divided : (ps before after : List Placed) → ps ≡ before ++ after → standing ps ≡ come k d settings (behind after) r still before
+  divided ps before after is =
+      ap standing is
+      ∙ ap (λ (all : List Pattern). with_left settings (all ++ left) k r) (map-append (pattern_in d) before after)
+      ∙ ap (λ (all : List Pattern). with_left settings all k r) (append_assoc (map (pattern_in d) before) (map (pattern_in d) after) left)
 
   -- memory ran out on the way
-  halts_within : (a b : Option History) (ps : List Placed) (r : Run) → IsAt r (at_first d settings left ps) → Adds a b (λ g es. (n : ℕ) × (es ≡ built (take n ps))) → Halts a b r NoMemory
-  halts_within a None ps r at adds = record { last = r; goes = record { events = tt }; ends = tt }
-  halts_within a (Some h) ps r at adds =
+  halts_within : (a b : Option History) (ps : List Placed) → Adds a b (λ g es. (n : ℕ) × (es ≡ built (take n ps))) → Halts a b (standing ps) NoMemory
+  halts_within a None ps adds = record { last = standing ps; goes = record { events = tt }; ends = tt }
+  halts_within a (Some h) ps adds =
       let n = adds.4.0 in
-      let there = divided_at ps (take n ps) (drop n ps) r (sym (take-append-drop n ps)) at in
-      record {
-        last = come d settings (behind (drop n ps)) [] r;
-        goes = goes_through d settings (behind (drop n ps)) a (Some h) (take n ps) r there (adds.0, adds.1, adds.2, adds.3, adds.4.1);
+      let P : Run → Type 0 = λ s. Halts a (Some h) s NoMemory in
+      subst P (sym (divided ps (take n ps) (drop n ps) (sym (take-append-drop n ps)))) (record {
+        last = come k d settings (behind (drop n ps)) r still [];
+        goes = goes_through k d settings (behind (drop n ps)) r still a (Some h) (take n ps) (adds.0, adds.1, adds.2, adds.3, adds.4.1);
         ends = tt;
-      }
+      })
 
   -- one was refused
-  goes_away : (a b : Option History) (ps : List Placed) (place : PatternPlace) (kind : BuildKind) (r : Run) → IsAt r (at_first d settings left ps)
-      → Adds a b (λ g es. filter.Refuses ps place kind es) → Goes a b r (refused 0 (PatternRefused d.name place kind) r)
-  goes_away a None ps place kind r at adds = record { events = tt }
-  goes_away a (Some h) ps place kind r at adds =
+  goes_away : (a b : Option History) (ps : List Placed) (place : PatternPlace) (kind : BuildKind) → Adds a b (λ g es. filter.Refuses ps place kind es)
+      → Goes a b (standing ps) (not_taken (PatternRefused d.name place kind) k r)
+  goes_away a None ps place kind adds = record { events = tt }
+  goes_away a (Some h) ps place kind adds =
       let w : filter.Refuses ps place kind adds.1 = adds.4 in
       let event : Event = Make w.text (answer kind) in
       let rest : List Placed = (place, w.text) ∷ w.after in
-      let there = divided_at ps w.before rest r w.order at in
-      let mid : Run = come d settings (behind rest) [] r in
-      let reached : run_after r (built w.before) ≡ mid = comes_to d settings (behind rest) w.before r there in
-      let here : IsAt mid (at_first d settings left rest) = record { point = refl; still = record { written = at.still.written; paid = at.still.paid } } in
+      let first : Run = come k d settings (behind rest) r still w.before in
+      let there : Run = not_taken (PatternRefused d.name place kind) k r in
+      let reached : run_after first (built w.before) ≡ standing rest = comes_to k d settings (behind rest) r still w.before in
       let P : Run → Type 0 = λ s. Passes s (grown adds.0 (built w.before)) (event ∷ []) in
-      let Q : List Event → Type 0 = λ es. Passes r adds.0 es in
-      let along : Passes r adds.0 (built w.before ++ event ∷ []) =
-      along_append feed MayCome Free r adds.0 (built w.before) (event ∷ []) (passes d settings (behind rest) w.before r adds.0 there)
-      (subst P (sym reached) (last_make d settings left (grown adds.0 (built w.before)) place w.text kind w.after mid here)) in
-      let ends : run_after r adds.1 ≡ refused 0 (PatternRefused d.name place kind) r =
-      ap (λ (es : List Event). run_after r es) w.calls
-      ∙ after_append feed MayCome Free r (built w.before) (event ∷ [])
+      let Q : List Event → Type 0 = λ es. Passes first adds.0 es in
+      let S : Run → Type 0 = λ s. Goes a (Some h) s there in
+      let along : Passes first adds.0 (built w.before ++ event ∷ []) =
+      along_append feed MayCome Free first adds.0 (built w.before) (event ∷ []) (passes k d settings (behind rest) r still w.before adds.0)
+      (subst P (sym reached) (last_make k d settings left r still (grown adds.0 (built w.before)) place w.text kind w.after)) in
+      let ends : run_after first adds.1 ≡ there =
+      ap (λ (es : List Event). run_after first es) w.calls
+      ∙ after_append feed MayCome Free first (built w.before) (event ∷ [])
       ∙ ap (λ (s : Run). run_after s (event ∷ [])) reached
-      ∙ feed_refused d settings left place w.text kind w.after mid here in
-      record { events = (adds.0, adds.1, adds.2, adds.3, (subst Q (sym w.calls) along, ends)) }
+      ∙ ap (λ (s : Run). run_after s (event ∷ [])) (stands k d settings left r still (place, w.text) w.after)
+      ∙ feed_refused k d settings left r still place w.text kind w.after in
+      subst S (sym (divided ps w.before rest w.order)) (record { events = (adds.0, adds.1, adds.2, adds.3, (subst Q (sym w.calls) along, ends)) })
 
 -- ---- the patterns of one jail
 
 pub jail_built : (old new : Standing) (d : JailDef) (rules : Rules) → filter.Builds (rules_of d) (Ok rules) old new → Builds old new d
 jail_built old new d rules builds = record {
+  runs = λ plan settings left. record { runs = λ k r is still. goes_through k d settings left r still old.told new.told (patterns (rules_of d)) builds.told };
+}
+
+-- memory ran out on the way
+pub jail_unbuilt : (old new : Standing) (d : JailDef) → filter.Builds (rules_of d) (Err MemoryError) old new → BuildsShort old new d
+jail_unbuilt old new d builds = record {
+  runs = λ plan settings left. record { runs = λ k r is still. halts_within k d settings left r still old.told new.told (patterns (rules_of d)) builds.told };
+}
+
+-- a pattern was refused
+pub jail_refused : (old new : Standing) (d : JailDef) (jail : List ℕ) (place : PatternPlace) (kind : BuildKind)
+    → filter.Builds (rules_of d) (Err (Refused place kind)) old new → jail ≡ d.name → BuildFails old new d (PatternRefused jail place kind)
+jail_refused old new d jail place kind builds name =
+    let P : List ℕ → Type 0 = λ n. BuildFails old new d (PatternRefused n place kind) in
+    subst P (sym name) (record {
+      runs = λ plan settings left. record { runs = λ k r is still. goes_away k d settings left r still old.told new.told (patterns (rules_of d)) place kind builds.told };
+    })
+
+-- memory ran out before it was told
+pub jail_untold : (old new : Standing) (d : JailDef) (place : PatternPlace) (kind : BuildKind) → filter.Builds (rules_of d) (Err (Refused place kind)) old new → BuildsShort old new d
+jail_untold old new d place kind builds = record {
   runs = λ plan settings left. record {
-    runs = λ r is at. record {
-      to = come d settings left [] r;
-      goes = goes_through d settings left old.told new.told (patterns (rules_of d)) r at builds.told;
-      at = record { point = refl; still = record { written = at.still.written; paid = at.still.paid } };
-      asked = is;
-      slots = refl;
-      unclosed = refl;
+    runs = λ k r is still. record {
+      last = not_taken (PatternRefused d.name place kind) k r;
+      goes = goes_away k d settings left r still old.told new.told (patterns (rules_of d)) place kind builds.told;
+      ends = tt;
     };
   };
 }
 
--- memory ran out on the way
-pub jail_unbuilt : (old new : Standing) (d : JailDef) → filter.Builds (rules_of d) (Err MemoryError) old new → BuildFails old new d NoMemory
-jail_unbuilt old new d builds = record {
-  runs = λ plan settings left. record { runs = λ r is at. halts_within d settings left old.told new.told (patterns (rules_of d)) r at builds.told };
-}
-
--- a pattern was refused
-pub jail_refused : (old mid new : Standing) (d : JailDef) (jail : List ℕ) (place : PatternPlace) (kind : BuildKind) (status : Status)
-    → filter.Builds (rules_of d) (Err (Refused place kind)) old mid → jail ≡ d.name → Refuses mid new 0 (PatternRefused jail place kind) status → BuildFails old new d status
-jail_refused old mid new d jail place kind status builds name refuses = record {
-  runs = λ plan settings left. record {
-    runs = λ r is at.
-        let Q : List ℕ → Type 0 = λ n. Refuses mid new 0 (PatternRefused n place kind) status in
-        halts_after old.told mid.told new.told r (refused 0 (PatternRefused d.name place kind) r) status
-        (goes_away d settings left old.told mid.told (patterns (rules_of d)) place kind r at builds.told)
-        ((subst Q name refuses).runs r at.still);
-  };
-}
-
--- memory ran out before the refusal was said
-pub jail_untold : (old new : Standing) (d : JailDef) (place : PatternPlace) (kind : BuildKind) → filter.Builds (rules_of d) (Err (Refused place kind)) old new → BuildFails old new d NoMemory
-jail_untold old new d place kind builds = record {
-  runs = λ plan settings left. record {
-    runs = λ r is at.
-        let over : Run = refused 0 (PatternRefused d.name place kind) r in
-        halts_after old.told new.told new.told r over NoMemory
-        (goes_away d settings left old.told new.told (patterns (rules_of d)) place kind r at builds.told)
-        (halts_here new.told over);
-  };
-}
+pub jail_why : (jail : List ℕ) (place : PatternPlace) (kind : BuildKind) → IsUntaken (PatternRefused jail place kind)
+jail_why jail place kind = tt
 
 -- ---- slots, and how long they are
 
@@ -260,16 +264,10 @@ refusal_cause old mid d place Syntax builds settings is stands = record {
 }
 refusal_cause old mid d place TooBig builds settings is stands = builds.cause.2
 
-pub jail_caused : (old mid new : Standing) (d : JailDef) (jail : List ℕ) (place : PatternPlace) (kind : BuildKind) (status : Status)
-    → filter.Builds (rules_of d) (Err (Refused place kind)) old mid → jail ≡ d.name → IsSteady mid new → IsRefusedAs mid new (PatternRefused jail place kind) status → IsCaused old new d status
-jail_caused old mid new d jail place kind status builds name steady seen = record {
-  cause = λ settings is stands.
-      let Q : List ℕ → Type 0 = λ n. IsRefusedAs mid new (PatternRefused n place kind) status in
-      refused_cause old mid new (PatternRefused d.name place kind) status (refusal_cause old mid d place kind builds settings is stands) (jail_steady old mid d (Err (Refused place kind)) builds) steady (subst Q name seen);
-}
+pub jail_caused : (old new : Standing) (d : JailDef) (jail : List ℕ) (place : PatternPlace) (kind : BuildKind)
+    → filter.Builds (rules_of d) (Err (Refused place kind)) old new → jail ≡ d.name → IsCaused old new d (PatternRefused jail place kind)
+jail_caused old new d jail place kind builds name =
+    let P : List ℕ → Type 0 = λ n. IsCaused old new d (PatternRefused n place kind) in
+    subst P (sym name) (record { cause = λ settings is stands. refusal_cause old new d place kind builds settings is stands })
 
--- want of memory is free
-pub memory_caused : (old new : Standing) (d : JailDef) → IsCaused old new d NoMemory
-memory_caused old new d = record { cause = λ settings is stands. tt }
-
-pub ruleset building = (jail_built, jail_still, jail_unbuilt, jail_refused, jail_untold, jail_caused, memory_caused, jail_steady)
+pub ruleset building = (jail_built, jail_still, jail_unbuilt, jail_refused, jail_untold, jail_caused, jail_steady)

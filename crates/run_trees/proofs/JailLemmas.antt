@@ -10,16 +10,15 @@ use Rattle.f2b_world.specs.Told.{Standing}
 use Rattle.filter_regex.specs.Rules.{IsSupported}
 use Rattle.jail_conf.specs.declared.settings.Settings.{Settings}
 use Rattle.run_law.specs.Patterns.{patterns_of_jail}
-use Rattle.run_law.specs.Points.{Point, AtStore}
+use Rattle.run_law.specs.Points.{Run}
+use Rattle.run_law.specs.Readers.{Reader}
 use Rattle.run_law.specs.Stages.{HasCause, IsSteady}
-use Rattle.run_law.specs.Start.{to_makes}
 use Rattle.run_law.specs.declared.plan.Plan.{Plan}
 use Rattle.run_law.specs.declared.status.Status.{Status}
 use Rattle.run_law.proofs.CauseLemmas.{cause_later}
-use Rattle.run_steps.specs.Starting.{StartFails, Starts}
-use Rattle.run_steps.proofs.StartLemmas.{start_fails_on, starts_trans}
-use Rattle.run_trees.specs.Building.{BuildFails, Builds, IsCaused}
-use Rattle.run_trees.specs.Trees.{IsOfTree}
+use Rattle.run_trees.specs.Reads.{BuildFails, Builds, BuildsShort, Reads, ReadsShort, not_taken, with_left}
+use Rattle.run_trees.specs.Trees.{IsCaused, IsOfTree}
+use Rattle.run_trees.proofs.ReadsLemmas.{reads_short_on, reads_trans}
 
 all_at : {A : Type 0} (P : A → Type 0) (xs : List A) (i : ℕ) (x : A) → AllOf P xs → i < length xs → P (get_or xs i x)
 all_at P [] i x all less = absurd (omega (arith, less))
@@ -28,26 +27,33 @@ all_at P (y ∷ ys) (suc i) x all less = all_at P ys i x all.1 (omega (arith, le
 
 module _ (settings : Settings) where
   -- at the first pattern of the jails from this place on
-  abbrev pub jails_left : ℕ → Point
-  jails_left i = to_makes settings (flat_map patterns_of_jail (drop i settings.defs.jails))
+  abbrev pub jails_left : ℕ → Reader → Run → Run
+  jails_left i = with_left settings (flat_map patterns_of_jail (drop i settings.defs.jails))
 
   module _ (i : ℕ) (d : JailDef) (less : i < length settings.defs.jails) (is : d ≡ get_or settings.defs.jails i d) where
-    next_left : jails_left i ≡ to_makes settings (patterns_of_jail d ++ flat_map patterns_of_jail (drop (i + 1) settings.defs.jails))
+    next_left : jails_left i ≡ with_left settings (patterns_of_jail d ++ flat_map patterns_of_jail (drop (i + 1) settings.defs.jails))
     next_left =
-        ap (λ (ds : List JailDef). to_makes settings (flat_map patterns_of_jail ds))
+        ap (λ (ds : List JailDef). with_left settings (flat_map patterns_of_jail ds))
         (drop_more settings.defs.jails i d less ∙ ap (λ (e : JailDef). e ∷ drop (i + 1) settings.defs.jails) (sym is))
 
-    pub next_built : (a b c : Standing) (plan : Plan) (from : Point) → Starts a b plan from (jails_left i) → Builds b c d → Starts a c plan from (jails_left (i + 1))
+    pub next_built : (a b c : Standing) (plan : Plan) (from : Reader → Run → Run) → Reads a b plan from (jails_left i) → Builds b c d → Reads a c plan from (jails_left (i + 1))
     next_built a b c plan from before builds =
-        let P : Point → Type 0 = λ p. Starts b c plan p (jails_left (i + 1)) in
-        starts_trans a b c plan from (jails_left i) (jails_left (i + 1)) before
+        let P : (Reader → Run → Run) → Type 0 = λ p. Reads b c plan p (jails_left (i + 1)) in
+        reads_trans a b c plan from (jails_left i) (jails_left (i + 1)) before
         (subst P (sym next_left) (builds.runs plan settings (flat_map patterns_of_jail (drop (i + 1) settings.defs.jails))))
 
-    pub next_fails : (a b c : Standing) (plan : Plan) (from : Point) (status : Status) → Starts a b plan from (jails_left i) → BuildFails b c d status → StartFails a c plan from status
+    pub next_fails : (a b c : Standing) (plan : Plan) (from : Reader → Run → Run) (status : Status) → Reads a b plan from (jails_left i) → BuildFails b c d status
+        → Reads a c plan from (not_taken status)
     next_fails a b c plan from status before fails =
-        let P : Point → Type 0 = λ p. StartFails b c plan p status in
-        start_fails_on a b c plan from (jails_left i) status before
+        let P : (Reader → Run → Run) → Type 0 = λ p. Reads b c plan p (not_taken status) in
+        reads_trans a b c plan from (jails_left i) (not_taken status) before
         (subst P (sym next_left) (fails.runs plan settings (flat_map patterns_of_jail (drop (i + 1) settings.defs.jails))))
+
+    pub next_short : (a b c : Standing) (plan : Plan) (from : Reader → Run → Run) → Reads a b plan from (jails_left i) → BuildsShort b c d → ReadsShort a c plan from
+    next_short a b c plan from before short =
+        let P : (Reader → Run → Run) → Type 0 = λ p. ReadsShort b c plan p in
+        reads_short_on a b c plan from (jails_left i) before
+        (subst P (sym next_left) (short.runs plan settings (flat_map patterns_of_jail (drop (i + 1) settings.defs.jails))))
 
     pub next_caused : (a b c : Standing) (status : Status) → IsOfTree settings → IsSteady a b → IsCaused b c d status → HasCause a c status
     next_caused a b c status tree steady caused =
@@ -57,8 +63,8 @@ module _ (settings : Settings) where
     pub next_supported : AllOf IsSupported settings.defs.jails → IsSupported d
     next_supported all = subst IsSupported (sym is) (all_at IsSupported settings.defs.jails i d all less)
 
-  -- behind the last jail comes the journal
-  pub all_built : (a b : Standing) (plan : Plan) (from : Point) (i : ℕ) → length settings.defs.jails ≤ i → Starts a b plan from (jails_left i) → Starts a b plan from (AtStore settings)
-  all_built a b plan from i end starts =
-      let P : Point → Type 0 = λ p. Starts a b plan from p in
-      subst P (ap (λ (ds : List JailDef). to_makes settings (flat_map patterns_of_jail ds)) (drop_all i settings.defs.jails end)) starts
+  -- behind the last jail no pattern is left
+  pub all_built : (a b : Standing) (plan : Plan) (from : Reader → Run → Run) (i : ℕ) → length settings.defs.jails ≤ i → Reads a b plan from (jails_left i) → Reads a b plan from (with_left settings [])
+  all_built a b plan from i end reads =
+      let P : (Reader → Run → Run) → Type 0 = λ p. Reads a b plan from p in
+      subst P (ap (λ (ds : List JailDef). with_left settings (flat_map patterns_of_jail ds)) (drop_all i settings.defs.jails end)) reads

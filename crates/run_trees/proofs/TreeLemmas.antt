@@ -1,5 +1,5 @@
--- The configuration of a run is read, or the run is refused.
-use Rattle.std.proofs.Common.{ℕ, ◌≡◌, List, Option, Some, None, Result, Ok, Err, refl, sym, ap, subst}
+-- The configuration of a plan is read, whoever reads it, or why it is not taken.
+use Rattle.std.proofs.Common.{ℕ, ◌≡◌, List, Option, Some, None, Result, Ok, Err, refl, sym, ap, ◌∙◌, subst}
 use Rattle.f2b_base.specs.declared.outside.Tree.{Tree}
 use Rattle.f2b_base.specs.declared.outside.TreeAnswer.{TreeAnswer}
 use Rattle.f2b_base.specs.declared.outside.TreeAnswer.TheVariants.{Tree as TreeGiven, Failed as TreeFailed, TooLarge as TreeTooLarge, NoMemory as TreeNoMemory}
@@ -10,21 +10,22 @@ use Rattle.f2b_model.specs.Storable.{AreStorableDefs}
 use Rattle.jail_conf.specs.Conf.{conf}
 use Rattle.jail_conf.specs.declared.conf_error.ConfError.{ConfError}
 use Rattle.jail_conf.specs.declared.settings.Settings.{Settings}
-use Rattle.run_law.specs.Calls.{IsNext}
-use Rattle.run_law.specs.Law.{feed, moved, point_call}
-use Rattle.run_law.specs.News.{goes_to, refused}
+use Rattle.run_law.specs.Calls.{Call, IsNext}
+use Rattle.run_law.specs.Law.{Goes}
 use Rattle.run_law.specs.Patterns.{patterns_of}
-use Rattle.run_law.specs.Points.{Point, AtTree, Run}
-use Rattle.run_law.specs.Stages.{HasCause, IsRefusal, IsRefusedAs, IsSteady, Refuses}
-use Rattle.run_law.specs.Start.{defined, to_makes, tree_read}
+use Rattle.run_law.specs.Points.{Run}
+use Rattle.run_law.specs.Readers.{Reader}
+use Rattle.run_law.specs.Reading.{read_as, reads_tree}
+use Rattle.run_law.specs.Stages.{HasCause, IsStill, IsSteady}
 use Rattle.run_law.specs.declared.plan.Plan.{Plan}
 use Rattle.run_law.specs.declared.status.Status.{Status}
-use Rattle.run_law.specs.declared.status.Status.TheVariants.{ConfFault, ConfRefused, ConfTooLarge, NoMemory}
-use Rattle.run_law.proofs.CauseLemmas.{refused_cause, steady_call, steady_refl}
+use Rattle.run_law.specs.declared.status.Status.TheVariants.{ConfFault, ConfRefused, ConfTooLarge}
+use Rattle.run_law.proofs.CauseLemmas.{steady_call, steady_refl}
 use Rattle.run_law.proofs.PointLemmas.{halts_after, halts_here, point_goes}
-use Rattle.run_steps.specs.Starting.{LeavesSlots, StartFails, Starts}
-use Rattle.run_steps.proofs.StartLemmas.{leaves_call, refused_call, starts_call, start_fails_here}
-use Rattle.run_trees.specs.Trees.{IsDecided, IsOfTree, IsRead}
+use Rattle.run_steps.specs.Starting.{LeavesSlots}
+use Rattle.run_steps.proofs.StartLemmas.{leaves_call}
+use Rattle.run_trees.specs.Reads.{Reads, ReadsShort, at_tree, not_taken, with_left}
+use Rattle.run_trees.specs.Trees.{IsDecided, IsOfTree, IsRead, IsUntaken}
 
 -- ---- what a tree comes to
 
@@ -35,57 +36,70 @@ pub ruleset deciding = (tree_read_so)
 
 -- ---- where an answer leads
 
-leads_on : (answer : TreeAnswer) (settings : Settings) (r : Run) → IsDecided answer (Ok settings) → tree_read answer r ≡ goes_to (to_makes settings (patterns_of settings.defs)) r
-leads_on (TreeGiven tree) settings r is =
-    ap (λ (outcome : Result Settings ConfError). defined outcome r) is.defined
-leads_on TreeFailed settings r is = absurd is
-leads_on TreeTooLarge settings r is = absurd is
-leads_on TreeNoMemory settings r is = absurd is
+module _ (k : Reader) (r : Run) where
+  -- from the call for the tree
+  abbrev led : TreeAnswer → Run
+  led answer = reads_tree k.left_to_make k.untaken answer (at_tree k r)
 
-leads_away : (answer : TreeAnswer) (refusal : Status) (r : Run) → IsDecided answer (Err refusal) → tree_read answer r ≡ refused 0 refusal r
-leads_away (TreeGiven tree) (ConfRefused error) r is = ap (λ (outcome : Result Settings ConfError). defined outcome r) is
-leads_away TreeFailed ConfFault r is = refl
-leads_away TreeTooLarge ConfTooLarge r is = refl
-leads_away _ _ r is = absurd is
+  leads_on : (answer : TreeAnswer) (settings : Settings) → IsDecided answer (Ok settings) → led answer ≡ with_left settings (patterns_of settings.defs) k r
+  leads_on (TreeGiven tree) settings is =
+      ap (λ (outcome : Result Settings ConfError). read_as k.left_to_make k.untaken outcome (at_tree k r)) is.defined ∙ k.from_any settings (patterns_of settings.defs) k.at_tree r
+  leads_on TreeFailed settings is = absurd is
+  leads_on TreeTooLarge settings is = absurd is
+  leads_on TreeNoMemory settings is = absurd is
 
--- ---- one call
+  leads_away : (answer : TreeAnswer) (status : Status) → IsDecided answer (Err status) → led answer ≡ not_taken status k r
+  leads_away (TreeGiven tree) (ConfRefused error) is =
+      ap (λ (outcome : Result Settings ConfError). read_as k.left_to_make k.untaken outcome (at_tree k r)) is ∙ k.untaken_from_any (ConfRefused error) k.at_tree r
+  leads_away TreeFailed ConfFault is = k.untaken_from_any ConfFault k.at_tree r
+  leads_away TreeTooLarge ConfTooLarge is = k.untaken_from_any ConfTooLarge k.at_tree r
+  leads_away _ _ is = absurd is
 
--- memory ran out behind the call of a point
-fails_call : (a b : Standing) (plan : Plan) (event : Event) (from : Point) → Called a event b → IsNext (point_call plan from) event → ((r : Run) → feed r event ≡ moved r.point event r)
-    → StartFails a b plan from NoMemory
-fails_call a b plan event from call next plain = record {
-  runs = λ r is at.
-      let P : Plan → Type 0 = λ p. IsNext (point_call p from) event in
-      halts_after a.told b.told b.told r (moved from event r) NoMemory (point_goes a b event r from call at (subst P (sym is) next) (plain r)) (halts_here b.told (moved from event r));
-}
+  -- the call leads there
+  tree_goes : (a b : Standing) (plan : Plan) (answer : TreeAnswer) → r.plan ≡ plan → IsStill r → Called a (Config plan.root answer) b → Goes a.told b.told (at_tree k r) (led answer)
+  tree_goes a b plan answer asked still call =
+      let event : Event = Config plan.root answer in
+      let P : Option Call → Type 0 = λ c. IsNext c event in
+      let Q : Run → Type 0 = λ x. Goes a.told b.told (at_tree k r) x in
+      let next = subst P (sym (k.asks_tree r.plan)) (ap (λ (p : Plan). p.root) (sym asked)) in
+      subst Q (k.reads plan.root answer (at_tree k r))
+      (point_goes a b event (at_tree k r) k.at_tree call (record { point = refl; still = record { written = still.written; paid = still.paid } }) next refl)
 
 module _ (a b : Standing) (plan : Plan) where
-  pub tree_accepted : (answer : TreeAnswer) (settings : Settings) → Asked a (config_event plan.root answer) b → IsDecided answer (Ok settings)
-      → Starts a b plan AtTree (to_makes settings (patterns_of settings.defs))
-  tree_accepted (TreeGiven tree) settings asked is =
-      starts_call a b plan (Config plan.root (TreeGiven tree)) AtTree asked refl (λ r. refl) (to_makes settings (patterns_of settings.defs)) (λ r. leads_on (TreeGiven tree) settings r is)
-  tree_accepted TreeFailed settings asked is = absurd is
-  tree_accepted TreeTooLarge settings asked is = absurd is
-  tree_accepted TreeNoMemory settings asked is = absurd is
+  tree_leads : (answer : TreeAnswer) (there : Reader → Run → Run) → Called a (Config plan.root answer) b → ((k : Reader) (r : Run) → led k r answer ≡ there k r) → Reads a b plan at_tree there
+  tree_leads answer there call to = record {
+    runs = λ k r is still.
+        let Q : Run → Type 0 = λ x. Goes a.told b.told (at_tree k r) x in
+        subst Q (to k r) (tree_goes k r a b plan answer is still call);
+  }
 
-  pub tree_refused : (c : Standing) (answer : TreeAnswer) (refusal status : Status) → Asked a (config_event plan.root answer) b → IsDecided answer (Err refusal)
-      → Refuses b c 0 refusal status → StartFails a c plan AtTree status
-  tree_refused c TreeNoMemory refusal status asked is refuses = absurd is
-  tree_refused c (TreeGiven tree) refusal status asked is refuses =
-      refused_call a b plan (Config plan.root (TreeGiven tree)) AtTree asked refl (λ r. refl) c refusal status (λ r. leads_away (TreeGiven tree) refusal r is) refuses
-  tree_refused c TreeFailed refusal status asked is refuses =
-      refused_call a b plan (Config plan.root TreeFailed) AtTree asked refl (λ r. refl) c refusal status (λ r. leads_away TreeFailed refusal r is) refuses
-  tree_refused c TreeTooLarge refusal status asked is refuses =
-      refused_call a b plan (Config plan.root TreeTooLarge) AtTree asked refl (λ r. refl) c refusal status (λ r. leads_away TreeTooLarge refusal r is) refuses
+  tree_short : (answer : TreeAnswer) → Called a (Config plan.root answer) b → ReadsShort a b plan at_tree
+  tree_short answer call = record {
+    runs = λ k r is still.
+        halts_after a.told b.told b.told (at_tree k r) (led k r answer) _ (tree_goes k r a b plan answer is still call) (halts_here b.told (led k r answer));
+  }
 
-  -- memory ran out behind the call
-  pub tree_unread : (answer : TreeAnswer) → Asked a (config_event plan.root answer) b → StartFails a b plan AtTree NoMemory
-  tree_unread TreeNoMemory asked =
-      let P : Standing → Type 0 = λ s. StartFails a s plan AtTree NoMemory in
-      subst P (sym asked) (start_fails_here a plan AtTree)
-  tree_unread (TreeGiven tree) asked = fails_call a b plan (Config plan.root (TreeGiven tree)) AtTree asked refl (λ r. refl)
-  tree_unread TreeFailed asked = fails_call a b plan (Config plan.root TreeFailed) AtTree asked refl (λ r. refl)
-  tree_unread TreeTooLarge asked = fails_call a b plan (Config plan.root TreeTooLarge) AtTree asked refl (λ r. refl)
+  pub tree_taken : (answer : TreeAnswer) (settings : Settings) → Asked a (config_event plan.root answer) b → IsDecided answer (Ok settings)
+      → Reads a b plan at_tree (with_left settings (patterns_of settings.defs))
+  tree_taken (TreeGiven tree) settings asked is = tree_leads (TreeGiven tree) (with_left settings (patterns_of settings.defs)) asked (λ k r. leads_on k r (TreeGiven tree) settings is)
+  tree_taken TreeFailed settings asked is = absurd is
+  tree_taken TreeTooLarge settings asked is = absurd is
+  tree_taken TreeNoMemory settings asked is = absurd is
+
+  pub tree_untaken : (answer : TreeAnswer) (status : Status) → Asked a (config_event plan.root answer) b → IsDecided answer (Err status) → Reads a b plan at_tree (not_taken status)
+  tree_untaken (TreeGiven tree) status asked is = tree_leads (TreeGiven tree) (not_taken status) asked (λ k r. leads_away k r (TreeGiven tree) status is)
+  tree_untaken TreeFailed status asked is = tree_leads TreeFailed (not_taken status) asked (λ k r. leads_away k r TreeFailed status is)
+  tree_untaken TreeTooLarge status asked is = tree_leads TreeTooLarge (not_taken status) asked (λ k r. leads_away k r TreeTooLarge status is)
+  tree_untaken TreeNoMemory status asked is = absurd is
+
+  -- memory ran out behind the call, or there was none for it
+  pub tree_lost : (answer : TreeAnswer) → Asked a (config_event plan.root answer) b → ReadsShort a b plan at_tree
+  tree_lost TreeNoMemory asked =
+      let P : Standing → Type 0 = λ s. ReadsShort a s plan at_tree in
+      subst P (sym asked) (record { runs = λ k r is still. halts_here a.told (at_tree k r) })
+  tree_lost (TreeGiven tree) asked = tree_short (TreeGiven tree) asked
+  tree_lost TreeFailed asked = tree_short TreeFailed asked
+  tree_lost TreeTooLarge asked = tree_short TreeTooLarge asked
 
 pub asked_steady : (a b : Standing) (event : Option Event) → Asked a event b → IsSteady a b
 asked_steady a b None asked = let P : Standing → Type 0 = λ s. IsSteady a s in subst P (sym asked) (steady_refl a)
@@ -98,24 +112,19 @@ tree_still a b root TreeFailed settings asked is = absurd is
 tree_still a b root TreeTooLarge settings asked is = absurd is
 tree_still a b root TreeNoMemory settings asked is = absurd is
 
--- ---- refusals
+-- ---- why it is not taken
 
-pub tree_refusal : (answer : TreeAnswer) (refusal : Status) → IsDecided answer (Err refusal) → IsRefusal refusal
-tree_refusal (TreeGiven tree) (ConfRefused error) is = tt
-tree_refusal TreeFailed ConfFault is = tt
-tree_refusal TreeTooLarge ConfTooLarge is = tt
-tree_refusal _ _ is = absurd is
+pub tree_why : (answer : TreeAnswer) (status : Status) → IsDecided answer (Err status) → IsUntaken status
+tree_why (TreeGiven tree) (ConfRefused error) is = tt
+tree_why TreeFailed ConfFault is = tt
+tree_why TreeTooLarge ConfTooLarge is = tt
+tree_why _ _ is = absurd is
 
-tree_cause : (a b : Standing) (root : List ℕ) (answer : TreeAnswer) (refusal : Status) → Asked a (config_event root answer) b → IsDecided answer (Err refusal) → HasCause a b refusal
+pub tree_cause : (a b : Standing) (root : List ℕ) (answer : TreeAnswer) (status : Status) → Asked a (config_event root answer) b → IsDecided answer (Err status) → HasCause a b status
 tree_cause a b root (TreeGiven tree) (ConfRefused error) asked is = record { tree = tree; refused = is }
 tree_cause a b root TreeFailed ConfFault asked is = asked.counts.cause
 tree_cause a b root TreeTooLarge ConfTooLarge asked is = tt
 tree_cause a b root _ _ asked is = absurd is
-
-pub tree_caused : (a b c : Standing) (root : List ℕ) (answer : TreeAnswer) (refusal status : Status) → Asked a (config_event root answer) b → IsDecided answer (Err refusal)
-    → IsSteady b c → IsRefusedAs b c refusal status → HasCause a c status
-tree_caused a b c root answer refusal status asked is steady seen =
-    refused_cause a b c refusal status (tree_cause a b root answer refusal asked is) (asked_steady a b (config_event root answer) asked) steady seen
 
 -- ---- what is known of a configuration that is read
 
@@ -131,4 +140,4 @@ tree_stored TreeFailed settings is = absurd is
 tree_stored TreeTooLarge settings is = absurd is
 tree_stored TreeNoMemory settings is = absurd is
 
-pub ruleset reading = (tree_accepted, tree_still, tree_refused, tree_unread, asked_steady, tree_refusal, tree_caused, tree_is, tree_stored)
+pub ruleset reading = (tree_taken, tree_untaken, tree_lost, tree_still, asked_steady, tree_why, tree_cause, tree_is, tree_stored)

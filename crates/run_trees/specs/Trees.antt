@@ -1,13 +1,16 @@
 -- What the answer to the reading of a configuration comes to.
-use Rattle.std.specs.Prelude.{◌≡◌, Result, Ok, Err}
+use Rattle.std.specs.Prelude.{◌≡◌, Contains, Result, Ok, Err}
+use Rattle.f2b_base.specs.declared.jail.JailDef.{JailDef}
 use Rattle.f2b_base.specs.declared.outside.Tree.{Tree}
 use Rattle.f2b_base.specs.declared.outside.TreeAnswer.{TreeAnswer}
 use Rattle.f2b_base.specs.declared.outside.TreeAnswer.TheVariants.{Tree as TreeGiven, Failed as TreeFailed, TooLarge as TreeTooLarge}
 use Rattle.f2b_model.specs.Storable.{AreStorableDefs}
+use Rattle.f2b_world.specs.Told.{Standing}
 use Rattle.jail_conf.specs.Conf.{conf}
 use Rattle.jail_conf.specs.declared.settings.Settings.{Settings}
+use Rattle.run_law.specs.Stages.{HasCause}
 use Rattle.run_law.specs.declared.status.Status.{Status}
-use Rattle.run_law.specs.declared.status.Status.TheVariants.{ConfFault, ConfRefused, ConfTooLarge}
+use Rattle.run_law.specs.declared.status.Status.TheVariants.{ConfFault, ConfRefused, ConfTooLarge, PatternRefused}
 
 -- some tree comes to this configuration
 pub record IsOfTree (settings : Settings) : Type 0 where
@@ -20,10 +23,22 @@ pub record IsRead (tree : Tree) (settings : Settings) : Type 0 where
   -- each value of it is within the bounds of what is stored
   pub storable : AreStorableDefs settings.defs
 
--- an answer comes to the configuration that it holds, or to a refusal
+-- an answer comes to the configuration that it holds, or to why there is none
 abbrev pub IsDecided : TreeAnswer → Result Settings Status → Type 0
 IsDecided (TreeGiven tree) (Ok settings) = IsRead tree settings
 IsDecided (TreeGiven tree) (Err (ConfRefused error)) = conf tree ≡ Err error
 IsDecided TreeFailed (Err ConfFault) = Unit {0}
 IsDecided TreeTooLarge (Err ConfTooLarge) = Unit {0}
 IsDecided _ _ = ⊥
+
+-- what a configuration is not taken for
+abbrev pub IsUntaken : Status → Type 0
+IsUntaken ConfFault = Unit {0}
+IsUntaken ConfTooLarge = Unit {0}
+IsUntaken (ConfRefused error) = Unit {0}
+IsUntaken (PatternRefused jail place kind) = Unit {0}
+IsUntaken _ = ⊥
+
+-- a pattern of the jail is refused for a cause, whatever configuration the jail stands in
+pub record IsCaused (old new : Standing) (jail : JailDef) (status : Status) : Type 0 where
+  pub cause : (settings : Settings) → IsOfTree settings → Contains settings.defs.jails jail → HasCause old new status

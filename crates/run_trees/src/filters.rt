@@ -1,46 +1,47 @@
 //! The filters of a configuration's jails.
-ghost use Rattle.std.specs.Prelude.{◌≡◌, ◌++◌, [], ◌∷◌, IfErr, IfOk, OnOk, map};
+ghost use Rattle.std.specs.Prelude.{◌≡◌, ◌++◌, [], ◌∷◌, OnErr, OnOk, map};
 ghost use Rattle.f2b_model.specs.Lists.{AllOf};
 ghost use Rattle.filter_regex.specs.Rules.{IsSupported, rules_of};
 ghost use Rattle.run_law.specs.Patterns.{patterns_of};
-ghost use Rattle.run_law.specs.Points.{AtStore};
 ghost use Rattle.run_law.specs.Stages.{HasCause, IsSteady};
-ghost use Rattle.run_law.specs.Start.{to_makes};
-ghost use Rattle.run_steps.specs.Starting.{LeavesSlots, Starts, StartFails};
-ghost use Rattle.run_trees.specs.Building.{BuildFails, Builds, IsCaused};
-ghost use Rattle.run_trees.specs.Trees.{IsOfTree};
+ghost use Rattle.run_steps.specs.Starting.{LeavesSlots};
+ghost use Rattle.run_trees.specs.Reads.{BuildFails, Builds, BuildsShort, IfTaken, IfUntaken, Reads, ReadsShort, not_taken, with_left};
+ghost use Rattle.run_trees.specs.Trees.{IsCaused, IsOfTree, IsUntaken};
 
 use f2b_base::{JailDef, NoMemory, Plain};
 use f2b_world::World;
 use filter_regex::{Filter, PatternError};
 use jail_conf::Settings;
 use run_law::{Plan, Status};
-use run_steps::refuse;
 use std::alloc::Global;
 
-// Builds the filter of one jail.
-#[tactic(auto, using(crate::proofs::BuildLemmas::building, run_law::proofs::CauseLemmas::counting))]
-fn build_filter<W: World>(alloc: Global, world: &mut W, jail: &JailDef) -> Result<Filter, Status>
+// Builds the filter of one jail, one of whose patterns may be refused.
+#[tactic(auto, using(crate::proofs::BuildLemmas::building))]
+fn build_filter<W: World>(
+    alloc: Global,
+    world: &mut W,
+    jail: &JailDef,
+) -> Result<Result<Filter, Status>, NoMemory>
     requires { IsSupported jail.now }
-    ensures value { IfOk result (λ filter. filter ≡ rules_of jail.now) }
-    ensures ok { OnOk result (Builds (W.stands world.old) (W.stands world.new) jail.now) }
-    ensures still { OnOk result (LeavesSlots (W.stands world.old) (W.stands world.new)) }
-    ensures err { IfErr result (BuildFails (W.stands world.old) (W.stands world.new) jail.now) }
-    ensures cause { IfErr result (IsCaused (W.stands world.old) (W.stands world.new) jail.now) }
+    ensures value { IfTaken result (λ filter. filter ≡ rules_of jail.now) }
+    ensures taken { IfTaken result (λ filter. Builds (W.stands world.old) (W.stands world.new) jail.now) }
+    ensures untaken { IfUntaken result (BuildFails (W.stands world.old) (W.stands world.new) jail.now) }
+    ensures lost { OnErr result (BuildsShort (W.stands world.old) (W.stands world.new) jail.now) }
+    ensures still { IfTaken result (λ filter. LeavesSlots (W.stands world.old) (W.stands world.new)) }
+    ensures why { IfUntaken result IsUntaken }
+    ensures cause { IfUntaken result (IsCaused (W.stands world.old) (W.stands world.new) jail.now) }
     ensures steady { IsSteady (W.stands world.old) (W.stands world.new) }
 {
     match Filter::build(alloc, world, jail) {
-        Ok(filter) => Ok(filter),
-        Err(PatternError::NoMemory) => Err(Status::NoMemory),
+        Ok(filter) => Ok(Ok(filter)),
+        Err(PatternError::NoMemory) => Err(NoMemory),
         Err(PatternError::Refused { place, kind }) => {
             let name = jail.name.copy()?;
-            let refusal = Status::PatternRefused {
+            Ok(Err(Status::PatternRefused {
                 jail: name,
                 place,
                 kind,
-            };
-            // No clock was read yet: the line has the second 0.
-            Err(refuse(alloc, world, 0, refusal))
+            }))
         }
     }
 }
@@ -60,20 +61,27 @@ pub fn build_filters<W: World>(
     world: &mut W,
     plan: &Plan,
     settings: &Settings,
-) -> Result<Vec<Filter>, Status>
+) -> Result<Result<Vec<Filter>, Status>, NoMemory>
     requires tree { IsOfTree settings.now }
     requires supported { AllOf IsSupported settings.now.defs.jails }
-    ensures value { IfOk result (λ filters. filters.items ≡ map rules_of settings.now.defs.jails) }
-    ensures ok { OnOk result (Starts (W.stands world.old) (W.stands world.new) plan.now (to_makes settings.now (patterns_of settings.now.defs)) (AtStore settings.now)) }
-    ensures still { OnOk result (LeavesSlots (W.stands world.old) (W.stands world.new)) }
-    ensures err { IfErr result (StartFails (W.stands world.old) (W.stands world.new) plan.now (to_makes settings.now (patterns_of settings.now.defs))) }
-    ensures cause { IfErr result (HasCause (W.stands world.old) (W.stands world.new)) }
+    ensures value { IfTaken result (λ filters. filters.items ≡ map rules_of settings.now.defs.jails) }
+
+    // Whoever reads.
+    ensures taken { IfTaken result (λ filters. Reads (W.stands world.old) (W.stands world.new) plan.now (with_left settings.now (patterns_of settings.now.defs)) (with_left settings.now [])) }
+    ensures untaken { IfUntaken result (λ status. Reads (W.stands world.old) (W.stands world.new) plan.now (with_left settings.now (patterns_of settings.now.defs)) (not_taken status)) }
+    ensures lost { OnErr result (ReadsShort (W.stands world.old) (W.stands world.new) plan.now (with_left settings.now (patterns_of settings.now.defs))) }
+
+    ensures still { IfTaken result (λ filters. LeavesSlots (W.stands world.old) (W.stands world.new)) }
+    ensures why { IfUntaken result IsUntaken }
+    ensures cause { IfUntaken result (HasCause (W.stands world.old) (W.stands world.new)) }
     ensures steady { IsSteady (W.stands world.old) (W.stands world.new) }
 {
     let mut filters = Vec::new(alloc);
     for jail in settings.defs.jails.as_slice() {
-        let filter = build_filter(alloc, world, jail)?;
-        push_filter(&mut filters, filter)?;
+        match build_filter(alloc, world, jail)? {
+            Ok(filter) => push_filter(&mut filters, filter)?,
+            Err(status) => return Ok(Err(status)),
+        }
     }
-    Ok(filters)
+    Ok(Ok(filters))
 }

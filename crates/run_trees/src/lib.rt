@@ -1,17 +1,23 @@
-//! The first two parts of a start: a configuration is read, and the patterns of its jails are built.
+//! A configuration is read, and the patterns of its jails are built: as a run starts, or again for a client that asks for it.
 //!
-//! A configuration that could not be read or that is refused ends the run here, and so does the first pattern that is not built. The
-//! refusal is said before the run ends, unless its line cannot be said. What is handed up is the configuration, and a filter for each
-//! of its jails, in their order. Nothing here reads a clock or knows what a server keeps.
+//! `try_configuration` reads for either. What is handed up is the configuration, and a filter for each of its jails, in their order. A
+//! configuration that could not be read or that is refused is not taken, and neither is one of whose patterns one is not built: the first of
+//! these is handed up, and nothing is said of it. A run that starts so is over: `read_configuration` says why, unless its line cannot be said.
+//! Nothing here reads a clock or knows what a server keeps.
 //!
 //! ```text
-//! let settings = read_settings(alloc, world, plan)?;
-//! let filters = build_filters(alloc, world, plan, &settings)?;
+//! let Configuration { settings, filters } = read_configuration(alloc, world, plan)?;   // the start
+//! match try_configuration(alloc, world, plan)? {                                       // a client asked
+//!     Ok(configuration) => ..,
+//!     Err(status) => ..,                                                               // why it is not taken
+//! }
 //! ```
 #![tactic(auto)]
 
+mod configuration;
 mod filters;
-mod settings;
+mod reading;
+mod tree;
 
-pub use filters::build_filters;
-pub use settings::read_settings;
+pub use configuration::Configuration;
+pub use reading::{read_configuration, try_configuration};

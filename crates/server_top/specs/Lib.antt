@@ -2,4 +2,5 @@ pub mod Drained
 pub mod Options
 pub mod Prepared
 pub mod Ticks
+pub mod Turns
 pub mod Usage

@@ -6,7 +6,6 @@ ghost use Rattle.f2b_world.specs.Told.{Adds};
 ghost use Rattle.f2b_model.specs.Storable.{AreStorableDefs};
 ghost use Rattle.filter_regex.specs.Rules.{rules_of};
 ghost use Rattle.run_jobs.specs.Runs.{HoldBytes, TriesJobsInOrder};
-ghost use Rattle.run_law.specs.Points.{AtStore, AtTree};
 ghost use Rattle.run_law.specs.Served.{IsCaused, IsRun};
 ghost use Rattle.run_law.specs.Stages.{HasCause, IsSteady};
 ghost use Rattle.run_law.specs.Stops.{BeginsOn, held_in};
@@ -15,12 +14,11 @@ ghost use Rattle.run_law.specs.declared.status.Status.TheVariants.{TurnsSpent as
 ghost use Rattle.run_replies.specs.Replied.{RepliesBehindInputs, RepliesInOrder};
 ghost use Rattle.run_start.specs.Followed.{ArePlaces, rules_in};
 ghost use Rattle.run_steps.specs.Keeping.{IsPlacedIn};
-ghost use Rattle.run_steps.specs.Starting.{LeavesSlots, StartFails, Starts};
 ghost use Rattle.run_trees.specs.Trees.{IsOfTree};
 ghost use Rattle.server_top.specs.Prepared.{BeginsSound, OpensTo, PlanHalts, Prepares, ResumeFails, Resumes};
 ghost use Rattle.server_top.specs.Usage.{IsOfUsage};
 
-use crate::turns::make_turns;
+use crate::turns::{begin_turn, go_on, make_turns};
 use crate::words::read_words;
 use child_table::ChildTable;
 use client_table::ClientTable;
@@ -32,29 +30,8 @@ use run_law::{Plan, Status};
 use run_load::{listen, load_journal};
 use run_start::{first_turn, follow};
 use run_steps::{Clocked, Running, refuse};
-use run_trees::{build_filters, read_settings};
+use run_trees::{Configuration, read_configuration};
 use std::alloc::Global;
-
-// The configuration, and the filters of all jails.
-#[tactic(auto, using(run_steps::proofs::StartLemmas::starting, run_steps::proofs::StartLemmas::leaving, run_law::proofs::CauseLemmas::counting))]
-fn configure<W: World>(
-    alloc: Global,
-    world: &mut W,
-    plan: &Plan,
-) -> Result<(Settings, Vec<Filter>), Status>
-    ensures ok { IfOk result (λ r. Starts (W.stands world.old) (W.stands world.new) plan.now AtTree (AtStore r.0)) }
-    ensures still { OnOk result (LeavesSlots (W.stands world.old) (W.stands world.new)) }
-    ensures defined { IfOk result (λ r. IsOfTree r.0) }
-    ensures storable { IfOk result (λ r. AreStorableDefs r.0.defs) }
-    ensures filters { IfOk result (λ r. r.1.items ≡ map rules_of r.0.defs.jails) }
-    ensures err { IfErr result (StartFails (W.stands world.old) (W.stands world.new) plan.now AtTree) }
-    ensures cause { IfErr result (HasCause (W.stands world.old) (W.stands world.new)) }
-    ensures steady { IsSteady (W.stands world.old) (W.stands world.new) }
-{
-    let settings = read_settings(alloc, world, plan)?;
-    let filters = build_filters(alloc, world, plan, &settings)?;
-    Ok((settings, filters))
-}
 
 // The state that was stored, and behind it the socket.
 #[tactic(auto, using(crate::proofs::ServeLemmas::letting_in, run_law::proofs::CauseLemmas::counting))]
@@ -113,7 +90,7 @@ fn prepare<W: World + Directories + Store + Disk + Gate>(
     ensures steady { IsSteady (W.stands world.old) (W.stands world.new) }
     ensures placed { IfOk result (λ r. IsPlacedIn (W.stands world.new).told r.1) }
 {
-    let (settings, filters) = configure(alloc, world, plan)?;
+    let Configuration { settings, filters } = read_configuration(alloc, world, plan)?;
     let clocked = resume(alloc, world, plan, &settings)?;
     Ok((filters, clocked))
 }
@@ -131,8 +108,9 @@ fn serve<W: World + Directories + Children + Store + Disk + Gate>(
     ensures cause { IfErr result (HasCause (W.stands world.old) (W.stands world.new)) }
     ensures steady { IsSteady (W.stands world.old) (W.stands world.new) }
 {
-    // The logs borrow the filters, which so stand here until the run is over.
-    let (filters, clocked) = prepare(alloc, world, plan)?;
+    // The logs borrow the filters, which so stand here until a configuration is taken again, or the run is over.
+    let (first, clocked) = prepare(alloc, world, plan)?;
+    let mut filters = first;
     let logs = follow(alloc, filters.as_slice(), &clocked)?;
     let running = Running {
         clocked,
@@ -141,7 +119,21 @@ fn serve<W: World + Directories + Children + Store + Disk + Gate>(
         clients: ClientTable::new(alloc),
         left: plan.turns,
     };
-    make_turns(alloc, world, running)?;
+    let (running, asked) = begin_turn(alloc, world, running)?;
+    let mut outcome = make_turns(alloc, world, running, asked)?;
+    'reloads: while let Some((running, place)) = outcome {
+        match reload(alloc, world, plan, running, place)? {
+            Reread::Untaken(running) => outcome = go_on(alloc, world, running, place)?,
+            Reread::Taken {
+                filters: fresh,
+                reloaded,
+            } => {
+                filters = fresh;
+                let running = follow_on(alloc, filters.as_slice(), reloaded)?;
+                outcome = go_on(alloc, world, running, place)?;
+            }
+        }
+    }
     Ok(())
 }
 

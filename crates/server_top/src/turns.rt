@@ -1,11 +1,13 @@
 //! The turns of a run.
-ghost use Rattle.std.specs.Prelude.{◌≡◌, ◌≤◌, ◌<◌, ◌+◌, IfErr, IfOk, OnOk};
+ghost use Rattle.std.specs.Prelude.{◌≡◌, ◌≤◌, ◌<◌, length, IfErr, IfOk, IfSome};
 ghost use Rattle.run_law.specs.Stages.{HasCause, IsSteady, Moves, MoveFails};
-ghost use Rattle.run_law.specs.Turn.{at_pause, to_children, to_end, to_starts};
+ghost use Rattle.run_law.specs.Turn.{at_pause, behind_client, to_children, to_starts};
 ghost use Rattle.run_law.specs.declared.status.Status.TheVariants.{TurnsSpent as AllTurns};
 ghost use Rattle.run_steps.specs.Keeping.{IsPlacedIn, KeepsRunning};
 ghost use Rattle.server_top.specs.Drained.{has_drained};
 ghost use Rattle.server_top.specs.Ticks.{at_clock};
+ghost use Rattle.server_top.specs.Turns.{EndsTurn, GoesOn, left_of};
+ghost use Rattle.turn_clients.specs.Serving.{IsAsking, served_to};
 
 use crate::clock::read_clock;
 use crate::pause::{last_pause, pause};
@@ -14,7 +16,7 @@ use run_law::Status;
 use run_steps::Running;
 use std::alloc::Global;
 use turn_children::{poll_children, start_children};
-use turn_clients::serve_clients;
+use turn_clients::{serve_clients, serve_rest};
 use turn_logs::look_at_logs;
 
 // The clock and the looks of a turn.
@@ -37,64 +39,46 @@ fn observe<'f, W: World + Disk>(
     Ok(running)
 }
 
-// The commands that run, and behind them the clients.
+// The commands that run, and behind them the clients, up to one that asks for a reload.
 #[tactic(auto, using(crate::proofs::TurnLemmas::turning, run_law::proofs::CauseLemmas::counting))]
 fn attend<'f, W: World + Children + Disk + Gate>(
     alloc: Global,
     world: &mut W,
     running: Running<'f>,
-) -> Result<Running<'f>, Status>
+) -> Result<(Running<'f>, Option<usize>), Status>
     requires placed { IsPlacedIn (W.stands world.old).told running.clocked }
-    ensures ok { IfOk result (Moves KeepsRunning (W.stands world.old) (W.stands world.new) to_children to_starts running.entry) }
+    ensures ok { IfOk result (λ r. Moves KeepsRunning (W.stands world.old) (W.stands world.new) to_children (served_to r.1) running.entry r.0) }
     ensures err { IfErr result (MoveFails KeepsRunning (W.stands world.old) (W.stands world.new) to_children running.entry) }
     ensures cause { IfErr result (HasCause (W.stands world.old) (W.stands world.new)) }
     ensures steady { IsSteady (W.stands world.old) (W.stands world.new) }
-    ensures left { IfOk result (λ after. after.left ≡ running.entry.left) }
-    ensures placed { IfOk result (λ after. IsPlacedIn (W.stands world.new).told after.clocked) }
+    ensures asked { IfOk result (λ r. IfSome r.1 (λ place. IsAsking place r.0)) }
+    ensures left { IfOk result (λ r. r.0.left ≡ running.entry.left) }
+    ensures placed { IfOk result (λ r. IsPlacedIn (W.stands world.new).told r.0.clocked) }
 {
     let running = poll_children(alloc, world, running)?;
-    let running = serve_clients(alloc, world, running)?;
-    Ok(running)
+    let (running, asked) = serve_clients(alloc, world, running)?;
+    Ok((running, asked))
 }
 
-// What is taken in a turn, and then the commands that are started for it.
+/// A turn from its beginning, up to a client that asks for a reload, or behind all clients.
 #[tactic(auto, using(crate::proofs::TurnLemmas::turning, run_law::proofs::CauseLemmas::counting))]
-fn act<'f, W: World + Children + Disk + Gate>(
+pub fn begin_turn<'f, W: World + Children + Disk + Gate>(
     alloc: Global,
     world: &mut W,
     running: Running<'f>,
-) -> Result<Running<'f>, Status>
+) -> Result<(Running<'f>, Option<usize>), Status>
     requires placed { IsPlacedIn (W.stands world.old).told running.clocked }
-    ensures ok { IfOk result (Moves KeepsRunning (W.stands world.old) (W.stands world.new) to_children to_end running.entry) }
-    ensures err { IfErr result (MoveFails KeepsRunning (W.stands world.old) (W.stands world.new) to_children running.entry) }
-    ensures cause { IfErr result (HasCause (W.stands world.old) (W.stands world.new)) }
-    ensures steady { IsSteady (W.stands world.old) (W.stands world.new) }
-    ensures left { IfOk result (λ after. after.left ≡ running.entry.left) }
-    ensures placed { IfOk result (λ after. IsPlacedIn (W.stands world.new).told after.clocked) }
-{
-    let running = attend(alloc, world, running)?;
-    let running = start_children(alloc, world, running)?;
-    Ok(running)
-}
-
-// What a turn does before its end.
-#[tactic(auto, using(crate::proofs::TurnLemmas::turning, run_law::proofs::CauseLemmas::counting))]
-fn work<'f, W: World + Children + Disk + Gate>(
-    alloc: Global,
-    world: &mut W,
-    running: Running<'f>,
-) -> Result<Running<'f>, Status>
-    requires placed { IsPlacedIn (W.stands world.old).told running.clocked }
-    ensures ok { IfOk result (Moves KeepsRunning (W.stands world.old) (W.stands world.new) at_clock to_end running.entry) }
+    ensures ok { IfOk result (λ r. Moves KeepsRunning (W.stands world.old) (W.stands world.new) at_clock (served_to r.1) running.entry r.0) }
     ensures err { IfErr result (MoveFails KeepsRunning (W.stands world.old) (W.stands world.new) at_clock running.entry) }
     ensures cause { IfErr result (HasCause (W.stands world.old) (W.stands world.new)) }
     ensures steady { IsSteady (W.stands world.old) (W.stands world.new) }
-    ensures left { IfOk result (λ after. after.left ≡ running.entry.left) }
-    ensures placed { IfOk result (λ after. IsPlacedIn (W.stands world.new).told after.clocked) }
+    ensures asked { IfOk result (λ r. IfSome r.1 (λ place. IsAsking place r.0)) }
+    ensures left { IfOk result (λ r. r.0.left ≡ running.entry.left) }
+    ensures placed { IfOk result (λ r. IsPlacedIn (W.stands world.new).told r.0.clocked) }
 {
     let running = observe(alloc, world, running)?;
-    let running = act(alloc, world, running)?;
-    Ok(running)
+    let (running, asked) = attend(alloc, world, running)?;
+    Ok((running, asked))
 }
 
 // Whether a stop was asked for, all jobs are settled, and all replies are taken.
@@ -105,86 +89,104 @@ fn has_drained(running: &Running<'_>) -> bool
     core.is_stopping() && (core.lanes().count() == 0 && !running.clients.has_unwritten())
 }
 
-// A turn up to its pause; where all is settled behind a stop the run is over before it.
+// What a turn does behind its clients, up to its pause; where all is settled behind a stop the run is over before it.
 #[tactic(auto, using(crate::proofs::TurnLemmas::draining, run_law::proofs::CauseLemmas::counting))]
-fn up_to_pause<'f, W: World + Children + Disk + Gate>(
+fn up_to_pause<'f, W: World + Children + Disk>(
     alloc: Global,
     world: &mut W,
     running: Running<'f>,
 ) -> Result<Running<'f>, Status>
     requires placed { IsPlacedIn (W.stands world.old).told running.clocked }
-    ensures ok { IfOk result (Moves KeepsRunning (W.stands world.old) (W.stands world.new) at_clock at_pause running.entry) }
-    ensures err { IfErr result (MoveFails KeepsRunning (W.stands world.old) (W.stands world.new) at_clock running.entry) }
+    ensures ok { IfOk result (Moves KeepsRunning (W.stands world.old) (W.stands world.new) to_starts at_pause running.entry) }
+    ensures err { IfErr result (MoveFails KeepsRunning (W.stands world.old) (W.stands world.new) to_starts running.entry) }
     ensures cause { IfErr result (HasCause (W.stands world.old) (W.stands world.new)) }
     ensures steady { IsSteady (W.stands world.old) (W.stands world.new) }
     ensures left { IfOk result (λ after. after.left ≡ running.entry.left) }
     ensures placed { IfOk result (λ after. IsPlacedIn (W.stands world.new).told after.clocked) }
 {
-    let running = work(alloc, world, running)?;
+    let running = start_children(alloc, world, running)?;
     if has_drained(&running) {
         return Err(Status::Stopped);
     }
     Ok(running)
 }
 
-// A turn that is not the last.
-#[tactic(auto, using(crate::proofs::TurnLemmas::turning, run_law::proofs::CauseLemmas::counting))]
-fn turn<'f, W: World + Children + Disk + Gate>(
+// The end of a turn, from behind its clients: what is kept at the next one, or nothing where all were made.
+#[tactic(auto, using(crate::proofs::TurnLemmas::turning, crate::proofs::TurnLemmas::ending, run_law::proofs::CauseLemmas::counting))]
+fn end_turn<'f, W: World + Children + Disk>(
     alloc: Global,
     world: &mut W,
     running: Running<'f>,
-) -> Result<Running<'f>, Status>
-    requires left { 1 < running.left }
+) -> Result<Option<Running<'f>>, Status>
+    requires left { 1 ≤ running.left }
     requires placed { IsPlacedIn (W.stands world.old).told running.clocked }
-    ensures ok { IfOk result (Moves KeepsRunning (W.stands world.old) (W.stands world.new) at_clock at_clock running.entry) }
-    ensures err { IfErr result (MoveFails KeepsRunning (W.stands world.old) (W.stands world.new) at_clock running.entry) }
+    ensures ok { IfOk result (EndsTurn (W.stands world.old) (W.stands world.new) running.entry) }
+    ensures err { IfErr result (MoveFails KeepsRunning (W.stands world.old) (W.stands world.new) to_starts running.entry) }
     ensures cause { IfErr result (HasCause (W.stands world.old) (W.stands world.new)) }
     ensures steady { IsSteady (W.stands world.old) (W.stands world.new) }
-    ensures left { IfOk result (λ after. after.left + 1 ≡ running.entry.left) }
-    ensures placed { IfOk result (λ after. IsPlacedIn (W.stands world.new).told after.clocked) }
+    ensures placed { IfOk result (λ next. IfSome next (λ after. IsPlacedIn (W.stands world.new).told after.clocked)) }
 {
     let running = up_to_pause(alloc, world, running)?;
-    Ok(pause(world, running))
-}
-
-// The last turn.
-#[tactic(auto, using(crate::proofs::TurnLemmas::turning, run_law::proofs::CauseLemmas::counting))]
-fn last_turn<W: World + Children + Disk + Gate>(
-    alloc: Global,
-    world: &mut W,
-    running: Running<'_>,
-) -> Result<(), Status>
-    requires left { running.left ≡ 1 }
-    requires placed { IsPlacedIn (W.stands world.old).told running.clocked }
-    ensures ok { OnOk result (MoveFails KeepsRunning (W.stands world.old) (W.stands world.new) at_clock running.entry AllTurns) }
-    ensures err { IfErr result (MoveFails KeepsRunning (W.stands world.old) (W.stands world.new) at_clock running.entry) }
-    ensures cause { IfErr result (HasCause (W.stands world.old) (W.stands world.new)) }
-    ensures steady { IsSteady (W.stands world.old) (W.stands world.new) }
-{
-    let running = up_to_pause(alloc, world, running)?;
-    last_pause(world, running);
-    Ok(())
-}
-
-/// Makes the turns that are left, and ends the run. It ends sooner, with `Stopped`, in a turn in which all is settled behind a stop that
-/// was asked for.
-#[tactic(auto, using(crate::proofs::TurnLemmas::turning, run_law::proofs::CauseLemmas::counting))]
-pub fn make_turns<W: World + Children + Disk + Gate>(
-    alloc: Global,
-    world: &mut W,
-    first: Running<'_>,
-) -> Result<(), Status>
-    requires left { 1 ≤ first.left }
-    requires placed { IsPlacedIn (W.stands world.old).told first.clocked }
-    ensures ok { OnOk result (MoveFails KeepsRunning (W.stands world.old) (W.stands world.new) at_clock first.entry AllTurns) }
-    ensures err { IfErr result (MoveFails KeepsRunning (W.stands world.old) (W.stands world.new) at_clock first.entry) }
-    ensures cause { IfErr result (HasCause (W.stands world.old) (W.stands world.new)) }
-    ensures steady { IsSteady (W.stands world.old) (W.stands world.new) }
-{
-    let mut running = first;
-    while running.left > 1 {
-        running = turn(alloc, world, running)?;
+    if running.left > 1 {
+        return Ok(Some(pause(world, running)));
     }
-    last_turn(alloc, world, running)?;
-    Ok(())
+    last_pause(world, running);
+    Ok(None)
+}
+
+/// Makes the turns that are left, from a point of one where its clients were served so far: behind all of them, or at one that asked for a reload.
+/// Ends where the next one asks for that, with its place, or with nothing where all turns were made. The run is over sooner, with `Stopped`, in a
+/// turn in which all is settled behind a stop that was asked for.
+#[tactic(auto, using(crate::proofs::TurnLemmas::turning, crate::proofs::TurnLemmas::ending, run_law::proofs::CauseLemmas::counting))]
+pub fn make_turns<'f, W: World + Children + Disk + Gate>(
+    alloc: Global,
+    world: &mut W,
+    running: Running<'f>,
+    asked: Option<usize>,
+) -> Result<Option<(Running<'f>, usize)>, Status>
+    requires left { 1 ≤ running.left }
+    requires asked { IfSome asked (λ place. IsAsking place running) }
+    requires placed { IsPlacedIn (W.stands world.old).told running.clocked }
+    ensures ok { IfOk result (GoesOn (W.stands world.old) (W.stands world.new) (served_to asked) running.entry) }
+    ensures err { IfErr result (MoveFails KeepsRunning (W.stands world.old) (W.stands world.new) (served_to asked) running.entry) }
+    ensures cause { IfErr result (HasCause (W.stands world.old) (W.stands world.new)) }
+    ensures steady { IsSteady (W.stands world.old) (W.stands world.new) }
+    ensures placed { IfOk result (λ o. IfSome o (λ r. IsPlacedIn (W.stands world.new).told r.0.clocked)) }
+{
+    let mut running = running;
+    let mut asked = asked;
+    'turns: loop {
+        if let Some(place) = asked {
+            return Ok(Some((running, place)));
+        }
+        let Some(next) = end_turn(alloc, world, running)? else {
+            return Ok(None);
+        };
+        let (after, place) = begin_turn(alloc, world, next)?;
+        running = after;
+        asked = place;
+    }
+}
+
+/// Goes on behind the client at a place, for which the configuration was read again.
+#[tactic(auto, using(crate::proofs::TurnLemmas::turning, crate::proofs::TurnLemmas::ending, run_law::proofs::CauseLemmas::counting))]
+pub fn go_on<'f, W: World + Children + Disk + Gate>(
+    alloc: Global,
+    world: &mut W,
+    running: Running<'f>,
+    place: usize,
+) -> Result<Option<(Running<'f>, usize)>, Status>
+    requires left { 1 ≤ running.left }
+    requires within { place < length running.clients }
+    requires placed { IsPlacedIn (W.stands world.old).told running.clocked }
+    ensures ok { IfOk result (GoesOn (W.stands world.old) (W.stands world.new) (behind_client place) running.entry) }
+    ensures err { IfErr result (MoveFails KeepsRunning (W.stands world.old) (W.stands world.new) (behind_client place) running.entry) }
+    ensures cause { IfErr result (HasCause (W.stands world.old) (W.stands world.new)) }
+    ensures steady { IsSteady (W.stands world.old) (W.stands world.new) }
+    ensures fewer { IfOk result (λ o. IfSome o (λ r. left_of r.0 r.1 < left_of running.entry place)) }
+    ensures placed { IfOk result (λ o. IfSome o (λ r. IsPlacedIn (W.stands world.new).told r.0.clocked)) }
+{
+    let (running, asked) = serve_rest(alloc, world, running, place)?;
+    let outcome = make_turns(alloc, world, running, asked)?;
+    Ok(outcome)
 }

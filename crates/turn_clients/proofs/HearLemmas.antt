@@ -1,5 +1,5 @@
 -- What came of a client, taken and responded to: how the run goes on behind the read.
-use Rattle.std.proofs.Common.{ℕ, ◌≡◌, ◌<◌, List, [], length, Option, Some, None, IfSome, refl, sym, ap, ap₂, ◌∙◌, subst, arith}
+use Rattle.std.proofs.Common.{ℕ, ◌≡◌, ◌<◌, true, false, List, [], length, Option, Some, None, IfSome, refl, sym, ap, ap₂, ◌∙◌, subst, arith}
 use Rattle.std.specs.Prelude.{option_map}
 use Rattle.client_frames.specs.Comes.{Heard}
 use Rattle.client_table.specs.Clients.{Client, AnswersRead, after_read, answered, asks_at, changed_at, heard_at, unwritten_at}
@@ -10,7 +10,7 @@ use Rattle.f2b_world.specs.declared.answer.GateRead.{GateRead}
 use Rattle.run_law.specs.Law.{Halts}
 use Rattle.run_law.specs.News.{after_news}
 use Rattle.run_law.specs.Points.{Point, Run}
-use Rattle.run_law.specs.Requests.{Response as LawResponse, to_heard}
+use Rattle.run_law.specs.Requests.{Response as LawResponse, ReadsAgain as Rereads, to_heard}
 use Rattle.run_law.specs.Server.{Server}
 use Rattle.run_law.specs.Serving.{reads, reads_by, responded, serves, with_clients}
 use Rattle.run_law.specs.Stages.{Brings, BringFails, IsAt, Reaches}
@@ -22,8 +22,10 @@ use Rattle.run_law.proofs.PointLemmas.{halts_here}
 use Rattle.run_steps.specs.Keeping.{IsPlacedIn, KeepsRunning, news_of}
 use Rattle.run_steps.specs.declared.running.Running.{Running}
 use Rattle.turn_clients.specs.Responding.{RespondsTo, told_by}
-use Rattle.turn_clients.specs.Serving.{HasClients, HasHeard, ServeFails, Serves}
+use Rattle.turn_clients.specs.Serving.{HasClients, HasHeard, IsWrittenIf, ServeFails, Serves, at_reload, behind_read}
+use Rattle.turn_clients.specs.declared.response.Reply.{Reply}
 use Rattle.turn_clients.specs.declared.response.Response.{Response}
+use Rattle.turn_clients.specs.declared.response.Response.TheVariants.{ReadsAgain, Replies}
 use Rattle.turn_clients.proofs.ServingLemmas.{clients_as, clients_left, clients_placed, keeps_clients, reaches_alone}
 
 -- ---- what is heard
@@ -60,19 +62,26 @@ module _ (before : Running) (place : ℕ) (answer : GateRead) (table : List Clie
         by_told None is responds = absurd responds
         by_told (Some h) is responds = responds s keeps.clocked ∙ ap (to_heard s.now s.state) (is ∙ ap (heard_at answer place) keeps.clients)
 
-    pub has_heard_part : given ≡ None → HasHeard place answer before (record before { clients = table }) given
-    has_heard_part none = record {
+    -- nothing is put in
+    unanswered : (o : Option Response) → given ≡ o → responded (option_map told_by o) place (read_table place answer before) ≡ read_table place answer before → HasHeard place answer before (record before { clients = table }) given
+    unanswered o same none = record {
       clients = record {
         clocked = refl;
         logs = refl;
         children = refl;
-        clients = table_is ∙ ap (λ (o : Option Response). responded (option_map told_by o) place (read_table place answer before)) (sym none);
+        clients = table_is ∙ sym none ∙ ap (λ (x : Option Response). responded (option_map told_by x) place (read_table place answer before)) (sym same);
         left = refl;
       };
       responds = given_as;
     }
 
-    pub has_heard : (one : Response) (after : List Client) → given ≡ Some one → after ≡ changed_at place (answered one.answer) table → HasHeard place answer before (record before { clients = after }) given
+    pub has_heard_part : given ≡ None → HasHeard place answer before (record before { clients = table }) given
+    has_heard_part none = unanswered None none refl
+
+    pub has_heard_again : given ≡ Some ReadsAgain → HasHeard place answer before (record before { clients = table }) given
+    has_heard_again again = unanswered (Some ReadsAgain) again refl
+
+    pub has_heard : (one : Reply) (after : List Client) → given ≡ Some (Replies one) → after ≡ changed_at place (answered one.answer) table → HasHeard place answer before (record before { clients = after }) given
     has_heard one after some put = record {
       clients = record {
         clocked = refl;
@@ -106,7 +115,8 @@ module _ (place : ℕ) (answer : GateRead) (before mid : Running) where
       where
         many : (o : Option Response) → length (responded (option_map told_by o) place (read_table place answer before)) ≡ length before.clients
         many None = length-changed_at place (after_read before.clocked.now answer) before.clients
-        many (Some x) = length-changed_at place (answered x.answer) (read_table place answer before) ∙ length-changed_at place (after_read before.clocked.now answer) before.clients
+        many (Some (Replies x)) = length-changed_at place (answered x.answer) (read_table place answer before) ∙ length-changed_at place (after_read before.clocked.now answer) before.clients
+        many (Some ReadsAgain) = length-changed_at place (after_read before.clocked.now answer) before.clients
 
     pub heard_left : mid.left ≡ before.left
     heard_left = heard.clients.left
@@ -114,45 +124,58 @@ module _ (place : ℕ) (answer : GateRead) (before mid : Running) where
     pub heard_placed : (told : Option History) → IsPlacedIn told before.clocked → IsPlacedIn told mid.clocked
     heard_placed told placed = clients_placed before mid (responded (option_map told_by given) place (read_table place answer before)) told heard.clients placed
 
+    -- where it asks for the configuration nothing is unwritten to it
+    pub heard_written : AnswersRead (asks_at place before.clients) answer → given ≡ Some ReadsAgain → IsWrittenIf true place mid
+    heard_written answers again =
+        ap (unwritten_at place) (heard.clients.clients ∙ ap (λ (o : Option Response). responded (option_map told_by o) place (read_table place answer before)) again)
+        ∙ read_unwritten before.clocked.now answer place before.clients answers
+
+    -- what is heard is this
+    heard_is : (o : Option Response) → given ≡ o → (s : Server) → KeepsRunning s before → option_map told_by o ≡ to_heard s.now s.state (heard_at answer place s.clients)
+    heard_is o same s keeps = ap (option_map told_by) (sym same) ∙ heard.responds s keeps
+
+    keeps_as : (o : Option Response) → given ≡ o → (s : Server) → KeepsRunning s before → KeepsRunning (with_clients (clients_then (option_map told_by o) s) s) mid
+    keeps_as o same s keeps = let P : Option Response → Type 0 = λ x. KeepsRunning (with_clients (clients_then (option_map told_by x) s) s) mid in subst P same (keeps_mid s keeps)
+
     -- nothing is responded to
-    pub hear_part : (a : Standing) → given ≡ None → Serves a a (reads answer place) (behind_client place) before mid
+    pub hear_part : (a : Standing) → given ≡ None → Serves a a (reads answer place) (behind_read false place) before mid
     hear_part a none = record {
       runs = λ r s here at keeps.
-          let is : None ≡ to_heard s.now s.state (heard_at answer place s.clients) = ap (option_map told_by) (sym none) ∙ heard.responds s keeps in
-          let P : Option Response → Type 0 = λ o. KeepsRunning (with_clients (clients_then (option_map told_by o) s) s) mid in
           let Q : Option LawResponse → Type 0 = λ o. Reaches KeepsRunning a a (serves (reads_by o answer place s) s r) (behind_client place) mid in
-          subst Q is (reaches_alone a (behind_client place) (with_clients (clients_then None s) s) r here mid at (subst P none (keeps_mid s keeps)));
+          subst Q (heard_is None none s keeps) (reaches_alone a (behind_client place) (with_clients (clients_then None s) s) r here mid at (keeps_as None none s keeps));
     }
 
-    module _ (one : Response) (some : given ≡ Some one) where
-      one_is : (s : Server) → KeepsRunning s before → Some (told_by one) ≡ to_heard s.now s.state (heard_at answer place s.clients)
-      one_is s keeps = ap (option_map told_by) (sym some) ∙ heard.responds s keeps
+    -- the configuration comes next
+    pub hear_again : (a : Standing) → given ≡ Some ReadsAgain → Serves a a (reads answer place) (behind_read true place) before mid
+    hear_again a again = record {
+      runs = λ r s here at keeps.
+          let Q : Option LawResponse → Type 0 = λ o. Reaches KeepsRunning a a (serves (reads_by o answer place s) s r) (at_reload place) mid in
+          subst Q (heard_is (Some ReadsAgain) again s keeps) (reaches_alone a (at_reload place) (with_clients (clients_then (Some Rereads) s) s) r here mid at (keeps_as (Some ReadsAgain) again s keeps));
+    }
 
-      keeps_one : (s : Server) → KeepsRunning s before → KeepsRunning (with_clients (clients_then (Some (told_by one)) s) s) mid
-      keeps_one s keeps = let P : Option Response → Type 0 = λ o. KeepsRunning (with_clients (clients_then (option_map told_by o) s) s) mid in subst P some (keeps_mid s keeps)
-
+    module _ (one : Reply) (some : given ≡ Some (Replies one)) where
       -- what is brought was taken
-      pub hear_brought : (a b : Standing) (after : Running) → Brings KeepsRunning a b (news_of [] one.what one.behind) mid after → Serves a b (reads answer place) (behind_client place) before after
+      pub hear_brought : (a b : Standing) (after : Running) → Brings KeepsRunning a b (news_of [] one.what one.behind) mid after → Serves a b (reads answer place) (behind_read false place) before after
       hear_brought a b after brought = record {
         runs = λ r s here at keeps.
-            let u = with_clients (clients_then (Some (told_by one)) s) s in
-            let last = brought.runs r (λ t. here) (behind_client place) u (saying_behind place) at (keeps_one s keeps) in
+            let u = with_clients (clients_then (Some (told_by (Replies one))) s) s in
+            let last = brought.runs r (λ t. here) (behind_client place) u (saying_behind place) at (keeps_as (Some (Replies one)) some s keeps) in
             let Q : Option LawResponse → Type 0 = λ o. Reaches KeepsRunning a b (serves (reads_by o answer place s) s r) (behind_client place) after in
-            subst Q (one_is s keeps) (record { to = last.to; server = after_news (news_of [] one.what one.behind u) u; goes = last.goes; at = last.at; keeps = last.keeps });
+            subst Q (heard_is (Some (Replies one)) some s keeps) (record { to = last.to; server = after_news (news_of [] one.what one.behind u) u; goes = last.goes; at = last.at; keeps = last.keeps });
       }
 
       pub hear_unbrought : (a b : Standing) (status : Status) → BringFails KeepsRunning a b (news_of [] one.what one.behind) mid status → ServeFails a b (reads answer place) before status
       hear_unbrought a b status fails = record {
         runs = λ r s here at keeps.
-            let u = with_clients (clients_then (Some (told_by one)) s) s in
+            let u = with_clients (clients_then (Some (told_by (Replies one))) s) s in
             let Q : Option LawResponse → Type 0 = λ o. Halts a.told b.told (serves (reads_by o answer place s) s r) status in
-            subst Q (one_is s keeps) (fails.runs r (λ t. here) (behind_client place) u (saying_behind place) at (keeps_one s keeps));
+            subst Q (heard_is (Some (Replies one)) some s keeps) (fails.runs r (λ t. here) (behind_client place) u (saying_behind place) at (keeps_as (Some (Replies one)) some s keeps));
       }
 
 -- memory ran out before it was heard
 pub hear_early : (a : Standing) (place : ℕ) (answer : GateRead) (before : Running) → ServeFails a a (reads answer place) before NoMemory
 hear_early a place answer before = record { runs = λ r s here at keeps. halts_here a.told (serves (reads answer place s) s r) }
 
-pub ruleset taking_in = (table_within, table_unwritten, has_heard_part, has_heard)
+pub ruleset taking_in = (table_within, table_unwritten, has_heard_part, has_heard_again, has_heard)
 
-pub ruleset hears = (hear_part, hear_brought, hear_unbrought, hear_early, heard_many, heard_left, heard_placed)
+pub ruleset hears = (hear_part, hear_again, heard_written, hear_brought, hear_unbrought, hear_early, heard_many, heard_left, heard_placed)

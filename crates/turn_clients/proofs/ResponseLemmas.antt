@@ -31,12 +31,14 @@ use Rattle.f2b_model.proofs.ListLemmas.{by_test}
 use Rattle.f2b_world.specs.declared.answer.GateRead.{GateRead}
 use Rattle.f2b_world.specs.declared.answer.GateRead.TheVariants as read
 use Rattle.run_law.specs.News.{News}
-use Rattle.run_law.specs.Requests.{Response as LawResponse, changing, refusing, reload_refusal, stop_lines, to_command, to_heard, to_request, to_words}
+use Rattle.run_law.specs.Requests.{Response as LawResponse, Answers, ReadsAgain as LawReadsAgain, changing, refusing, rereading, stop_lines, to_command, to_heard, to_request, to_words}
 use Rattle.run_law.specs.Server.{Server}
 use Rattle.run_steps.specs.Keeping.{KeepsClocked}
 use Rattle.run_steps.specs.declared.clocked.Clocked.{Clocked}
-use Rattle.turn_clients.specs.Responding.{HasFewWords, IsAskedFor, IsFit, RespondsAs, RespondsTo, told_by}
+use Rattle.turn_clients.specs.Responding.{HasFewWords, IsAskedFor, IsFitReply, RespondsAs, RespondsTo, told_by}
+use Rattle.turn_clients.specs.declared.response.Reply.{Reply}
 use Rattle.turn_clients.specs.declared.response.Response.{Response}
+use Rattle.turn_clients.specs.declared.response.Response.TheVariants.{ReadsAgain, Replies}
 
 -- ---- how many words a request has
 
@@ -82,22 +84,22 @@ few_words (Some h) answer place cs is heard = subst HasFewWords (sym is) (few_at
 abbrev reply_by : Bool → Answer
 reply_by late = sendable (answer (refusal_by None late) (codes "OK"))
 
-late_accepted : (late : Bool) → (reply_by late).accepted ≡ true → codes "Cannot reload yet" ≡ reload_refusal (refusal_by None late)
+late_accepted : (late : Bool) → (reply_by late).accepted ≡ true → LawReadsAgain ≡ rereading (refusal_by None late)
 late_accepted true is = absurd (let e : false ≡ true = is in cc)
 late_accepted false is = refl
 
-late_refused : (late : Bool) → (reply_by late).accepted ≡ false → (reply_by late).text ≡ reload_refusal (refusal_by None late)
+late_refused : (late : Bool) → (reply_by late).accepted ≡ false → refusing (reply_by late).text ≡ rereading (refusal_by None late)
 late_refused true is = refl
 late_refused false is = absurd (let e : true ≡ false = is in cc)
 
 module _ (now : ℕ) (core : Now) (given : Answer) (is : given ≡ reply now core request.Reload) where
-  pub reload_accepted : given.accepted ≡ true → codes "Cannot reload yet" ≡ reload_refusal (refusal core request.Reload)
+  pub reload_accepted : given.accepted ≡ true → told_by ReadsAgain ≡ rereading (refusal core request.Reload)
   unfolding reply refusal
   reload_accepted accepted = late_accepted (comes_late core request.Reload) (ap (λ (a : Answer). a.accepted) (sym is) ∙ accepted)
 
-  pub reload_refused : given.accepted ≡ false → given.text ≡ reload_refusal (refusal core request.Reload)
+  pub reload_refused : given.accepted ≡ false → (one : Response) → told_by one ≡ refusing given.text → told_by one ≡ rereading (refusal core request.Reload)
   unfolding reply refusal
-  reload_refused not = ap (λ (a : Answer). a.text) is ∙ late_refused (comes_late core request.Reload) (ap (λ (a : Answer). a.accepted) (sym is) ∙ not)
+  reload_refused not one made = made ∙ ap (λ (a : Answer). refusing a.text) is ∙ late_refused (comes_late core request.Reload) (ap (λ (a : Answer). a.accepted) (sym is) ∙ not)
 
 pub ruleset reloading = (reload_accepted, reload_refused)
 
@@ -140,30 +142,32 @@ unfolding effect
 effect_asked now asked = by_test (is_some (refusal now asked)) _ (λ refused. rw refused tt) (λ free. rw free (change_asked now asked))
 
 other_request : (now : ℕ) (s : State) (asked : Request) → asked ≢ request.Reload
-    → to_request now s asked ≡ record { answer = reply now (now_of s) asked; news = changing now (effect (now_of s) asked) }
+    → to_request now s asked ≡ Answers (reply now (now_of s) asked) (changing now (effect (now_of s) asked))
 other_request now s request.Reload other = absurd (other refl)
 other_request now s _ other = refl
 
-module _ (kept : Clocked) (asked : Request) (given : Response) where
+module _ (kept : Clocked) (asked : Request) (given : Reply) where
   -- the reply and the input are those of the state that it meets
   pub request_answered : asked ≢ request.Reload → given.answer ≡ reply kept.now kept.engine.core asked → given.what ≡ effect kept.engine.core asked → given.behind ≡ stop_lines kept.now given.what
-      → RespondsAs kept (λ now s. to_request now s asked) given
+      → RespondsAs kept (λ now s. to_request now s asked) (Replies given)
   request_answered other answered happens behind s keeps =
       let a : given.answer ≡ reply s.now (now_of s.state) asked = answered ∙ ap₂ (λ (n : ℕ) (c : Now). reply n c asked) keeps.now keeps.core in
       let w : given.what ≡ effect (now_of s.state) asked = happens ∙ ap (λ (c : Now). effect c asked) keeps.core in
       let b : given.behind ≡ stop_lines s.now (effect (now_of s.state) asked) = behind ∙ ap₂ (λ (n : ℕ) (o : Option What). stop_lines n o) keeps.now w in
-      let same : told_by given ≡ record { answer = reply s.now (now_of s.state) asked; news = changing s.now (effect (now_of s.state) asked) } =
-      λ i. record { answer = a i; news = record { before = []; what = w i; behind = b i } } in
+      let same : told_by (Replies given) ≡ Answers (reply s.now (now_of s.state) asked) (changing s.now (effect (now_of s.state) asked)) =
+      λ i. Answers (a i) (record { before = []; what = w i; behind = b i }) in
       same ∙ sym (other_request s.now s.state asked other)
 
-  pub request_fits : length given.answer.text ≤ most_text → given.what ≡ effect kept.engine.core asked → IfSome given.what IsStorableWhat → IsFit given
+  pub request_fits : length given.answer.text ≤ most_text → given.what ≡ effect kept.engine.core asked → IfSome given.what IsStorableWhat → IsFitReply given
   request_fits short happens storable =
       let P : Option What → Type 0 = λ o. IfSome o IsAskedFor in
       record { short = short; asked = subst P (sym happens) (effect_asked kept.engine.core asked); storable = storable }
 
-  pub request_reload : (why : List ℕ) → asked ≡ request.Reload → why ≡ reload_refusal (refusal kept.engine.core request.Reload) → told_by given ≡ refusing why → RespondsAs kept (λ now s. to_request now s asked) given
-  request_reload why reload is made s keeps =
-      made ∙ ap refusing (is ∙ ap (λ (c : Now). reload_refusal (refusal c request.Reload)) keeps.core) ∙ ap (λ (q : Request). to_request s.now s.state q) (sym reload)
+-- a reload, as the state has it
+pub request_reload : (kept : Clocked) (asked : Request) (given : Response) → asked ≡ request.Reload → told_by given ≡ rereading (refusal kept.engine.core request.Reload)
+    → RespondsAs kept (λ now s. to_request now s asked) given
+request_reload kept asked given reload made s keeps =
+    made ∙ ap (λ (c : Now). rereading (refusal c request.Reload)) keeps.core ∙ ap (λ (q : Request). to_request s.now s.state q) (sym reload)
 
 pub ruleset requesting = (request_answered, request_fits, request_reload)
 

@@ -1,5 +1,5 @@
 -- One client, written to or read.
-use Rattle.std.proofs.Common.{ℕ, ◌≡◌, ◌≢◌, ◌<◌, List, length, Option, Some, None, refl, sym, ap, ap₂, ◌∙◌, subst}
+use Rattle.std.proofs.Common.{ℕ, ◌≡◌, ◌≢◌, ◌<◌, Bool, true, false, List, length, Option, Some, None, refl, sym, ap, ap₂, ◌∙◌, subst}
 use Rattle.client_table.specs.Clients.{Asks, Client, Nothing, Reads, Writes, after_write, asks_at, changed_at, conn_at}
 use Rattle.client_table.proofs.AskLemmas.{read_answered, write_answered}
 use Rattle.client_table.proofs.PlaceLemmas.{length-changed_at}
@@ -24,7 +24,7 @@ use Rattle.run_law.proofs.StageLemmas.{move_fails_here, moves_as, moves_trans}
 use Rattle.run_steps.specs.Keeping.{IsPlacedIn, KeepsRunning}
 use Rattle.run_steps.specs.declared.clocked.Clocked.{Clocked}
 use Rattle.run_steps.specs.declared.running.Running.{Running}
-use Rattle.turn_clients.specs.Serving.{HasClients, ServeFails, Serves, at_close}
+use Rattle.turn_clients.specs.Serving.{HasClients, IsNearer, IsWrittenIf, ServeFails, Serves, at_close, behind_read, onward_from}
 use Rattle.turn_clients.proofs.ServingLemmas.{client_there, clients_as, clients_left, clients_placed, keeps_clients, reaches_alone}
 
 -- the call that a client asks for comes next
@@ -91,8 +91,8 @@ module _ (a b : Standing) (place most : ℕ) (answer : GateRead) (before : Runni
       let P : Option Call → Type 0 = λ c. IsNext c (ReadFrom (conn_at place before.clients) most answer) in
       turn_goes a b (ReadFrom (conn_at place before.clients) most answer) r (AtClient place) s read_called here (subst P (next_call before place (Reads most) asks s keeps) (refl, refl, received)) refl
 
-  pub read_moves : (c : Standing) (after : Running) → Serves b c (reads answer place) (behind_client place) before after → Moves KeepsRunning a c (to_clients place) (behind_client place) before after
-  read_moves c after served = record {
+  pub read_moves : (c : Standing) (next : Server → Point) (after : Running) → Serves b c (reads answer place) next before after → Moves KeepsRunning a c (to_clients place) next before after
+  read_moves c next after served = record {
     runs = λ r s at keeps.
         let here = here_read r s at keeps in
         let last = served.runs r s (AtTurn (AtClient place) s) here keeps in
@@ -120,13 +120,28 @@ pub ruleset reading = (read_moves, read_fails, read_lost)
 
 -- one that asks nothing is over
 pub serve_none : (a b : Standing) (place : ℕ) (before after : Running) → place < length before.clients → asks_at place before.clients ≡ Nothing
-    → Moves KeepsRunning a b (at_close place) (to_clients place) before after → Moves KeepsRunning a b (to_clients place) (to_clients place) before after
+    → Moves KeepsRunning a b (at_close place) (to_clients place) before after → Moves KeepsRunning a b (to_clients place) (onward_from (Some place) place) before after
 serve_none a b place before after within asks moves =
     moves_as KeepsRunning a b (to_clients place) (at_close place) (to_clients place) (to_clients place) before after (client_there before place Nothing within asks) (λ s keeps. refl) moves
 
 -- behind a call it leaves where it is over
 pub serve_behind : (a b c : Standing) (place next : ℕ) (before mid after : Running) → Moves KeepsRunning a b (to_clients place) (behind_client place) before mid
-    → Moves KeepsRunning b c (behind_client place) (to_clients next) mid after → Moves KeepsRunning a c (to_clients place) (to_clients next) before after
+    → Moves KeepsRunning b c (behind_client place) (to_clients next) mid after → Moves KeepsRunning a c (to_clients place) (onward_from (Some next) place) before after
 serve_behind a b c place next before mid after one two = moves_trans KeepsRunning a b c (to_clients place) (behind_client place) (to_clients next) before mid after one two
 
-pub ruleset serving = (write_moves, wrote_many, serve_none, serve_behind, write_answered, read_answered, clients_left, clients_placed)
+-- behind a read
+module _ (a b : Standing) (place : ℕ) (before mid : Running) (again : Bool) (moves : Moves KeepsRunning a b (to_clients place) (behind_read again place) before mid) where
+  pub read_again : again ≡ true → Moves KeepsRunning a b (to_clients place) (onward_from None place) before mid
+  read_again is = let P : Bool → Type 0 = λ x. Moves KeepsRunning a b (to_clients place) (behind_read x place) before mid in subst P is moves
+
+  pub read_done : again ≡ false → (c : Standing) (next : ℕ) (after : Running) → Moves KeepsRunning b c (behind_client place) (to_clients next) mid after
+      → Moves KeepsRunning a c (to_clients place) (onward_from (Some next) place) before after
+  read_done is c next after more =
+      let P : Bool → Type 0 = λ x. Moves KeepsRunning a b (to_clients place) (behind_read x place) before mid in
+      serve_behind a b c place next before mid after (subst P is moves) more
+
+-- one that asked for the configuration is still there, and written to whole
+pub asked_nearer : (place : ℕ) (before after : Running) (again : Bool) → again ≡ true → length after.clients ≡ length before.clients → IsWrittenIf again place after → IsNearer before place after None
+asked_nearer place before after again is many written = let P : Bool → Type 0 = λ x. IsWrittenIf x place after in (many, subst P is written)
+
+pub ruleset serving = (asked_nearer, write_moves, wrote_many, serve_none, serve_behind, read_again, read_done, write_answered, read_answered, clients_left, clients_placed)

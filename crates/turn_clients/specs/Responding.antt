@@ -6,15 +6,18 @@ use Rattle.f2b_base.specs.declared.input.What.{What}
 use Rattle.f2b_base.specs.declared.input.What.TheVariants.{Stop, Ban, Unban, Attempt, Ignore, Findtime, Bantime, Maxretry, Idle}
 use Rattle.f2b_model.specs.Storable.{IsStorableWhat}
 use Rattle.f2b_model.specs.Whole.{State}
-use Rattle.run_law.specs.Requests.{Response as LawResponse, to_heard}
+use Rattle.run_law.specs.Requests.{Response as LawResponse, Answers, ReadsAgain as Rereads, to_heard}
 use Rattle.run_law.specs.Server.{Server}
 use Rattle.run_steps.specs.Keeping.{KeepsClocked}
 use Rattle.run_steps.specs.declared.clocked.Clocked.{Clocked}
+use Rattle.turn_clients.specs.declared.response.Reply.{Reply}
 use Rattle.turn_clients.specs.declared.response.Response.{Response}
+use Rattle.turn_clients.specs.declared.response.Response.TheVariants.{Replies, ReadsAgain}
 
 -- the same in the words of the law
 abbrev pub told_by : Response → LawResponse
-told_by given = record { answer = given.answer; news = record { before = []; what = given.what; behind = given.behind } }
+told_by (Replies given) = Answers given.answer (record { before = []; what = given.what; behind = given.behind })
+told_by ReadsAgain = Rereads
 
 -- the moment and the state of a server that is kept so make this of it
 abbrev pub RespondsAs : Clocked → (ℕ → State → LawResponse) → Response → Type 0
@@ -44,7 +47,11 @@ IsAskedFor (Idle jail idle) = Unit {0}
 IsAskedFor _ = ⊥
 
 -- The reply can be sent, and what happens is what a client can make happen, and can be stored.
-pub record IsFit (given : Response) : Type 0 where
+pub record IsFitReply (given : Reply) : Type 0 where
   pub short : length given.answer.text ≤ most_text
   pub asked : IfSome given.what IsAskedFor
   pub storable : IfSome given.what IsStorableWhat
+
+abbrev pub IsFit : Response → Type 0
+IsFit (Replies given) = IsFitReply given
+IsFit ReadsAgain = Unit {0}

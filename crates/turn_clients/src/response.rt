@@ -7,8 +7,9 @@ ghost use Rattle.client_words.specs.Bounds.{IsBoundedRequest};
 ghost use Rattle.client_words.specs.Refusals.{refusal_of};
 ghost use Rattle.client_words.specs.declared.error.CommandError.TheVariants.{BadAddress};
 ghost use Rattle.client_words.specs.declared.request.Request.TheVariants.{Reload};
-ghost use Rattle.run_law.specs.Requests.{refusing, reload_refusal, stop_lines, to_request, to_words};
-ghost use Rattle.turn_clients.specs.Responding.{HasFewWords, IsFit, RespondsAs, RespondsTo, told_by};
+ghost use Rattle.run_law.specs.Requests.{refusing, rereading, stop_lines, to_request, to_words};
+ghost use Rattle.turn_clients.specs.Responding.{HasFewWords, IsFit, IsFitReply, RespondsAs, RespondsTo, told_by};
+ghost use Rattle.turn_clients.specs.declared.response.Response.TheVariants.{Replies};
 
 use client_frames::{Answer, FrameError};
 use client_replies::{effect, reply};
@@ -20,12 +21,21 @@ use std::alloc::Global;
 
 /// A reply, and what is brought beside it.
 #[derive(Drop)]
-pub(crate) struct Response {
+pub(crate) struct Reply {
     pub answer: Answer,
     /// What happens, if that is an input.
     pub what: Option<What>,
     /// The lines behind those that it tells.
     pub behind: Seq<Bytes>,
+}
+
+/// What is made of what is heard of a client.
+#[derive(Drop)]
+pub(crate) enum Response {
+    /// It is replied to so.
+    Replies(Reply),
+    /// The configuration is read again, and it is replied to behind that.
+    ReadsAgain,
 }
 
 // Nothing happens by what is refused.
@@ -34,14 +44,14 @@ fn refusing(alloc: Global, why: Text) -> Response
     ensures is { told_by result ≡ refusing why }
     ensures fit { IsFit result }
 {
-    Response {
+    Response::Replies(Reply {
         answer: Answer {
             accepted: false,
             text: why,
         },
         what: None,
         behind: Seq::new(alloc),
-    }
+    })
 }
 
 // A stop that comes is said.
@@ -55,32 +65,32 @@ fn stop_lines(alloc: Global, now: u64, what: &Option<What>) -> Result<Seq<Bytes>
     Ok(lines)
 }
 
-// Why a reload is refused: by the state, or since no configuration is read again yet.
+// A configuration is read again, unless the state refuses that.
 #[tactic(auto, using(crate::proofs::ResponseLemmas::reloading))]
-fn reload_refusal(alloc: Global, core: &Core, now: u64) -> Result<Text, NoMemory>
-    ensures is { IfOk result (λ why. why ≡ reload_refusal (refusal core.now Reload)) }
-    ensures short { IfOk result (λ why. length why ≤ most_text) }
+fn reload(alloc: Global, core: &Core, now: u64) -> Result<Response, NoMemory>
+    ensures is { IfOk result (λ given. told_by given ≡ rereading (refusal core.now Reload)) }
+    ensures fit { IfOk result IsFit }
 {
     let Answer { accepted, text } = reply(alloc, core, now, &Request::Reload)?;
     if accepted {
-        return Text::from_str(alloc, "Cannot reload yet");
+        return Ok(Response::ReadsAgain);
     }
-    Ok(text)
+    Ok(refusing(alloc, text))
 }
 
 // The reply to a request that is no reload, and what happens by it, both over the state that it meets.
 #[tactic(auto, using(crate::proofs::ResponseLemmas::requesting))]
-fn answer_request(alloc: Global, clocked: &Clocked, request: &Request) -> Result<Response, NoMemory>
+fn answer_request(alloc: Global, clocked: &Clocked, request: &Request) -> Result<Reply, NoMemory>
     requires other { request.now ≢ Reload }
     requires bounded { IsBoundedRequest request.now }
-    ensures is { IfOk result (RespondsAs clocked.entry.now (λ now s. to_request now s request.now)) }
-    ensures fit { IfOk result IsFit }
+    ensures is { IfOk result (λ given. RespondsAs clocked.entry.now (λ now s. to_request now s request.now) (Replies given)) }
+    ensures fit { IfOk result IsFitReply }
 {
     let core = clocked.engine.core();
     let answer = reply(alloc, core, clocked.now, request)?;
     let what = effect(alloc, core, request)?;
     let behind = stop_lines(alloc, clocked.now, &what)?;
-    Ok(Response {
+    Ok(Reply {
         answer,
         what,
         behind,
@@ -95,10 +105,9 @@ fn to_request(alloc: Global, clocked: &Clocked, request: &Request) -> Result<Res
     ensures fit { IfOk result IsFit }
 {
     if let Request::Reload = request {
-        let why = reload_refusal(alloc, clocked.engine.core(), clocked.now)?;
-        return Ok(refusing(alloc, why));
+        return reload(alloc, clocked.engine.core(), clocked.now);
     }
-    answer_request(alloc, clocked, request)
+    Ok(Response::Replies(answer_request(alloc, clocked, request)?))
 }
 
 // What is told of an address that is none, by the place of its word.

@@ -1,5 +1,5 @@
-use Rattle.run_start.proofs.BeginLemmas.{has_unchanged, tells_none}
-use Rattle.run_start.proofs.begin.input.Goals as goal
+use Rattle.run_start.proofs.ConfigureLemmas.{has_unchanged, tells_none}
+use Rattle.run_start.proofs.input.input.Goals as goal
 
 pub returns-clause-tells : goal.returns-clause-tells
 returns-clause-tells c =

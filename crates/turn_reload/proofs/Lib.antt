@@ -1,0 +1,5 @@
+pub mod ReaderLemmas
+pub mod LeaveLemmas
+pub mod TakeLemmas
+pub mod ReloadLemmas
+pub mod FollowLemmas
