@@ -1,5 +1,6 @@
--- Whatever comes, a field of a run stays that no part of a run changes: what was said, but for the calls that say, and what the slots held.
-use Rattle.std.proofs.Common.{ℕ, Bool, true, false, ◌≡◌, ◌+◌, ◌++◌, List, [], ◌∷◌, Option, Some, None, Result, Ok, Err, refl, ◌∙◌}
+-- Whatever comes, a field of a run stays that no part of a run changes: what was said, but for the calls that say, what the slots held,
+-- and what the run was asked for.
+use Rattle.std.proofs.Common.{ℕ, Bool, true, false, ◌≡◌, ◌+◌, ◌++◌, List, [], ◌∷◌, Option, Some, None, Result, Ok, Err, refl, sym, ap, ◌∙◌}
 use Rattle.std.specs.Prelude.{drop, slice_get}
 use Rattle.f2b_base.specs.declared.input.Input.{Input}
 use Rattle.f2b_base.specs.declared.input.What.{What}
@@ -7,6 +8,8 @@ use Rattle.f2b_base.specs.declared.job.Outcome.{Outcome}
 use Rattle.f2b_base.specs.declared.job.Outcome.TheVariants.{Status as EndedWith, NotStarted, TimedOut}
 use Rattle.f2b_base.specs.declared.outside.TreeAnswer.{TreeAnswer}
 use Rattle.f2b_base.specs.declared.outside.TreeAnswer.TheVariants.{Tree, Failed as TreeFailed, TooLarge as TreeTooLarge, NoMemory as TreeNoMemory}
+use Rattle.f2b_world.specs.Told.{History}
+use Rattle.f2b_world.specs.Walks.{after}
 use Rattle.f2b_world.specs.declared.answer.Len.{Len}
 use Rattle.f2b_world.specs.declared.answer.Len.TheVariants.{Bytes as LenIs, Failed as LenFailed}
 use Rattle.f2b_world.specs.declared.answer.Listen.{Listen}
@@ -35,7 +38,7 @@ use Rattle.child_table.specs.declared.child.Child.{Child}
 use Rattle.log_set.specs.Logs.{Watching}
 use Rattle.run_law.specs.Clock.{tick_news}
 use Rattle.run_law.specs.Disk.{broken, measured, piece_read, synced, wrote}
-use Rattle.run_law.specs.Law.{feed, moved, turns}
+use Rattle.run_law.specs.Law.{Free, Goes, MayCome, feed, moved, turns}
 use Rattle.reconcile.specs.Loads.{Loaded, loaded}
 use Rattle.run_law.specs.Looks.{look_news, look_taken, looked, looked_at, now_is, unread_news}
 use Rattle.run_law.specs.News.{News, brings, brings_by, entered, entering, goes_to, owing, refused, taking, writing}
@@ -51,7 +54,7 @@ use Rattle.run_law.specs.Reload.{left_for, names_for, reload_news, reloaded, rel
 use Rattle.run_law.specs.Start.{defined, first_turn, listened, loads, made, makes_on, start_news, to_names, tree_read}
 use Rattle.run_law.specs.Starts.{child_started, without_child}
 use Rattle.run_law.specs.Turn.{to_logs, to_looks, to_polls, to_starts}
-use Rattle.run_law.proofs.DiskLemmas.{writing_says}
+use Rattle.run_law.proofs.DiskLemmas.{writing_plan, writing_says}
 use Rattle.run_law.proofs.ReadingLemmas.{makes_by, names_by, tree_by}
 use Rattle.slot_writes.specs.Entries.{Entry, Written, Full, Spent}
 use Rattle.slot_writes.specs.Writes.{Write}
@@ -242,3 +245,21 @@ pub feed_slots : (r : Run) (event : Event) → (feed r event).slots ≡ r.slots
 feed_slots r (Say bytes Done) = refl
 feed_slots r (Say bytes SayFailed) = refl
 feed_slots r event = others_slots r event tt
+
+others_plan : (r : Run) (event : Event) → IsNoSay event → (feed r event).plan ≡ r.plan
+others_plan r event other =
+    feed_stays (λ (x : Run). x.plan) (λ p x. refl) (λ lines x. refl) (λ input x. refl) (λ news what next s x. refl) writing_plan (λ x. refl) r event other
+
+-- what a run was asked for is always the same
+pub feed_plan : (r : Run) (event : Event) → (feed r event).plan ≡ r.plan
+feed_plan r (Say bytes Done) = refl
+feed_plan r (Say bytes SayFailed) = refl
+feed_plan r event = others_plan r event tt
+
+after_plan : (r : Run) (es : List Event) → (after feed MayCome Free r es).plan ≡ r.plan
+after_plan r [] = refl
+after_plan r (event ∷ es) = after_plan (feed r event) es ∙ feed_plan r event
+
+pub goes_plan : (old new : Option History) (r s : Run) → Goes old new r s → (h : History) → new ≡ Some h → s.plan ≡ r.plan
+goes_plan old None r s goes h told = absurd (let e : None ≡ Some h = told in cc)
+goes_plan old (Some k) r s goes h told = let on = goes.events in ap (λ (x : Run). x.plan) (sym on.4.1) ∙ after_plan r on.1

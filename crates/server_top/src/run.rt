@@ -18,7 +18,7 @@ ghost use Rattle.run_trees.specs.Trees.{IsOfTree};
 ghost use Rattle.server_top.specs.Prepared.{BeginsSound, OpensTo, PlanHalts, Prepares, ResumeFails, Resumes};
 ghost use Rattle.server_top.specs.Usage.{IsOfUsage};
 
-use crate::turns::{begin_turn, go_on, make_turns};
+use crate::turns::{go_on, take_turns};
 use crate::words::read_words;
 use child_table::ChildTable;
 use client_table::ClientTable;
@@ -31,6 +31,7 @@ use run_load::{listen, load_journal};
 use run_start::{first_turn, follow};
 use run_steps::{Clocked, Running, refuse};
 use run_trees::{Configuration, read_configuration};
+use turn_reload::{Reread, follow_on, reload};
 use std::alloc::Global;
 
 // The state that was stored, and behind it the socket.
@@ -119,20 +120,19 @@ fn serve<W: World + Directories + Children + Store + Disk + Gate>(
         clients: ClientTable::new(alloc),
         left: plan.turns,
     };
-    let (running, asked) = begin_turn(alloc, world, running)?;
-    let mut outcome = make_turns(alloc, world, running, asked)?;
+    let mut outcome = take_turns(alloc, world, running)?;
     'reloads: while let Some((running, place)) = outcome {
-        match reload(alloc, world, plan, running, place)? {
-            Reread::Untaken(running) => outcome = go_on(alloc, world, running, place)?,
+        let running = match reload(alloc, world, plan, running, place)? {
+            Reread::Untaken(running) => running,
             Reread::Taken {
                 filters: fresh,
                 reloaded,
             } => {
                 filters = fresh;
-                let running = follow_on(alloc, filters.as_slice(), reloaded)?;
-                outcome = go_on(alloc, world, running, place)?;
+                follow_on(alloc, filters.as_slice(), reloaded)?
             }
-        }
+        };
+        outcome = go_on(alloc, world, running, place)?;
     }
     Ok(())
 }

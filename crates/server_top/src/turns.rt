@@ -1,12 +1,13 @@
 //! The turns of a run.
 ghost use Rattle.std.specs.Prelude.{◌≡◌, ◌≤◌, ◌<◌, length, IfErr, IfOk, IfSome};
+ghost use Rattle.client_table.specs.Clients.{most_clients};
 ghost use Rattle.run_law.specs.Stages.{HasCause, IsSteady, Moves, MoveFails};
 ghost use Rattle.run_law.specs.Turn.{at_pause, behind_client, to_children, to_starts};
 ghost use Rattle.run_law.specs.declared.status.Status.TheVariants.{TurnsSpent as AllTurns};
 ghost use Rattle.run_steps.specs.Keeping.{IsPlacedIn, KeepsRunning};
 ghost use Rattle.server_top.specs.Drained.{has_drained};
 ghost use Rattle.server_top.specs.Ticks.{at_clock};
-ghost use Rattle.server_top.specs.Turns.{EndsTurn, GoesOn, left_of};
+ghost use Rattle.server_top.specs.Turns.{Asks, EndsTurn, GoesOn, IsNext, left_from, left_of};
 ghost use Rattle.turn_clients.specs.Serving.{IsAsking, served_to};
 
 use crate::clock::read_clock;
@@ -52,6 +53,7 @@ fn attend<'f, W: World + Children + Disk + Gate>(
     ensures cause { IfErr result (HasCause (W.stands world.old) (W.stands world.new)) }
     ensures steady { IsSteady (W.stands world.old) (W.stands world.new) }
     ensures asked { IfOk result (λ r. IfSome r.1 (λ place. IsAsking place r.0)) }
+    ensures few { IfOk result (λ r. length r.0.clients ≤ most_clients) }
     ensures left { IfOk result (λ r. r.0.left ≡ running.entry.left) }
     ensures placed { IfOk result (λ r. IsPlacedIn (W.stands world.new).told r.0.clocked) }
 {
@@ -60,9 +62,9 @@ fn attend<'f, W: World + Children + Disk + Gate>(
     Ok((running, asked))
 }
 
-/// A turn from its beginning, up to a client that asks for a reload, or behind all clients.
+// A turn from its beginning, up to a client that asks for a reload, or behind all clients.
 #[tactic(auto, using(crate::proofs::TurnLemmas::turning, run_law::proofs::CauseLemmas::counting))]
-pub fn begin_turn<'f, W: World + Children + Disk + Gate>(
+fn begin_turn<'f, W: World + Children + Disk + Gate>(
     alloc: Global,
     world: &mut W,
     running: Running<'f>,
@@ -73,6 +75,7 @@ pub fn begin_turn<'f, W: World + Children + Disk + Gate>(
     ensures cause { IfErr result (HasCause (W.stands world.old) (W.stands world.new)) }
     ensures steady { IsSteady (W.stands world.old) (W.stands world.new) }
     ensures asked { IfOk result (λ r. IfSome r.1 (λ place. IsAsking place r.0)) }
+    ensures few { IfOk result (λ r. length r.0.clients ≤ most_clients) }
     ensures left { IfOk result (λ r. r.0.left ≡ running.entry.left) }
     ensures placed { IfOk result (λ r. IsPlacedIn (W.stands world.new).told r.0.clocked) }
 {
@@ -124,6 +127,7 @@ fn end_turn<'f, W: World + Children + Disk>(
     ensures err { IfErr result (MoveFails KeepsRunning (W.stands world.old) (W.stands world.new) to_starts running.entry) }
     ensures cause { IfErr result (HasCause (W.stands world.old) (W.stands world.new)) }
     ensures steady { IsSteady (W.stands world.old) (W.stands world.new) }
+    ensures next { IfOk result (λ next. IfSome next (IsNext running.entry)) }
     ensures placed { IfOk result (λ next. IfSome next (λ after. IsPlacedIn (W.stands world.new).told after.clocked)) }
 {
     let running = up_to_pause(alloc, world, running)?;
@@ -134,11 +138,40 @@ fn end_turn<'f, W: World + Children + Disk>(
     Ok(None)
 }
 
-/// Makes the turns that are left, from a point of one where its clients were served so far: behind all of them, or at one that asked for a reload.
-/// Ends where the next one asks for that, with its place, or with nothing where all turns were made. The run is over sooner, with `Stopped`, in a
-/// turn in which all is settled behind a stop that was asked for.
-#[tactic(auto, using(crate::proofs::TurnLemmas::turning, crate::proofs::TurnLemmas::ending, run_law::proofs::CauseLemmas::counting))]
-pub fn make_turns<'f, W: World + Children + Disk + Gate>(
+// Makes the turns that are left, from behind the clients of one, up to one in which a client asks for a reload: its place is given, or nothing where
+// all turns were made.
+#[tactic(auto, using(crate::proofs::TurnLemmas::turning, crate::proofs::TurnLemmas::going, run_law::proofs::CauseLemmas::counting))]
+fn make_turns<'f, W: World + Children + Disk + Gate>(
+    alloc: Global,
+    world: &mut W,
+    running: Running<'f>,
+) -> Result<Option<(Running<'f>, usize)>, Status>
+    requires left { 1 ≤ running.left }
+    requires placed { IsPlacedIn (W.stands world.old).told running.clocked }
+    ensures ok { IfOk result (GoesOn (W.stands world.old) (W.stands world.new) to_starts running.entry) }
+    ensures err { IfErr result (MoveFails KeepsRunning (W.stands world.old) (W.stands world.new) to_starts running.entry) }
+    ensures cause { IfErr result (HasCause (W.stands world.old) (W.stands world.new)) }
+    ensures steady { IsSteady (W.stands world.old) (W.stands world.new) }
+    ensures asks { IfOk result (λ o. IfSome o (λ r. Asks r.0 r.1)) }
+    ensures fewer { IfOk result (λ o. IfSome o (λ r. left_of r.0 r.1 ≤ left_from Option.None running.entry)) }
+    ensures placed { IfOk result (λ o. IfSome o (λ r. IsPlacedIn (W.stands world.new).told r.0.clocked)) }
+{
+    let mut running = running;
+    'turns: loop {
+        let Some(next) = end_turn(alloc, world, running)? else {
+            return Ok(None);
+        };
+        let (after, asked) = begin_turn(alloc, world, next)?;
+        if let Some(place) = asked {
+            return Ok(Some((after, place)));
+        }
+        running = after;
+    }
+}
+
+// From a point of a turn where its clients were served so far: behind all of them, or at one that asked for a reload.
+#[tactic(auto, using(crate::proofs::TurnLemmas::asked, run_law::proofs::CauseLemmas::counting))]
+fn up_to_reload<'f, W: World + Children + Disk + Gate>(
     alloc: Global,
     world: &mut W,
     running: Running<'f>,
@@ -151,25 +184,40 @@ pub fn make_turns<'f, W: World + Children + Disk + Gate>(
     ensures err { IfErr result (MoveFails KeepsRunning (W.stands world.old) (W.stands world.new) (served_to asked) running.entry) }
     ensures cause { IfErr result (HasCause (W.stands world.old) (W.stands world.new)) }
     ensures steady { IsSteady (W.stands world.old) (W.stands world.new) }
+    ensures asks { IfOk result (λ o. IfSome o (λ r. Asks r.0 r.1)) }
+    ensures fewer { IfOk result (λ o. IfSome o (λ r. left_of r.0 r.1 ≤ left_from asked running.entry)) }
     ensures placed { IfOk result (λ o. IfSome o (λ r. IsPlacedIn (W.stands world.new).told r.0.clocked)) }
 {
-    let mut running = running;
-    let mut asked = asked;
-    'turns: loop {
-        if let Some(place) = asked {
-            return Ok(Some((running, place)));
-        }
-        let Some(next) = end_turn(alloc, world, running)? else {
-            return Ok(None);
-        };
-        let (after, place) = begin_turn(alloc, world, next)?;
-        running = after;
-        asked = place;
+    match asked {
+        Some(place) => Ok(Some((running, place))),
+        None => make_turns(alloc, world, running),
     }
 }
 
-/// Goes on behind the client at a place, for which the configuration was read again.
-#[tactic(auto, using(crate::proofs::TurnLemmas::turning, crate::proofs::TurnLemmas::ending, run_law::proofs::CauseLemmas::counting))]
+/// Makes the turns that are left, from the beginning of one, up to a client that asks for a reload. Ends there, with its place, or with nothing
+/// where all turns were made. The run is over sooner, with `Stopped`, in a turn in which all is settled behind a stop that was asked for.
+#[tactic(auto, using(crate::proofs::TurnLemmas::turning, crate::proofs::TurnLemmas::going, run_law::proofs::CauseLemmas::counting))]
+pub fn take_turns<'f, W: World + Children + Disk + Gate>(
+    alloc: Global,
+    world: &mut W,
+    running: Running<'f>,
+) -> Result<Option<(Running<'f>, usize)>, Status>
+    requires left { 1 ≤ running.left }
+    requires placed { IsPlacedIn (W.stands world.old).told running.clocked }
+    ensures ok { IfOk result (GoesOn (W.stands world.old) (W.stands world.new) at_clock running.entry) }
+    ensures err { IfErr result (MoveFails KeepsRunning (W.stands world.old) (W.stands world.new) at_clock running.entry) }
+    ensures cause { IfErr result (HasCause (W.stands world.old) (W.stands world.new)) }
+    ensures steady { IsSteady (W.stands world.old) (W.stands world.new) }
+    ensures asks { IfOk result (λ o. IfSome o (λ r. Asks r.0 r.1)) }
+    ensures placed { IfOk result (λ o. IfSome o (λ r. IsPlacedIn (W.stands world.new).told r.0.clocked)) }
+{
+    let (running, asked) = begin_turn(alloc, world, running)?;
+    let outcome = up_to_reload(alloc, world, running, asked)?;
+    Ok(outcome)
+}
+
+/// Goes on behind the client at a place, for which the configuration was read again, up to the next one that asks for that, as `take_turns` does.
+#[tactic(auto, using(crate::proofs::TurnLemmas::turning, crate::proofs::TurnLemmas::going, run_law::proofs::CauseLemmas::counting))]
 pub fn go_on<'f, W: World + Children + Disk + Gate>(
     alloc: Global,
     world: &mut W,
@@ -183,10 +231,11 @@ pub fn go_on<'f, W: World + Children + Disk + Gate>(
     ensures err { IfErr result (MoveFails KeepsRunning (W.stands world.old) (W.stands world.new) (behind_client place) running.entry) }
     ensures cause { IfErr result (HasCause (W.stands world.old) (W.stands world.new)) }
     ensures steady { IsSteady (W.stands world.old) (W.stands world.new) }
+    ensures asks { IfOk result (λ o. IfSome o (λ r. Asks r.0 r.1)) }
     ensures fewer { IfOk result (λ o. IfSome o (λ r. left_of r.0 r.1 < left_of running.entry place)) }
     ensures placed { IfOk result (λ o. IfSome o (λ r. IsPlacedIn (W.stands world.new).told r.0.clocked)) }
 {
     let (running, asked) = serve_rest(alloc, world, running, place)?;
-    let outcome = make_turns(alloc, world, running, asked)?;
+    let outcome = up_to_reload(alloc, world, running, asked)?;
     Ok(outcome)
 }

@@ -1,6 +1,7 @@
 -- One client behind the other.
 use Rattle.std.proofs.Common.{ℕ, ◌≡◌, ◌≤◌, ◌<◌, ◌-◌, length, Option, Some, None, refl, subst, sym, arith}
 use Rattle.std.specs.Prelude.{IfSome}
+use Rattle.client_table.specs.Clients.{most_clients}
 use Rattle.f2b_world.specs.Told.{Standing}
 use Rattle.run_law.specs.Points.{Point}
 use Rattle.run_law.specs.Server.{Server}
@@ -51,6 +52,14 @@ asked_there before between after from place o is nearer within few =
     let same : length after.clients ≡ length between.clients = there.0 in
     (record { within = omega (arith, same, within); written = there.1 }, omega (arith, same, few))
 
+-- and no more than there may be are there
+pub asked_few : (between after : Running) (place : ℕ) (o : Option ℕ) → o ≡ None → IsNearer between place after o → length between.clients ≤ most_clients → length after.clients ≤ most_clients
+asked_few between after place o is nearer few =
+    let P : Option ℕ → Type 0 = λ x. IsNearer between place after x in
+    let there : IsNearer between place after None = subst P is nearer in
+    let same : length after.clients ≡ length between.clients = there.0 in
+    omega (arith, same, few)
+
 pub asked_within : (before after : Running) (from : ℕ) (o : Option ℕ) → AsksBehind before from after o → IfSome o (λ place. IsAsking place after)
 asked_within before after from None asked = tt
 asked_within before after from (Some place) asked = asked.0
@@ -69,6 +78,6 @@ module _ (a b : Standing) (at : Server → Point) (from : ℕ) (before between :
   pub stage_fails : (c : Standing) (status : Status) → MoveFails KeepsRunning b c (to_clients from) between status → MoveFails KeepsRunning a c at before status
   stage_fails c status fails = move_fails_on KeepsRunning a b c at (to_clients from) before between status moves fails
 
-pub ruleset clients = (clients_begin, clients_on, clients_asked, clients_end, clients_fail, on_nearer, asked_there)
+pub ruleset clients = (clients_begin, clients_on, clients_asked, clients_end, clients_fail, on_nearer, asked_there, asked_few)
 
 pub ruleset stage = (stage_moves, stage_fails, asked_within, asked_farther)

@@ -1,5 +1,6 @@
 //! All clients, each served once.
-ghost use Rattle.std.specs.Prelude.{◌≡◌, ◌<◌, length, IfErr, IfOk, IfSome};
+ghost use Rattle.std.specs.Prelude.{◌≡◌, ◌≤◌, ◌<◌, length, IfErr, IfOk, IfSome};
+ghost use Rattle.client_table.specs.Clients.{most_clients};
 ghost use Rattle.run_law.specs.Stages.{HasCause, IsSteady, Moves, MoveFails};
 ghost use Rattle.run_law.specs.Turn.{behind_client, to_accept, to_clients};
 ghost use Rattle.run_steps.specs.Keeping.{IsPlacedIn, KeepsRunning};
@@ -27,6 +28,7 @@ fn serve_each<'f, W: World + Disk + Gate>(
     ensures cause { IfErr result (HasCause (W.stands world.old) (W.stands world.new)) }
     ensures steady { IsSteady (W.stands world.old) (W.stands world.new) }
     ensures asked { IfOk result (λ r. AsksBehind running.entry from r.0 r.1) }
+    ensures few { IfOk result (λ r. length r.0.clients ≤ most_clients) }
     ensures left { IfOk result (λ r. r.0.left ≡ running.entry.left) }
     ensures placed { IfOk result (λ r. IsPlacedIn (W.stands world.new).told r.0.clocked) }
 {
@@ -59,6 +61,7 @@ pub fn serve_clients<'f, W: World + Disk + Gate>(
     ensures cause { IfErr result (HasCause (W.stands world.old) (W.stands world.new)) }
     ensures steady { IsSteady (W.stands world.old) (W.stands world.new) }
     ensures asked { IfOk result (λ r. IfSome r.1 (λ place. IsAsking place r.0)) }
+    ensures few { IfOk result (λ r. length r.0.clients ≤ most_clients) }
     ensures left { IfOk result (λ r. r.0.left ≡ running.entry.left) }
     ensures placed { IfOk result (λ r. IsPlacedIn (W.stands world.new).told r.0.clocked) }
 {
