@@ -8,3 +8,4 @@ pub mod RepliedLemmas
 pub mod TurnLemmas
 pub mod UsageLemmas
 pub mod ServeLemmas
+pub mod ReloadLemmas

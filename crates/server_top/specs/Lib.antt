@@ -3,4 +3,5 @@ pub mod Options
 pub mod Prepared
 pub mod Ticks
 pub mod Turns
+pub mod Reloads
 pub mod Usage

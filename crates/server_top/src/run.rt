@@ -1,5 +1,5 @@
 //! The run of the server.
-ghost use Rattle.std.specs.Prelude.{◌≡◌, ◌≤◌, IfErr, IfOk, IsSome, None, OnOk, map, string_bytes};
+ghost use Rattle.std.specs.Prelude.{◌≡◌, ◌≤◌, ◌<◌, IfErr, IfOk, IfSome, IsSome, None, OnOk, map, string_bytes};
 ghost use Rattle.ban_journal.specs.Places.{IsPlaced};
 ghost use Rattle.f2b_base.specs.declared.view.View.{View};
 ghost use Rattle.f2b_world.specs.Told.{Adds};
@@ -16,6 +16,8 @@ ghost use Rattle.run_start.specs.Followed.{ArePlaces, rules_in};
 ghost use Rattle.run_steps.specs.Keeping.{IsPlacedIn};
 ghost use Rattle.run_trees.specs.Trees.{IsOfTree};
 ghost use Rattle.server_top.specs.Prepared.{BeginsSound, OpensTo, PlanHalts, Prepares, ResumeFails, Resumes};
+ghost use Rattle.server_top.specs.Reloads.{FirstHalts, FirstTakes, GoesOnWith, NextHalts, NextTakes, TakeHalts, Takes, left_at, left_behind, left_in};
+ghost use Rattle.server_top.specs.Turns.{Asks};
 ghost use Rattle.server_top.specs.Usage.{IsOfUsage};
 
 use crate::turns::{go_on, take_turns};
@@ -31,7 +33,7 @@ use run_load::{listen, load_journal};
 use run_start::{first_turn, follow};
 use run_steps::{Clocked, Running, refuse};
 use run_trees::{Configuration, read_configuration};
-use turn_reload::{Reread, follow_on, reload};
+use turn_reload::{Reloaded, Reread, follow_on, reload};
 use std::alloc::Global;
 
 // The state that was stored, and behind it the socket.
@@ -96,8 +98,96 @@ fn prepare<W: World + Directories + Store + Disk + Gate>(
     Ok((filters, clocked))
 }
 
+// Reads the configuration again for the client that asks for it, and makes turns up to the next one, until one is taken: then it is given, with
+// its filters and with the place of that client, or nothing where all turns were made.
+#[tactic(auto, using(crate::proofs::ReloadLemmas::until, run_law::proofs::CauseLemmas::counting))]
+fn until_taken<'f, W: World + Directories + Children + Disk + Gate>(
+    alloc: Global,
+    world: &mut W,
+    plan: &Plan,
+    asked: Option<(Running<'f>, usize)>,
+) -> Result<Option<(Vec<Filter>, Reloaded, usize)>, Status>
+    requires asks { IfSome asked (λ r. Asks r.0 r.1) }
+    requires placed { IfSome asked (λ r. IsPlacedIn (W.stands world.old).told r.0.clocked) }
+    ensures ok { IfOk result (Takes (W.stands world.old) (W.stands world.new) plan.now asked.entry) }
+    ensures err { IfErr result (TakeHalts (W.stands world.old) (W.stands world.new) plan.now asked.entry) }
+    ensures cause { IfErr result (HasCause (W.stands world.old) (W.stands world.new)) }
+    ensures steady { IsSteady (W.stands world.old) (W.stands world.new) }
+    ensures taken { IfOk result (λ o. IfSome o (λ r. GoesOnWith r.0.items r.1 r.2)) }
+    ensures fewer { IfOk result (λ o. left_behind o ≤ left_in asked.entry) }
+    ensures placed { IfOk result (λ o. IfSome o (λ r. IsPlacedIn (W.stands world.new).told r.1.clocked)) }
+{
+    let mut asked = asked;
+    'asked: while let Some((running, place)) = asked {
+        match reload(alloc, world, plan, running, place)? {
+            Reread::Untaken(running) => asked = go_on(alloc, world, running, place)?,
+            Reread::Taken { filters, reloaded } => return Ok(Some((filters, reloaded, place))),
+        }
+    }
+    Ok(None)
+}
+
+// The turns from the first one on, until a configuration is taken.
+#[tactic(auto, using(crate::proofs::ReloadLemmas::first, run_law::proofs::CauseLemmas::counting))]
+fn first_turns<W: World + Directories + Children + Disk + Gate>(
+    alloc: Global,
+    world: &mut W,
+    plan: &Plan,
+    filters: &[Filter],
+    clocked: Clocked,
+) -> Result<Option<(Vec<Filter>, Reloaded, usize)>, Status>
+    requires some { 1 ≤ plan.now.turns }
+    requires filters { filters.now ≡ rules_in clocked }
+    requires places { ArePlaces clocked }
+    requires placed { IsPlacedIn (W.stands world.old).told clocked }
+    ensures ok { IfOk result (FirstTakes (W.stands world.old) (W.stands world.new) plan.now clocked.entry) }
+    ensures err { IfErr result (FirstHalts (W.stands world.old) (W.stands world.new) plan.now clocked.entry) }
+    ensures cause { IfErr result (HasCause (W.stands world.old) (W.stands world.new)) }
+    ensures steady { IsSteady (W.stands world.old) (W.stands world.new) }
+    ensures taken { IfOk result (λ o. IfSome o (λ r. GoesOnWith r.0.items r.1 r.2)) }
+    ensures placed { IfOk result (λ o. IfSome o (λ r. IsPlacedIn (W.stands world.new).told r.1.clocked)) }
+{
+    let logs = follow(alloc, filters, &clocked)?;
+    let running = Running {
+        clocked,
+        logs,
+        children: ChildTable::new(alloc),
+        clients: ClientTable::new(alloc),
+        left: plan.turns,
+    };
+    let asked = take_turns(alloc, world, running)?;
+    let taken = until_taken(alloc, world, plan, asked)?;
+    Ok(taken)
+}
+
+// The turns behind the client for which this configuration was taken, until the next one is.
+#[tactic(auto, using(crate::proofs::ReloadLemmas::next, run_law::proofs::CauseLemmas::counting))]
+fn next_turns<W: World + Directories + Children + Disk + Gate>(
+    alloc: Global,
+    world: &mut W,
+    plan: &Plan,
+    filters: &[Filter],
+    reloaded: Reloaded,
+    place: usize,
+) -> Result<Option<(Vec<Filter>, Reloaded, usize)>, Status>
+    requires taken { GoesOnWith filters.now reloaded place }
+    requires placed { IsPlacedIn (W.stands world.old).told reloaded.clocked }
+    ensures ok { IfOk result (NextTakes (W.stands world.old) (W.stands world.new) plan.now reloaded.entry place) }
+    ensures err { IfErr result (NextHalts (W.stands world.old) (W.stands world.new) plan.now reloaded.entry place) }
+    ensures cause { IfErr result (HasCause (W.stands world.old) (W.stands world.new)) }
+    ensures steady { IsSteady (W.stands world.old) (W.stands world.new) }
+    ensures taken { IfOk result (λ o. IfSome o (λ r. GoesOnWith r.0.items r.1 r.2)) }
+    ensures fewer { IfOk result (λ o. left_behind o < left_at reloaded.entry place) }
+    ensures placed { IfOk result (λ o. IfSome o (λ r. IsPlacedIn (W.stands world.new).told r.1.clocked)) }
+{
+    let running = follow_on(alloc, filters, reloaded)?;
+    let asked = go_on(alloc, world, running, place)?;
+    let taken = until_taken(alloc, world, plan, asked)?;
+    Ok(taken)
+}
+
 // What the plan asks for.
-#[tactic(auto, using(crate::proofs::ServeLemmas::serving, run_law::proofs::CauseLemmas::counting))]
+#[tactic(auto, using(crate::proofs::ReloadLemmas::serving, run_law::proofs::CauseLemmas::counting))]
 fn serve<W: World + Directories + Children + Store + Disk + Gate>(
     alloc: Global,
     world: &mut W,
@@ -110,29 +200,10 @@ fn serve<W: World + Directories + Children + Store + Disk + Gate>(
     ensures steady { IsSteady (W.stands world.old) (W.stands world.new) }
 {
     // The logs borrow the filters, which so stand here until a configuration is taken again, or the run is over.
-    let (first, clocked) = prepare(alloc, world, plan)?;
-    let mut filters = first;
-    let logs = follow(alloc, filters.as_slice(), &clocked)?;
-    let running = Running {
-        clocked,
-        logs,
-        children: ChildTable::new(alloc),
-        clients: ClientTable::new(alloc),
-        left: plan.turns,
-    };
-    let mut outcome = take_turns(alloc, world, running)?;
-    'reloads: while let Some((running, place)) = outcome {
-        let running = match reload(alloc, world, plan, running, place)? {
-            Reread::Untaken(running) => running,
-            Reread::Taken {
-                filters: fresh,
-                reloaded,
-            } => {
-                filters = fresh;
-                follow_on(alloc, filters.as_slice(), reloaded)?
-            }
-        };
-        outcome = go_on(alloc, world, running, place)?;
+    let (filters, clocked) = prepare(alloc, world, plan)?;
+    let mut taken = first_turns(alloc, world, plan, filters.as_slice(), clocked)?;
+    'reloads: while let Some((filters, reloaded, place)) = taken {
+        taken = next_turns(alloc, world, plan, filters.as_slice(), reloaded, place)?;
     }
     Ok(())
 }

@@ -20,4 +20,4 @@ mod serve;
 mod serves;
 mod take;
 
-pub use serves::serve_clients;
+pub use serves::{serve_clients, serve_rest};
