@@ -14,20 +14,12 @@ use Rattle.run_law.specs.News.{brings}
 use Rattle.run_law.specs.Paths.{Naming, Path, with_paths}
 use Rattle.run_law.specs.Patterns.{Pattern, patterns_of}
 use Rattle.run_law.specs.Points.{Point, Rereading, OfTree, OfMakes, OfNames, Run}
-use Rattle.run_law.specs.Reading.{make_call, makes_next, makes_one, names_call, names_next, read_as, reads_tree}
+use Rattle.run_law.specs.Reading.{IsUntaken, make_call, makes_next, makes_one, names_call, names_next, read_as, reads_tree}
 use Rattle.run_law.specs.Reload.{reload_call}
 use Rattle.run_law.specs.Server.{Server}
 use Rattle.run_law.specs.declared.plan.Plan.{Plan}
 use Rattle.run_law.specs.declared.status.Status.{Status}
 use Rattle.run_law.specs.declared.status.Status.TheVariants.{ConfFault, ConfRefused, ConfTooLarge, PatternRefused}
-
--- what a configuration is not taken for
-abbrev pub IsUntaken : Status → Type 0
-IsUntaken ConfFault = Unit {0}
-IsUntaken ConfTooLarge = Unit {0}
-IsUntaken (ConfRefused error) = Unit {0}
-IsUntaken (PatternRefused jail place kind) = Unit {0}
-IsUntaken _ = ⊥
 
 -- what holds where patterns are left, where the configuration is not taken, and where nothing happens
 module _ (P : Run → Type 0) (left_to_make : Settings → List Pattern → Run → Run) (untaken : Status → Run → Run) (r : Run)

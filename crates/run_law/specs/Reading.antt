@@ -35,6 +35,14 @@ names_call (p ∷ ps) = Some (AskNames (directory p.watch.path))
 
 -- ---- the tree and its patterns
 
+-- what a configuration is not taken for
+abbrev pub IsUntaken : Status → Type 0
+IsUntaken ConfFault = Unit {0}
+IsUntaken ConfTooLarge = Unit {0}
+IsUntaken (ConfRefused error) = Unit {0}
+IsUntaken (PatternRefused jail place kind) = Unit {0}
+IsUntaken _ = ⊥
+
 -- with what comes where these patterns are left, and where the configuration is not taken
 module _ (left_to_make : Settings → List Pattern → Run → Run) (untaken : Status → Run → Run) where
   abbrev pub read_as : Result Settings ConfError → Run → Run

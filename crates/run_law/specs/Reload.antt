@@ -27,6 +27,10 @@ reload_call plan OfTree = Some (AskTree plan.root)
 reload_call plan (OfMakes settings left) = make_call left
 reload_call plan (OfNames settings naming) = names_call naming.left
 
+-- the configuration comes next, which is read again for the client of a place
+abbrev pub at_reload : ℕ → Server → Point
+at_reload place s = AtTurn (AtReload OfTree place) s
+
 -- ---- one that is not taken
 
 -- the client is told why, the same is said, and the turn goes on behind it

@@ -37,7 +37,8 @@ use Rattle.run_law.proofs.LongLemmas.{goes_on}
 use Rattle.run_law.proofs.PointLemmas.{next_at}
 use Rattle.run_steps.specs.Starting.{LeavesSlots}
 use Rattle.run_trees.specs.Reads.{BuildFails, Builds, BuildsShort, not_taken, with_left}
-use Rattle.run_trees.specs.Trees.{IsCaused, IsOfTree, IsUntaken}
+use Rattle.run_law.specs.Reading.{IsUntaken}
+use Rattle.run_trees.specs.Trees.{IsCaused, IsOfTree}
 
 abbrev Placed : Type 0
 Placed = PatternPlace × List ℕ

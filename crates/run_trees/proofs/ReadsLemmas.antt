@@ -15,7 +15,7 @@ use Rattle.run_law.proofs.CauseLemmas.{refused_cause}
 use Rattle.run_law.proofs.PointLemmas.{goes_refl, goes_trans, halts_after, halts_here}
 use Rattle.run_steps.specs.Starting.{StartFails, Starts}
 use Rattle.run_trees.specs.Reads.{Reads, ReadsShort, at_tree, not_taken, with_left}
-use Rattle.run_trees.specs.Trees.{IsUntaken}
+use Rattle.run_law.specs.Reading.{IsUntaken}
 
 -- a part that does nothing
 pub reads_none : (a : Standing) (plan : Plan) (from : Reader → Run → Run) → Reads a a plan from from

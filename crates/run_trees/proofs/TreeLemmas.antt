@@ -25,7 +25,8 @@ use Rattle.run_law.proofs.PointLemmas.{halts_after, halts_here, point_goes}
 use Rattle.run_steps.specs.Starting.{LeavesSlots}
 use Rattle.run_steps.proofs.StartLemmas.{leaves_call}
 use Rattle.run_trees.specs.Reads.{Reads, ReadsShort, at_tree, not_taken, with_left}
-use Rattle.run_trees.specs.Trees.{IsDecided, IsOfTree, IsRead, IsUntaken}
+use Rattle.run_law.specs.Reading.{IsUntaken}
+use Rattle.run_trees.specs.Trees.{IsDecided, IsOfTree, IsRead}
 
 -- ---- what a tree comes to
 

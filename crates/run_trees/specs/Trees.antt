@@ -31,14 +31,6 @@ IsDecided TreeFailed (Err ConfFault) = Unit {0}
 IsDecided TreeTooLarge (Err ConfTooLarge) = Unit {0}
 IsDecided _ _ = ⊥
 
--- what a configuration is not taken for
-abbrev pub IsUntaken : Status → Type 0
-IsUntaken ConfFault = Unit {0}
-IsUntaken ConfTooLarge = Unit {0}
-IsUntaken (ConfRefused error) = Unit {0}
-IsUntaken (PatternRefused jail place kind) = Unit {0}
-IsUntaken _ = ⊥
-
 -- a pattern of the jail is refused for a cause, whatever configuration the jail stands in
 pub record IsCaused (old new : Standing) (jail : JailDef) (status : Status) : Type 0 where
   pub cause : (settings : Settings) → IsOfTree settings → Contains settings.defs.jails jail → HasCause old new status

@@ -6,7 +6,8 @@ ghost use Rattle.run_law.specs.Patterns.{patterns_of};
 ghost use Rattle.run_law.specs.Stages.{HasCause, IsSteady};
 ghost use Rattle.run_steps.specs.Starting.{LeavesSlots};
 ghost use Rattle.run_trees.specs.Reads.{BuildFails, Builds, BuildsShort, IfTaken, IfUntaken, Reads, ReadsShort, not_taken, with_left};
-ghost use Rattle.run_trees.specs.Trees.{IsCaused, IsOfTree, IsUntaken};
+ghost use Rattle.run_law.specs.Reading.{IsUntaken};
+ghost use Rattle.run_trees.specs.Trees.{IsCaused, IsOfTree};
 
 use f2b_base::{JailDef, NoMemory, Plain};
 use f2b_world::World;

@@ -9,7 +9,8 @@ ghost use Rattle.run_law.specs.Points.{AtStore, AtTree};
 ghost use Rattle.run_law.specs.Stages.{HasCause, IsSteady};
 ghost use Rattle.run_steps.specs.Starting.{LeavesSlots, Starts, StartFails};
 ghost use Rattle.run_trees.specs.Reads.{IfTaken, IfUntaken, Reads, ReadsShort, at_tree, not_taken, with_left};
-ghost use Rattle.run_trees.specs.Trees.{IsOfTree, IsUntaken};
+ghost use Rattle.run_law.specs.Reading.{IsUntaken};
+ghost use Rattle.run_trees.specs.Trees.{IsOfTree};
 
 use crate::configuration::Configuration;
 use crate::filters::build_filters;

@@ -10,7 +10,8 @@ ghost use Rattle.run_law.specs.Patterns.{patterns_of};
 ghost use Rattle.run_law.specs.Stages.{HasCause, IsSteady};
 ghost use Rattle.run_steps.specs.Starting.{LeavesSlots};
 ghost use Rattle.run_trees.specs.Reads.{IfTaken, IfUntaken, Reads, ReadsShort, at_tree, not_taken, with_left};
-ghost use Rattle.run_trees.specs.Trees.{IsDecided, IsOfTree, IsUntaken};
+ghost use Rattle.run_law.specs.Reading.{IsUntaken};
+ghost use Rattle.run_trees.specs.Trees.{IsDecided, IsOfTree};
 
 use f2b_base::{NoMemory, Tree, TreeAnswer};
 use f2b_world::World;

@@ -10,7 +10,7 @@ use Rattle.reconcile.specs.Loads.{AreSound}
 use Rattle.run_law.specs.Law.{Halts, opening}
 use Rattle.run_law.specs.Logs.{logs_of}
 use Rattle.run_law.specs.Points.{Point, Run}
-use Rattle.run_law.specs.Reload.{reloaded}
+use Rattle.run_law.specs.Reload.{at_reload, reloaded}
 use Rattle.run_law.specs.Server.{Server, following, jails, log_jails}
 use Rattle.run_law.specs.Stages.{IsAt, IsSteady, MoveFails, Reaches}
 use Rattle.run_law.specs.Stops.{HoldsThese}
@@ -30,7 +30,6 @@ use Rattle.server_top.specs.Reloads.{FirstHalts, FirstTakes, NextHalts, NextTake
 use Rattle.server_top.specs.Ticks.{at_clock}
 use Rattle.server_top.specs.Turns.{Asks, GoesOn, left_of}
 use Rattle.server_top.proofs.ServeLemmas.{halts_by, told_before}
-use Rattle.turn_clients.specs.Serving.{at_reload}
 use Rattle.turn_reload.specs.Reloading.{FollowsOn, ReadsTo, RereadFails}
 use Rattle.turn_reload.specs.Taking.{KeepsReloaded}
 use Rattle.turn_reload.specs.declared.reloaded.Reloaded.{Reloaded}

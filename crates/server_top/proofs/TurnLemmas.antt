@@ -5,6 +5,7 @@ use Rattle.client_table.specs.Clients.{Client, have_unwritten, most_clients}
 use Rattle.f2b_model.specs.Whole.{Now, now_of}
 use Rattle.f2b_world.specs.Told.{Standing}
 use Rattle.run_law.specs.Points.{Over, Point}
+use Rattle.run_law.specs.Reload.{at_reload}
 use Rattle.run_law.specs.Server.{Server}
 use Rattle.run_law.specs.Stages.{Moves, MoveFails}
 use Rattle.run_law.specs.Turn.{at_pause, is_drained, to_end, to_starts}
@@ -17,7 +18,7 @@ use Rattle.run_steps.specs.declared.running.Running.{Running}
 use Rattle.server_top.specs.Drained.{has_drained}
 use Rattle.server_top.specs.Ticks.{at_clock}
 use Rattle.server_top.specs.Turns.{Asks, EndsTurn, GoesOn, left_from, left_of}
-use Rattle.turn_clients.specs.Serving.{IsAsking, IsFarther, at_reload, served_to}
+use Rattle.turn_clients.specs.Serving.{IsAsking, IsFarther, served_to}
 
 pub turn_none : (a : Standing) (from : Server → Point) (kept : Running) → Moves KeepsRunning a a from from kept kept
 turn_none a from kept = moves_none KeepsRunning a from kept

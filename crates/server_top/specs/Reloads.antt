@@ -6,7 +6,7 @@ use Rattle.reconcile.specs.Loads.{AreSound}
 use Rattle.reconcile.specs.Opens.{WhereTold}
 use Rattle.run_law.specs.Law.{opening}
 use Rattle.run_law.specs.Points.{Point}
-use Rattle.run_law.specs.Reload.{reloaded}
+use Rattle.run_law.specs.Reload.{at_reload, reloaded}
 use Rattle.run_law.specs.Server.{Server}
 use Rattle.run_law.specs.Stages.{Reaches}
 use Rattle.run_law.specs.Stops.{HoldsThese}
@@ -19,7 +19,6 @@ use Rattle.run_steps.specs.declared.clocked.Clocked.{Clocked}
 use Rattle.run_steps.specs.declared.running.Running.{Running}
 use Rattle.server_top.specs.Prepared.{PlanHalts, Prepares}
 use Rattle.server_top.specs.Turns.{left_of}
-use Rattle.turn_clients.specs.Serving.{at_reload}
 use Rattle.turn_reload.specs.Taking.{KeepsReloaded}
 use Rattle.turn_reload.specs.declared.reloaded.Reloaded.{Reloaded}
 

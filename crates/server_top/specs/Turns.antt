@@ -2,6 +2,7 @@
 use Rattle.std.specs.Prelude.{ℕ, ◌≡◌, ◌≤◌, ◌+◌, ◌*◌, Option, Some, None}
 use Rattle.f2b_world.specs.Told.{Standing}
 use Rattle.run_law.specs.Points.{Point}
+use Rattle.run_law.specs.Reload.{at_reload}
 use Rattle.run_law.specs.Server.{Server}
 use Rattle.run_law.specs.Stages.{MoveFails, Moves}
 use Rattle.run_law.specs.Turn.{to_starts}
@@ -9,7 +10,7 @@ use Rattle.run_law.specs.declared.status.Status.TheVariants.{TurnsSpent}
 use Rattle.run_steps.specs.Keeping.{KeepsRunning}
 use Rattle.run_steps.specs.declared.running.Running.{Running}
 use Rattle.server_top.specs.Ticks.{at_clock}
-use Rattle.turn_clients.specs.Serving.{IsAsking, at_reload, behind}
+use Rattle.turn_clients.specs.Serving.{IsAsking, behind}
 
 -- the next turn begins, or all were made
 abbrev pub EndsTurn : Standing → Standing → Running → Option Running → Type 0

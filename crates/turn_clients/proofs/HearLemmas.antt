@@ -11,6 +11,7 @@ use Rattle.run_law.specs.Law.{Halts}
 use Rattle.run_law.specs.News.{after_news}
 use Rattle.run_law.specs.Points.{Point, Run}
 use Rattle.run_law.specs.Requests.{Response as LawResponse, ReadsAgain as Rereads, to_heard}
+use Rattle.run_law.specs.Reload.{at_reload}
 use Rattle.run_law.specs.Server.{Server}
 use Rattle.run_law.specs.Serving.{reads, reads_by, responded, serves, with_clients}
 use Rattle.run_law.specs.Stages.{Brings, BringFails, IsAt, Reaches}
@@ -22,7 +23,7 @@ use Rattle.run_law.proofs.PointLemmas.{halts_here}
 use Rattle.run_steps.specs.Keeping.{IsPlacedIn, KeepsRunning, news_of}
 use Rattle.run_steps.specs.declared.running.Running.{Running}
 use Rattle.turn_clients.specs.Responding.{RespondsTo, told_by}
-use Rattle.turn_clients.specs.Serving.{HasClients, HasHeard, IsWrittenIf, ServeFails, Serves, at_reload, behind_read}
+use Rattle.turn_clients.specs.Serving.{HasClients, HasHeard, IsWrittenIf, ServeFails, Serves, behind_read}
 use Rattle.turn_clients.specs.declared.response.Reply.{Reply}
 use Rattle.turn_clients.specs.declared.response.Response.{Response}
 use Rattle.turn_clients.specs.declared.response.Response.TheVariants.{ReadsAgain, Replies}

@@ -4,6 +4,7 @@ use Rattle.std.specs.Prelude.{IfSome}
 use Rattle.client_table.specs.Clients.{most_clients}
 use Rattle.f2b_world.specs.Told.{Standing}
 use Rattle.run_law.specs.Points.{Point}
+use Rattle.run_law.specs.Reload.{at_reload}
 use Rattle.run_law.specs.Server.{Server}
 use Rattle.run_law.specs.Stages.{MoveFails, Moves}
 use Rattle.run_law.specs.Turn.{behind_client, to_accept, to_clients, to_starts}
@@ -11,7 +12,7 @@ use Rattle.run_law.specs.declared.status.Status.{Status}
 use Rattle.run_law.proofs.StageLemmas.{move_fails_on, moves_as, moves_none, moves_trans}
 use Rattle.run_steps.specs.Keeping.{KeepsRunning}
 use Rattle.run_steps.specs.declared.running.Running.{Running}
-use Rattle.turn_clients.specs.Serving.{AsksBehind, IsAsking, IsFarther, IsNearer, at_reload, behind as left_behind, onward_from, served_to}
+use Rattle.turn_clients.specs.Serving.{AsksBehind, IsAsking, IsFarther, IsNearer, behind as left_behind, onward_from, served_to}
 use Rattle.turn_clients.proofs.ServingLemmas.{clients_past}
 
 module _ (from : ℕ) where

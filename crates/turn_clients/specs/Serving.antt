@@ -6,7 +6,8 @@ use Rattle.f2b_world.specs.declared.answer.Accept.{Accept}
 use Rattle.f2b_world.specs.declared.answer.Accept.TheVariants.{Conn}
 use Rattle.f2b_world.specs.declared.answer.GateRead.{GateRead}
 use Rattle.run_law.specs.Law.{Halts}
-use Rattle.run_law.specs.Points.{OfTree, Point, AtTurn, AtClose, AtReload, Run}
+use Rattle.run_law.specs.Points.{Point, AtTurn, AtClose, Run}
+use Rattle.run_law.specs.Reload.{at_reload}
 use Rattle.run_law.specs.Requests.{to_heard}
 use Rattle.run_law.specs.Server.{Server}
 use Rattle.run_law.specs.Serving.{Service, point_on, responded, serves}
@@ -26,10 +27,6 @@ conn_in _ = None
 -- the client of a place is over
 abbrev pub at_close : ℕ → Server → Point
 at_close place s = AtTurn (AtClose place) s
-
--- the configuration comes next, which is read again for the client of a place
-abbrev pub at_reload : ℕ → Server → Point
-at_reload place s = AtTurn (AtReload OfTree place) s
 
 -- behind a read the turn goes on there where the client of a place asked for that, and else behind that client
 abbrev pub behind_read : Bool → ℕ → Server → Point

@@ -9,6 +9,7 @@ use Rattle.jail_conf.proofs.AcceptedLemmas.{conf_is_within}
 use Rattle.run_law.specs.Law.{Goes, Halts}
 use Rattle.run_law.specs.News.{goes_to}
 use Rattle.run_law.specs.Points.{Point, Run}
+use Rattle.run_law.specs.Reload.{at_reload}
 use Rattle.run_law.specs.Server.{Server}
 use Rattle.run_law.specs.Stages.{IsAt}
 use Rattle.run_law.specs.Turn.{behind_client}
@@ -23,7 +24,7 @@ use Rattle.run_steps.specs.declared.running.Running.{Running}
 use Rattle.run_trees.specs.Reads.{Reads, ReadsShort, at_tree, not_taken, with_left}
 use Rattle.run_trees.specs.Trees.{IsOfTree}
 use Rattle.turn_reload.specs.Leaving.{LeaveFails, Leaves}
-use Rattle.turn_reload.specs.Reloading.{ReadsTo, RereadFails, Rereads, TakesRead, at_reload}
+use Rattle.turn_reload.specs.Reloading.{ReadsTo, RereadFails, Rereads, TakesRead}
 use Rattle.turn_reload.specs.Taking.{TakeFails}
 use Rattle.turn_reload.specs.declared.reloaded.Reread.{Reread}
 use Rattle.turn_reload.specs.declared.reloaded.Reread.TheVariants.{Untaken, Taken}

@@ -4,8 +4,8 @@ use Rattle.client_table.specs.Clients.{Client}
 use Rattle.f2b_world.specs.Told.{Standing}
 use Rattle.jail_conf.specs.declared.settings.Settings.{Settings}
 use Rattle.run_law.specs.Law.{Halts}
-use Rattle.run_law.specs.Points.{OfTree, AtReload, Point, AtTurn, Run}
-use Rattle.run_law.specs.Reload.{reloaded}
+use Rattle.run_law.specs.Points.{Point, Run}
+use Rattle.run_law.specs.Reload.{at_reload, reloaded}
 use Rattle.run_law.specs.Server.{Server, following}
 use Rattle.run_law.specs.Stages.{IsAt, Reaches}
 use Rattle.run_law.specs.Turn.{behind_client}
@@ -19,10 +19,6 @@ use Rattle.turn_reload.specs.Taking.{KeepsReloaded, Takes}
 use Rattle.turn_reload.specs.declared.reloaded.Reloaded.{Reloaded}
 use Rattle.turn_reload.specs.declared.reloaded.Reread.{Reread}
 use Rattle.turn_reload.specs.declared.reloaded.Reread.TheVariants.{Untaken, Taken}
-
--- the configuration comes next
-abbrev pub at_reload : ℕ → Server → Point
-at_reload place s = AtTurn (AtReload OfTree place) s
 
 -- ---- what comes of it
 
