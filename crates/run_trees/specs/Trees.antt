@@ -10,7 +10,7 @@ use Rattle.jail_conf.specs.Conf.{conf}
 use Rattle.jail_conf.specs.declared.settings.Settings.{Settings}
 use Rattle.run_law.specs.Stages.{HasCause}
 use Rattle.run_law.specs.declared.status.Status.{Status}
-use Rattle.run_law.specs.declared.status.Status.TheVariants.{ConfFault, ConfRefused, ConfTooLarge, PatternRefused}
+use Rattle.run_law.specs.declared.status.Status.TheVariants.{ConfFault, ConfRefused, ConfTooLarge}
 
 -- some tree comes to this configuration
 pub record IsOfTree (settings : Settings) : Type 0 where

@@ -140,8 +140,8 @@ fn first_turns<W: World + Directories + Children + Disk + Gate>(
     requires filters { filters.now ≡ rules_in clocked }
     requires places { ArePlaces clocked }
     requires placed { IsPlacedIn (W.stands world.old).told clocked }
-    ensures ok { IfOk result (FirstTakes (W.stands world.old) (W.stands world.new) plan.now clocked.entry) }
-    ensures err { IfErr result (FirstHalts (W.stands world.old) (W.stands world.new) plan.now clocked.entry) }
+    ensures ok { IfOk result (FirstTakes (W.stands world.old) (W.stands world.new) plan.now clocked) }
+    ensures err { IfErr result (FirstHalts (W.stands world.old) (W.stands world.new) plan.now clocked) }
     ensures cause { IfErr result (HasCause (W.stands world.old) (W.stands world.new)) }
     ensures steady { IsSteady (W.stands world.old) (W.stands world.new) }
     ensures taken { IfOk result (λ o. IfSome o (λ r. GoesOnWith r.0.items r.1 r.2)) }
@@ -172,12 +172,12 @@ fn next_turns<W: World + Directories + Children + Disk + Gate>(
 ) -> Result<Option<(Vec<Filter>, Reloaded, usize)>, Status>
     requires taken { GoesOnWith filters.now reloaded place }
     requires placed { IsPlacedIn (W.stands world.old).told reloaded.clocked }
-    ensures ok { IfOk result (NextTakes (W.stands world.old) (W.stands world.new) plan.now reloaded.entry place) }
-    ensures err { IfErr result (NextHalts (W.stands world.old) (W.stands world.new) plan.now reloaded.entry place) }
+    ensures ok { IfOk result (NextTakes (W.stands world.old) (W.stands world.new) plan.now reloaded place) }
+    ensures err { IfErr result (NextHalts (W.stands world.old) (W.stands world.new) plan.now reloaded place) }
     ensures cause { IfErr result (HasCause (W.stands world.old) (W.stands world.new)) }
     ensures steady { IsSteady (W.stands world.old) (W.stands world.new) }
     ensures taken { IfOk result (λ o. IfSome o (λ r. GoesOnWith r.0.items r.1 r.2)) }
-    ensures fewer { IfOk result (λ o. left_behind o < left_at reloaded.entry place) }
+    ensures fewer { IfOk result (λ o. left_behind o < left_at reloaded place) }
     ensures placed { IfOk result (λ o. IfSome o (λ r. IsPlacedIn (W.stands world.new).told r.1.clocked)) }
 {
     let running = follow_on(alloc, filters, reloaded)?;

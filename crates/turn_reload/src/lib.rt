@@ -15,11 +15,11 @@
 
 mod follow;
 mod leave;
-mod reload;
 mod reloaded;
+mod reread;
 mod take;
 mod tell;
 
 pub use follow::follow_on;
-pub use reload::reload;
 pub use reloaded::{Reloaded, Reread};
+pub use reread::reload;
