@@ -2,7 +2,7 @@
 use crate::callers::{Caller, plans};
 use crate::play::{File, Given, nothing, play_over, tree};
 use crate::transcript::transcript;
-use f2b_base::Seq;
+use f2b_base::{Seq, TreeAnswer};
 use f2b_mem::ChildPlan;
 use std::alloc::Global;
 use std::test::Fail;
@@ -12,6 +12,8 @@ struct Row {
     words: &'static str,
     /// The files of the configuration, in byte order of their paths.
     conf: &'static [File<'static>],
+    /// Those of its second reading and those behind, where they are others.
+    again: Option<&'static [File<'static>]>,
     /// At the start, and then turn by turn.
     readings: &'static [u64],
     callers: &'static [Caller],
@@ -55,6 +57,7 @@ const REQUESTS: [Row; 3] = [
     Row {
         words: "--conf /c --turns 6",
         conf: PLAIN,
+        again: None,
         readings: &[1700001000],
         callers: &[Caller {
             pauses: 0,
@@ -69,6 +72,7 @@ const REQUESTS: [Row; 3] = [
     Row {
         words: "--conf /c --turns 6",
         conf: NOTED,
+        again: None,
         readings: &[1700001000],
         callers: &[Caller {
             pauses: 0,
@@ -83,15 +87,16 @@ const REQUESTS: [Row; 3] = [
     Row {
         words: "--conf /c --turns 12",
         conf: PLAIN,
+        again: None,
         readings: &[1700001000],
         callers: &[Caller {
             pauses: 0,
-            asks: &["sett", "set web banip 1.2.3", "status none", "reload"],
+            asks: &["sett", "set web banip 1.2.3", "status none", "unban"],
             tail: &[],
         }],
         polls: &[],
         fails: &[],
-        transcript: "1700001000 INFO Server ready\naccept 0\npause\npause\nreply 0 refused Invalid command\npause\npause\npause\nreply 0 refused Bad address: word 4\npause\npause\npause\nreply 0 refused Sorry but the jail 'none' does not exist\npause\npause\npause\nreply 0 refused Cannot reload yet\npause\n",
+        transcript: "1700001000 INFO Server ready\naccept 0\npause\npause\nreply 0 refused Invalid command\npause\npause\npause\nreply 0 refused Bad address: word 4\npause\npause\npause\nreply 0 refused Sorry but the jail 'none' does not exist\npause\npause\npause\nreply 0 refused Wrong number of words\npause\n",
     },
 ];
 
@@ -107,6 +112,7 @@ const LEAVES: [Row; 4] = [
     Row {
         words: "--conf /c --turns 4",
         conf: PLAIN,
+        again: None,
         readings: &[1700001000, 1700001000, 1700001000, 1700001029, 1700001030],
         callers: &[Caller {
             pauses: 0,
@@ -121,6 +127,7 @@ const LEAVES: [Row; 4] = [
     Row {
         words: "--conf /c --turns 7",
         conf: PLAIN,
+        again: None,
         readings: &[1700001000],
         callers: &[
             Caller {
@@ -147,6 +154,7 @@ const LEAVES: [Row; 4] = [
     Row {
         words: "--conf /c --turns 2",
         conf: PLAIN,
+        again: None,
         readings: &[1700001000],
         callers: &[Caller {
             pauses: 0,
@@ -161,6 +169,7 @@ const LEAVES: [Row; 4] = [
     Row {
         words: "--conf /c --turns 19",
         conf: PLAIN,
+        again: None,
         readings: &[
             1700001000, 1700001000, 1700001001, 1700001002, 1700001003, 1700001004, 1700001005,
             1700001006, 1700001007, 1700001008, 1700001009, 1700001010, 1700001011, 1700001012,
@@ -181,6 +190,7 @@ const STOPS: [Row; 2] = [
     Row {
         words: "--conf /c --turns 20",
         conf: NOTED,
+        again: None,
         readings: &[1700001000],
         callers: &[Caller {
             pauses: 0,
@@ -195,6 +205,7 @@ const STOPS: [Row; 2] = [
     Row {
         words: "--conf /c --turns 20",
         conf: NOTED,
+        again: None,
         readings: &[1700001000],
         callers: &[Caller {
             pauses: 0,
@@ -204,6 +215,101 @@ const STOPS: [Row; 2] = [
         polls: &[0, 9],
         fails: &[],
         transcript: "1700001000 INFO Server ready\naccept 0\nstart 0 up\npause\npoll 0\n1700001000 INFO Stopping\nstart 1 down\npause\npoll 1\nreply 0 accepted Shutdown begun\npause\npoll 1\npause\npoll 1\npause\npoll 1\nreply 0 refused Server is stopping\npause\npoll 1\npause\npoll 1\npause\npoll 1\nreply 0 accepted pong\npause\npoll 1\npause\npoll 1\npause\npoll 1\n",
+    },
+];
+
+/// No jail at all.
+const NOTHING: &[File] = &[];
+
+/// The jail with an action, whose bans last longer.
+const LONGER: &[File] = &[
+    (
+        "action.d/note.conf",
+        "[Definition]\nactionstart = up\nactionstop = down\nactionban = add <ip>\nactionunban = del <ip>\ntimeout = 5\n",
+    ),
+    FAIL,
+    (
+        "jail.conf",
+        "[web]\nenabled = true\nfilter = fail\nlogpath = /log\nmaxretry = 1\nbantime = 90\naction = note\n",
+    ),
+];
+
+/// One that is refused.
+const REFUSED: &[File] = &[
+    FAIL,
+    (
+        "jail.conf",
+        "[web]\nenabled = true\nfilter = fail\nlogpath = /log\nmaxretry = 1\nbantime = 0\n",
+    ),
+];
+
+const RELOADS: [Row; 4] = [
+    // One that changes nothing is said, and replied to in the next turn.
+    Row {
+        words: "--conf /c --turns 3",
+        conf: PLAIN,
+        again: None,
+        readings: &[1700001000],
+        callers: &[Caller {
+            pauses: 0,
+            asks: &["reload"],
+            tail: &[],
+        }],
+        polls: &[],
+        fails: &[],
+        transcript: "1700001000 INFO Server ready\naccept 0\npause\n1700001000 INFO Reloaded\npause\nreply 0 accepted OK\npause\n",
+    },
+    // One that is refused changes nothing: the client is told why, the same is said, and the server goes on.
+    Row {
+        words: "--conf /c --turns 6",
+        conf: PLAIN,
+        again: Some(REFUSED),
+        readings: &[1700001000],
+        callers: &[Caller {
+            pauses: 0,
+            asks: &["reload", "get web bantime"],
+            tail: &[],
+        }],
+        polls: &[],
+        fails: &[],
+        transcript: "1700001000 INFO Server ready\naccept 0\npause\n1700001000 ERROR Configuration refused: jail.conf [web] bantime: BadTime\npause\nreply 0 refused Configuration refused: jail.conf [web] bantime: BadTime\npause\npause\npause\nreply 0 accepted 60\npause\n",
+    },
+    // A jail that is gone lets its bans go, and its action is stopped. A client that is behind the one that asked is served in the same turn.
+    Row {
+        words: "--conf /c --turns 7",
+        conf: NOTED,
+        again: Some(NOTHING),
+        readings: &[1700001000],
+        callers: &[
+            Caller {
+                pauses: 0,
+                asks: &["set web banip 192.0.2.7", "reload"],
+                tail: &[],
+            },
+            Caller {
+                pauses: 3,
+                asks: &["status"],
+                tail: &[],
+            },
+        ],
+        polls: &[],
+        fails: &[],
+        transcript: "1700001000 INFO Server ready\naccept 0\nstart 0 up\npause\npoll 0\n1700001000 NOTICE [web] Ban 192.0.2.7\nstart 1 add 192.0.2.7\npause\npoll 1\nreply 0 accepted 1\npause\naccept 1\npause\n1700001000 INFO Reloaded\nstart 2 del 192.0.2.7\npause\npoll 2\nreply 0 accepted OK\nreply 1 accepted Status\n|- Number of jail:\t0\n`- Jail list:\t\nstart 3 down\npause\npoll 3\npause\n",
+    },
+    // A jail that stays keeps its bans, and its action stays up.
+    Row {
+        words: "--conf /c --turns 9",
+        conf: NOTED,
+        again: Some(LONGER),
+        readings: &[1700001000],
+        callers: &[Caller {
+            pauses: 0,
+            asks: &["set web banip 192.0.2.7", "reload", "get web bantime"],
+            tail: &[],
+        }],
+        polls: &[],
+        fails: &[],
+        transcript: "1700001000 INFO Server ready\naccept 0\nstart 0 up\npause\npoll 0\n1700001000 NOTICE [web] Ban 192.0.2.7\nstart 1 add 192.0.2.7\npause\npoll 1\nreply 0 accepted 1\npause\npause\n1700001000 INFO Reloaded\npause\nreply 0 accepted OK\npause\npause\npause\nreply 0 accepted 90\npause\n",
     },
 ];
 
@@ -219,10 +325,18 @@ fn children(alloc: Global, polls: &[u32]) -> Result<Seq<ChildPlan>, Fail> {
     Ok(children)
 }
 
+fn again(alloc: Global, row: &Row) -> Result<Option<TreeAnswer>, Fail> {
+    match row.again {
+        Some(conf) => Ok(Some(tree(alloc, conf)?)),
+        None => Ok(None),
+    }
+}
+
 fn given(alloc: Global, row: &Row) -> Result<Given<'static>, Fail> {
     Ok(Given {
         words: row.words,
         tree: tree(alloc, row.conf)?,
+        again: again(alloc, row)?,
         readings: row.readings,
         changes: Seq::new(alloc),
         children: children(alloc, row.polls)?,
@@ -257,6 +371,14 @@ fn lets_go_of_clients_that_are_over(rt: HostRuntime) -> Result<(), Fail> {
 #[test]
 fn stops_once_all_is_settled(rt: HostRuntime) -> Result<(), Fail> {
     for row in &STOPS {
+        assert!(rt; is_as_wanted(rt.alloc(), row)?, "at {}", row.transcript);
+    }
+    Ok(())
+}
+
+#[test]
+fn reads_the_configuration_again(rt: HostRuntime) -> Result<(), Fail> {
+    for row in &RELOADS {
         assert!(rt; is_as_wanted(rt.alloc(), row)?, "at {}", row.transcript);
     }
     Ok(())

@@ -15,6 +15,8 @@ pub(crate) struct Given<'a> {
     /// The words, with blanks between them.
     pub words: &'a str,
     pub tree: TreeAnswer,
+    /// What the configuration is from its second reading on, where it is another one.
+    pub again: Option<TreeAnswer>,
     /// What the clock says, in seconds since 1970; the last reading stays.
     pub readings: &'a [u64],
     pub changes: Seq<FileChange>,
@@ -89,6 +91,9 @@ fn world(alloc: Global, given: Given<'_>, image: Image) -> Result<MemWorld, Fail
     }
     let mut trees = Seq::new(alloc);
     trees.push(given.tree)?;
+    if let Some(tree) = given.again {
+        trees.push(tree)?;
+    }
     let script = Script {
         readings: readings(alloc, given.readings)?,
         trees,

@@ -54,6 +54,7 @@ fn given(
     Ok(Given {
         words,
         tree: tree(alloc, &CONF)?,
+        again: None,
         readings,
         changes,
         children: Seq::new(alloc),

@@ -292,6 +292,7 @@ fn is_as_wanted(alloc: Global, row: &Row, rotated: bool) -> Result<bool, Fail> {
     let given = Given {
         words: row.words,
         tree: tree(alloc, row.conf)?,
+        again: None,
         readings: row.readings,
         changes: changes(alloc, row.log, rotated)?,
         children: Seq::new(alloc),

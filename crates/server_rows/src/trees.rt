@@ -209,6 +209,7 @@ fn is_as_wanted(alloc: Global, row: &Row) -> Result<bool, Fail> {
     let given = Given {
         words: "--conf /c --turns 3",
         tree: tree(alloc, row.conf)?,
+        again: None,
         readings: &[1_700_001_000],
         changes: changes(alloc, row)?,
         children: plans(alloc, row)?,
