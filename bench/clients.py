@@ -1,4 +1,4 @@
-"""Has clients ask the server, and prints how long its replies took and how many bans it took a second.
+"""Has clients ask the server, and prints how long its replies took, how many bans it took a second, and how long a reload takes.
 
     clients.py SERVER CLIENT [FOLDER]
 
@@ -7,6 +7,7 @@ syncs of its disk.
 """
 
 import os
+import shutil
 import socket
 import statistics
 import subprocess
@@ -23,6 +24,10 @@ BANS = int(os.environ.get("BANS", 2_000))
 AT_ONCE = 16
 MANY = 1_000
 BANNED = 10_000
+
+# So many jails have a configuration that is read again, each with one of the filters that ship.
+JAILS = 20
+FILTERS = "conf/filter.d"
 
 CONFIGURATION = """\
 [web]
@@ -64,11 +69,12 @@ def hear(conn):
 class Bench:
     """A server that runs over a folder."""
 
-    def __init__(self, server, place):
+    def __init__(self, server, place, configuration):
         self.path = f"{place}/run/fail2ban.sock"
-        os.mkdir(f"{place}/conf")
+        os.makedirs(f"{place}/conf")
+        shutil.copytree(FILTERS, f"{place}/conf/filter.d")
         with open(f"{place}/conf/jail.conf", "w") as file:
-            file.write(CONFIGURATION.format(place=place))
+            file.write(configuration)
         with open(f"{place}/conf/fail2ban.conf", "w") as file:
             file.write(f"[Definition]\nsocket = {self.path}\n")
         self.process = subprocess.Popen([server, "--conf", f"{place}/conf"], stdin=subprocess.DEVNULL, stdout=subprocess.PIPE)
@@ -149,13 +155,33 @@ def ban_up_to(conn, first, count):
         ask(conn, "set", "web", "banip", *map(address, range(number, min(number + MANY, first + left))))
 
 
+def many_jails(place):
+    """A configuration with the filters that ship, each for a jail or two with a log of its own."""
+    names = sorted(name.removesuffix(".conf") for name in os.listdir(FILTERS) if name != "common.conf")
+    jails = [f"[jail{number}]\nenabled = true\nfilter = {names[number % len(names)]}\nlogpath = {place}/{number}.log\n" for number in range(JAILS)]
+    return "\n".join(jails)
+
+
+def reloads(server, place):
+    """How long a client waits for the configuration to be read again, where nothing of it changed."""
+    bench = Bench(server, place, many_jails(place))
+    try:
+        conn = bench.connect()
+        row(f"`reload` with {JAILS} jails", milliseconds(PINGS // 40, lambda: ask(conn, "reload")))
+        ask(conn, "stop")
+        bench.process.wait()
+    finally:
+        bench.process.kill()
+        bench.process.wait()
+
+
 def row(name, took):
     print(f"| {name} | {statistics.median(took):.2f} | {min(took):.2f} | {max(took):.2f} |")
 
 
 def main(server, client, folder):
     with tempfile.TemporaryDirectory(dir=folder) as place:
-        bench = Bench(server, place)
+        bench = Bench(server, place, CONFIGURATION.format(place=place))
         try:
             conns = [bench.connect() for _ in range(AT_ONCE)]
             command = [client, "-s", bench.path, "ping"]
@@ -181,6 +207,7 @@ def main(server, client, folder):
         finally:
             bench.process.kill()
             bench.process.wait()
+        reloads(server, f"{place}/more")
 
 
 if __name__ == "__main__":
