@@ -107,8 +107,8 @@ def limits_are_others(room):
         server.wait_said(BAN)
         write(room.log, failures(OTHER), "a")
         server.wait_said(found(OTHER))
-        room.configure(maxretry=2, more="findtime = 1h\n")
         # An item that stands there twice has the last of its values.
+        room.configure(maxretry=2, more="findtime = 1h\n")
         reload(room)
         ask(room, 0, "3600", "get", "web", "findtime")
         write(room.log, failures(OTHER, ahead=-1800), "a")
@@ -219,7 +219,7 @@ def what_was_set_goes(room):
 
 
 def a_log_goes_on(room):
-    """a log that stays goes on behind what was read of it, and what failed before still counts"""
+    """a log that stays goes on behind what was read of it, what failed before still counts, and a rotation is seen as ever"""
     write(room.log, failures(ADDRESS))
     with room.server() as server:
         server.wait_said(found())
@@ -228,9 +228,10 @@ def a_log_goes_on(room):
         reload(room)
         server.turn()
         same(server.count(found()), 1, "failures, each once")
-        write(room.log, failures(ADDRESS, ADDRESS), "a")
+        os.rename(room.log, room.log + ".1")
+        write(room.log, failures(OTHER, ADDRESS, ADDRESS))
         server.wait_said(BAN)
-        same(server.said(), [READY, found(), RELOADED, found(), found(), BAN], "said")
+        same(server.said(), [READY, found(), RELOADED, f"INFO [web] rotated {room.log}", found(OTHER), found(), found(), BAN], "said")
 
 
 def half_a_line_stays(room):
@@ -282,7 +283,6 @@ def bans_stay_and_end(room):
         wait_done(room, ["start", f"ban {ADDRESS}"])
         act(room, bantime=600, **NOTES)
         reload(room)
-        ask(room, 0, ADDRESS, "get", "web", "banip")
         server.wait_said(UNBAN)
         wait_done(room, ["start", f"ban {ADDRESS}", f"unban {ADDRESS}"])
         lasted = server.moment(UNBAN) - server.moment(BAN)
@@ -536,6 +536,8 @@ def a_directory_is_not_listed(room):
     """logs whose directory a reload does not find, or may not list, are let go with their places, and read from the beginning when it finds them"""
     os.mkdir(room.path("logs"))
     write(room.path("logs/a.log"), failures(ADDRESS))
+    os.chmod(room.path("logs"), 0o755)
+    os.chmod(room.path("logs/a.log"), 0o644)
     room.configure(log=room.path("logs/*.log"), maxretry=100)
     with room.server(**room.as_nobody()) as server:
         server.wait_said(found())
