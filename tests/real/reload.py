@@ -6,7 +6,7 @@ import threading
 import time
 
 from client import PING
-from clients import NOTES, OTHER, ask, connected, hear, request, socket_of
+from clients import NOTES, OTHER, ask, connected, hear, request, socket_of, wait_closed
 from commands import ADDRESS, act, ban, children, content, lives, noted_process, wait_done
 from journal import both, kill
 from room import JAIL, PROBE, SERVER, Failed, failures, same, wait_for, want, write
@@ -24,9 +24,11 @@ def found(address=ADDRESS, jail="web"):
     return f"INFO [{jail}] Found {address}"
 
 
-def reload(room):
-    """Has the configuration read again, and wants it to be taken."""
-    ask(room, 0, "OK", "reload")
+def reload(room, accepted=True, reply="OK"):
+    """Has the configuration read again, and wants this to come of it, however long it takes: the client waits for half a minute."""
+    with connected(room) as (conn,):
+        conn.sendall(request("reload"))
+        same(hear(conn), (accepted, reply), "reply")
 
 
 def add_mail(room, log="mail.log", maxretry=3, name="mail"):
@@ -48,7 +50,7 @@ def a_jail_is_added(room):
     with room.server() as server:
         ask(room, 1, "Sorry but the jail 'mail' does not exist", "status", "mail")
         add_mail(room)
-        reload(room)
+        ask(room, 0, "OK", "reload")
         ask(room, 0, "Status\n|- Number of jail:\t3\n`- Jail list:\tweb, probe, mail", "status")
         server.wait_said(f"NOTICE [mail] Ban {ADDRESS}")
         same(server.said(), [READY, RELOADED, *[found(jail="mail")] * 3, f"NOTICE [mail] Ban {ADDRESS}"], "said")
@@ -343,14 +345,14 @@ def a_configuration_is_not_taken(room):
             ({"more": "    <ADDR>\\pL{900}\n"}, "Pattern refused: web failregex 2 TooBig"),
         ]:
             room.configure(**how)
-            ask(room, 1, why, "reload")
+            reload(room, False, why)
             # A start is refused with the same text.
             room.ends(11 if "Pattern" in why else 4, [f"ERROR {why}"], "--conf", room.conf)
             said += [f"ERROR {why}"]
             same(server.said(), said, "said")
         room.configure()
         write(big, b"#" * (16 << 20))
-        ask(room, 1, "Configuration too large", "reload")
+        reload(room, False, "Configuration too large")
         os.remove(big)
         said += ["ERROR Configuration too large"]
         same((server.said(), both(room)), (said, slots), "said, and the journal")
@@ -381,12 +383,12 @@ def a_configuration_is_not_read(room):
 
 
 def the_journal_has_no_room(room):
-    """a configuration for which the journal has no room ends the server, as any input does: the client gets no reply, and status 13"""
-    with room.server("--journal-limit", "2048") as server:
+    """a configuration for which the journal has no room ends the server, as any input does, and the client gets no reply"""
+    with room.server("--journal-limit", "2048") as server, connected(room) as (conn,):
         for number in range(24):
             add_mail(room, name=f"mail{number}")
-        status, text, errors = room.run("-s", socket_of(room), "reload", program=room.client)
-        same((status, text, errors), (13, "", ""), "the client")
+        conn.sendall(request("reload"))
+        wait_closed(conn)
         server.wait_ended(7)
         want(server.said()[1].startswith("ERROR journal full: "), server.said())
         same(len(server.said()), 2, "lines")
@@ -590,7 +592,7 @@ def many_reloads_leave_nothing(room):
                 add_mail(room)
             reload(room)
             room.configure(bantime="soon")
-            ask(room, 1, "Configuration refused: jail.conf [web] bantime: BadTime", "reload")
+            reload(room, False, "Configuration refused: jail.conf [web] bantime: BadTime")
         wait_for(lambda: server.files() == before, f"{before} open files", server.files)
         wait_for(lambda: not children(server), "the end of all commands")
 
