@@ -10,6 +10,8 @@ from root import PATH, TOP, Failed, same, wait_for, want
 UNITS = "/usr/lib/systemd/system"
 # Five and a half hours east of UTC, without summer time, in the words of the C library.
 ZONE, OFFSET, SECONDS = "IST-5:30", "+0530", 19_800
+# Five hours west of it: what is dated so is too old to count in the other zone.
+OTHER_ZONE, OTHER_OFFSET, OTHER_SECONDS = "EST5", "-0500", -18_000
 
 LOCAL = """\
 [DEFAULT]
@@ -43,6 +45,8 @@ class Service:
         self.root = root
         self.items = items(root.read(f"{UNITS}/fail2ban.service"))
         self.environment = {"PATH": PATH, "TZ": ZONE, "STATE_DIRECTORY": "/var/lib/fail2ban", "RUNTIME_DIRECTORY": "/run/fail2ban"}
+        # So many seconds dates without a zone are ahead of UTC.
+        self.ahead = SECONDS
         self.server = None
 
     def commands(self, name):
@@ -77,7 +81,7 @@ class Service:
     def fail(self, jail, address, times):
         """So many failures of the address, now, as the jail's service logs them."""
         log, form, line = JAILS[jail]
-        date = time.strftime(form, time.gmtime(time.time() + SECONDS))
+        date = time.strftime(form, time.gmtime(time.time() + self.ahead))
         self.root.write(log, line.format(date=date, address=address) * times, "a")
 
     def banned(self, jail, *addresses):
@@ -167,16 +171,24 @@ def stops_in_order(service):
 
 
 def reloads(service):
-    """A reload is done, or refused while the server cannot reload yet."""
-    for words, _ in service.commands("ExecReload"):
-        try:
-            service.root.run(*words, environment=service.environment)
-        except Failed as why:
-            want("Cannot reload yet" in str(why), str(why))
+    """The unit's reload takes the machine's zone of now, and what changed in the configuration: a jail less, which lets in whom it had banned."""
+    jails = [jail for jail in JAILS if jail != "nginx-http-auth"]
+    service.root.write("/etc/fail2ban/jail.local", LOCAL.replace("[nginx-http-auth]\nenabled = true", "[nginx-http-auth]\nenabled = false"))
+    service.environment["TZ"], service.ahead = OTHER_ZONE, OTHER_SECONDS
+    for words, may_fail in service.commands("ExecReload"):
+        want(not may_fail, "where the configuration is not taken the reload has to fail")
+        service.root.run(*words, environment=service.environment)
+    same(service.said()[-1:], ["INFO Reloaded"], "said")
+    want("logtimezone = UTC" + OTHER_OFFSET in service.root.read("/var/lib/fail2ban/zone.local"), "the zone")
+    want(f"Jail list:\t{', '.join(jails)}\n" in service.ask("status"), service.ask("status"))
+    wait_for(lambda: service.in_file("/run/fail2ban/nginx-http-auth.banned") is None, "the end of the action of a jail that is gone")
+    service.fail("sshd", "198.51.100.9", 5)
+    service.says("NOTICE [sshd] Ban 198.51.100.9")
+    service.banned("sshd", "2001:db8::1", "198.51.100.9")
 
 
 def zone_is_looked_at(root):
-    """the service's timer has the server read its configuration again where the machine's zone is another one, and not else"""
+    """the service's timer has the server read its configuration again where the machine's zone is another one, or was not read, and not else"""
     root.furnish()
     root.make("install", "PREFIX=/usr")
     script = ["/usr/lib/fail2ban/zone"]
@@ -185,11 +197,23 @@ def zone_is_looked_at(root):
     root.run(*script, environment=summer)
     want(root.read("/var/lib/fail2ban/zone.local").endswith("[DEFAULT]\nlogtimezone = UTC+0200\n"), root.read("/var/lib/fail2ban/zone.local"))
     root.run(*script, "--changed", environment=summer, status=1)
+    root.run(*script, "--missed", environment=summer)
+    root.run(*script, "--changed", environment=summer)
+    root.run(*script, environment=summer)
+    root.run(*script, "--changed", environment=summer, status=1)
     root.run(*script, "--changed", environment=winter)
     root.run(*script, environment={**winter, "TZ": "NST3:30"})
     want("UTC-0330" in root.read("/var/lib/fail2ban/zone.local"), root.read("/var/lib/fail2ban/zone.local"))
-    conditions = [command for name, command in items(root.read(f"{UNITS}/fail2ban-zone.service")) if name == "ExecCondition"]
-    same(conditions, [" ".join([*script, "--changed"])], "condition")
+    unit = items(root.read(f"{UNITS}/fail2ban-zone.service"))
+    same([command for name, command in unit if name == "ExecCondition"], [" ".join([*script, "--changed"])], "condition")
+    [command] = [command for name, command in unit if name == "ExecStart"]
+    # A `systemctl` that fails, as where the server refuses its configuration: what it was asked is seen in the words.
+    words = command.removeprefix("/bin/sh -c '").removesuffix("'")
+    root.run("/bin/sh", "-c", "systemctl() { [ \"$*\" = 'reload fail2ban.service' ]; }; " + words, environment=summer)
+    root.run(*script, environment=summer)
+    root.run("/bin/sh", "-c", "systemctl() { return 1; }; " + words, environment=summer, status=1)
+    root.run(*script, "--changed", environment=summer)
+    want(root.read("/var/lib/fail2ban/zone.local").count("logtimezone = UTC+0200\n") == 1, "the zone that a reload by hand takes")
 
 
 def stop_without_server(root):

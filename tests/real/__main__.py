@@ -22,6 +22,7 @@ import journal
 import jumps
 import logs
 import output
+import reload
 import tester
 from room import Room, status_of
 
@@ -39,6 +40,7 @@ CHECKS = [
     *jumps.CHECKS,
     *client.CHECKS,
     *clients.CHECKS,
+    *reload.CHECKS,
     *tester.CHECKS,
 ]
 

@@ -198,7 +198,7 @@ def words_are_wrong(room):
             (["set", "none", "banip", "192.0.2"], "Bad address: word 4"),
             (["set", "web", "findtime", "5q"], "Bad number"),
             (["status", "none"], "Sorry but the jail 'none' does not exist"),
-            (["reload"], "Cannot reload yet"),
+            (["reload", "web"], "Wrong number of words"),
             ([""], "Invalid command"),
         ]:
             ask(room, 1, refusal, *words)

@@ -127,17 +127,17 @@ fn until_taken<'f, W: World + Directories + Children + Disk + Gate>(
     Ok(None)
 }
 
-// The turns from the first one on, until a configuration is taken.
+// The turns from the first one on, until a configuration is taken: the logs borrow these filters, which are let go then.
 #[tactic(auto, using(crate::proofs::ReloadLemmas::first, run_law::proofs::CauseLemmas::counting))]
 fn first_turns<W: World + Directories + Children + Disk + Gate>(
     alloc: Global,
     world: &mut W,
     plan: &Plan,
-    filters: &[Filter],
+    filters: Vec<Filter>,
     clocked: Clocked,
 ) -> Result<Option<(Vec<Filter>, Reloaded, usize)>, Status>
     requires some { 1 ≤ plan.now.turns }
-    requires filters { filters.now ≡ rules_in clocked }
+    requires filters { filters.items ≡ rules_in clocked }
     requires places { ArePlaces clocked }
     requires placed { IsPlacedIn (W.stands world.old).told clocked }
     ensures ok { IfOk result (FirstTakes (W.stands world.old) (W.stands world.new) plan.now clocked) }
@@ -147,7 +147,7 @@ fn first_turns<W: World + Directories + Children + Disk + Gate>(
     ensures taken { IfOk result (λ o. IfSome o (λ r. GoesOnWith r.0.items r.1 r.2)) }
     ensures placed { IfOk result (λ o. IfSome o (λ r. IsPlacedIn (W.stands world.new).told r.1.clocked)) }
 {
-    let logs = follow(alloc, filters, &clocked)?;
+    let logs = follow(alloc, filters.as_slice(), &clocked)?;
     let running = Running {
         clocked,
         logs,
@@ -199,9 +199,8 @@ fn serve<W: World + Directories + Children + Store + Disk + Gate>(
     ensures cause { IfErr result (HasCause (W.stands world.old) (W.stands world.new)) }
     ensures steady { IsSteady (W.stands world.old) (W.stands world.new) }
 {
-    // The logs borrow the filters, which so stand here until a configuration is taken again, or the run is over.
     let (filters, clocked) = prepare(alloc, world, plan)?;
-    let mut taken = first_turns(alloc, world, plan, filters.as_slice(), clocked)?;
+    let mut taken = first_turns(alloc, world, plan, filters, clocked)?;
     'reloads: while let Some((filters, reloaded, place)) = taken {
         taken = next_turns(alloc, world, plan, filters.as_slice(), reloaded, place)?;
     }
