@@ -1,5 +1,5 @@
 //! The turns of a run.
-ghost use Rattle.std.specs.Prelude.{◌≡◌, ◌≤◌, ◌<◌, length, IfErr, IfOk, IfSome};
+ghost use Rattle.std.specs.Prelude.{◌≡◌, ◌≤◌, ◌<◌, length, IfErr, IfOk, IfSome, None};
 ghost use Rattle.client_table.specs.Clients.{most_clients};
 ghost use Rattle.run_law.specs.Stages.{HasCause, IsSteady, Moves, MoveFails};
 ghost use Rattle.run_law.specs.Turn.{at_pause, behind_client, to_children, to_starts};
@@ -153,7 +153,7 @@ fn make_turns<'f, W: World + Children + Disk + Gate>(
     ensures cause { IfErr result (HasCause (W.stands world.old) (W.stands world.new)) }
     ensures steady { IsSteady (W.stands world.old) (W.stands world.new) }
     ensures asks { IfOk result (λ o. IfSome o (λ r. Asks r.0 r.1)) }
-    ensures fewer { IfOk result (λ o. IfSome o (λ r. left_of r.0 r.1 ≤ left_from Option.None running.entry)) }
+    ensures fewer { IfOk result (λ o. IfSome o (λ r. left_of r.0 r.1 ≤ left_from None running.entry)) }
     ensures placed { IfOk result (λ o. IfSome o (λ r. IsPlacedIn (W.stands world.new).told r.0.clocked)) }
 {
     let mut running = running;

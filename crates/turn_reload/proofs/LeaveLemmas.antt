@@ -75,11 +75,11 @@ module _ (place : ℕ) (answer : Answer) (before told : Running) (is : IsTold pl
   pub told_left : told.left ≡ before.left
   told_left = is.left
 
-module _ (a b : Standing) (place : ℕ) (status : Status) (why : List ℕ) (answer : Answer) (before told : Running) (lines slice : List (List ℕ))
-    (text : why ≡ untaken_text status) (answer_is : answer ≡ sendable (refused why)) (is : IsTold place answer before told)
-    (lines_are : lines ≡ error_line before.clocked.now why ∷ []) (shown : slice ≡ lines) where
+module _ (a b : Standing) (place : ℕ) (status : Status) (answer : Answer) (before told : Running) (lines slice : List (List ℕ))
+    (answer_is : answer ≡ sendable (refused (untaken_text status))) (is : IsTold place answer before told)
+    (lines_are : lines ≡ error_line before.clocked.now (untaken_text status) ∷ []) (shown : slice ≡ lines) where
   clients_for : (s : Server) → changed_at place (answered (sendable (refused (untaken_text status)))) s.clients ≡ changed_at place (answered answer) s.clients
-  clients_for s = ap (λ (t : List ℕ). changed_at place (answered (sendable (refused t))) s.clients) (sym text) ∙ ap (λ (x : Answer). changed_at place (answered x) s.clients) (sym answer_is)
+  clients_for s = ap (λ (x : Answer). changed_at place (answered x) s.clients) (sym answer_is)
 
   -- the server with the client that is told
   abbrev told_for : Server → Server
@@ -87,7 +87,7 @@ module _ (a b : Standing) (place : ℕ) (status : Status) (why : List ℕ) (answ
 
   said_for : (r : Run) (s : Server) → KeepsRunning s before → brings (news_of [] None slice (told_for s)) (point_on (Behind place)) (told_for s) r ≡ untaken_for place s status r
   said_for r s keeps =
-      let line : error_line before.clocked.now why ≡ error_line s.now (untaken_text status) = λ i. error_line (keeps.clocked.now i) (text i) in
+      let line : error_line before.clocked.now (untaken_text status) ≡ error_line s.now (untaken_text status) = ap (λ (n : ℕ). error_line n (untaken_text status)) keeps.clocked.now in
       let same : slice ≡ error_line s.now (untaken_text status) ∷ [] = shown ∙ lines_are ∙ ap (λ (l : List ℕ). l ∷ []) line in
       ap (λ (ls : List (List ℕ)). brings (record { before = []; what = None; behind = ls }) (point_on (Behind place)) (told_for s) r) same
 
