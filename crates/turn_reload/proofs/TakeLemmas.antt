@@ -96,7 +96,7 @@ module _ (a b : Standing) (settings : Settings) (kept : Clocked) (named : Named)
           (fails.runs one.here (λ u. one.here.point) (reloaded place) t (saying_reloaded place) (record { point = refl; still = one.still }) (keeps_clocked place s named.clocked one.keeps)));
     }
 
-pub ruleset configuring = (names_fail, named_memory, configures, configure_fails, first_rules)
+pub ruleset taking_configuration = (names_fail, named_memory, configures, configure_fails, first_rules)
 
 -- ---- with all that is kept
 

@@ -30,7 +30,7 @@ fn reloaded_lines(alloc: Global, now: u64) -> Result<Seq<Bytes>, NoMemory>
 }
 
 // Finds the paths of a configuration, and takes it as an input, where it changes something.
-#[tactic(auto, using(crate::proofs::TakeLemmas::configuring, run_law::proofs::CauseLemmas::counting))]
+#[tactic(auto, using(crate::proofs::TakeLemmas::taking_configuration, run_law::proofs::CauseLemmas::counting))]
 fn take_configuration<W: World + Directories + Disk>(
     alloc: Global,
     world: &mut W,
