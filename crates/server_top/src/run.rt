@@ -33,8 +33,8 @@ use run_load::{listen, load_journal};
 use run_start::{first_turn, follow};
 use run_steps::{Clocked, Running, refuse};
 use run_trees::{Configuration, read_configuration};
-use turn_reload::{Reloaded, Reread, follow_on, reload};
 use std::alloc::Global;
+use turn_reload::{Reloaded, Reread, follow_on, reload};
 
 // The state that was stored, and behind it the socket.
 #[tactic(auto, using(crate::proofs::ServeLemmas::letting_in, run_law::proofs::CauseLemmas::counting))]
