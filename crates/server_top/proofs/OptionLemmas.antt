@@ -1,5 +1,5 @@
 -- Options of the command line, one behind the other.
-use Rattle.std.proofs.Common.{ℕ, ◌≡◌, ◌≤◌, ◌-◌, zero, suc, List, [], ◌∷◌, length, map, take, drop, get_or, Option, Some, Result, Ok, Err, IfOk, refl, sym, ap, ◌∙◌, subst, arith}
+use Rattle.std.proofs.Common.{ℕ, ◌≡◌, ◌≤◌, ◌-◌, zero, suc, List, [], ◌∷◌, length, map, take, drop, get_or, Option, Some, Result, IfOk, refl, sym, ap, ◌∙◌, subst, arith}
 use Rattle.std.specs.Prelude.{option_and_then, option_map}
 use Rattle.run_law.specs.Words.{Asked, with_option, with_options}
 use Rattle.server_top.specs.Options.{asked_of}

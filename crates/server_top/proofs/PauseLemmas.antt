@@ -1,11 +1,10 @@
 -- The pause of a turn.
-use Rattle.std.proofs.Common.{ℕ, zero, suc, ◌≡◌, ◌≤◌, ◌<◌, ◌-◌, ◌+◌, List, [], Option, None, refl, sym, ap, ◌∙◌, subst, arith}
+use Rattle.std.proofs.Common.{ℕ, zero, suc, ◌≡◌, ◌≤◌, ◌<◌, ◌-◌, ◌+◌, List, [], None, refl, sym, ap, ◌∙◌, subst, arith}
 use Rattle.f2b_world.specs.Told.{Standing, Called}
 use Rattle.f2b_world.specs.declared.event.Event.TheVariants.{Pause}
 use Rattle.run_law.specs.Law.{Goes, call_of, next_call}
-use Rattle.run_law.specs.News.{goes_to}
 use Rattle.run_law.specs.Pause.{next_turn, paused, turned}
-use Rattle.run_law.specs.Points.{Point, AtTurn, AtPause, Over, Run}
+use Rattle.run_law.specs.Points.{Point, AtPause, Over, Run}
 use Rattle.run_law.specs.Server.{Server}
 use Rattle.run_law.specs.Stages.{IsAt, Moves, MoveFails}
 use Rattle.run_law.specs.Turn.{at_pause}

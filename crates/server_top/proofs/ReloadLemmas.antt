@@ -1,19 +1,17 @@
 -- A run from its first turn on, over the configurations that are taken.
-use Rattle.std.proofs.Common.{ℕ, ◌≡◌, ◌≤◌, ◌<◌, ◌+◌, length, List, [], Option, Some, None, refl, sym, ap, ◌∙◌, subst, arith}
+use Rattle.std.proofs.Common.{ℕ, ◌≡◌, ◌≤◌, ◌<◌, ◌+◌, length, List, [], Option, Some, None, sym, ap, ◌∙◌, subst, arith}
 use Rattle.std.specs.Prelude.{IfSome}
 use Rattle.child_table.specs.Children.{Children, nobody}
 use Rattle.client_table.specs.Clients.{Client}
-use Rattle.f2b_world.specs.Told.{History, Standing}
+use Rattle.f2b_world.specs.Told.{Standing}
 use Rattle.jail_conf.specs.declared.settings.Settings.{Settings}
 use Rattle.log_set.specs.Logs.{IsSetOf, Logs, Watching}
-use Rattle.reconcile.specs.Loads.{AreSound}
 use Rattle.run_law.specs.Law.{Halts, opening}
 use Rattle.run_law.specs.Logs.{logs_of}
 use Rattle.run_law.specs.Points.{Point, Run}
 use Rattle.run_law.specs.Reload.{at_reload, reloaded}
 use Rattle.run_law.specs.Server.{Server, following, jails, log_jails}
 use Rattle.run_law.specs.Stages.{IsAt, IsSteady, MoveFails, Reaches}
-use Rattle.run_law.specs.Stops.{HoldsThese}
 use Rattle.run_law.specs.Turn.{behind_client}
 use Rattle.run_law.specs.declared.plan.Plan.{Plan}
 use Rattle.run_law.specs.declared.status.Status.{Status}

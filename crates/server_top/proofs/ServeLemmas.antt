@@ -1,5 +1,5 @@
 -- A run from its plan to its first turn.
-use Rattle.std.proofs.Common.{ℕ, ◌≡◌, List, Option, Some, None, refl, sym, ◌∙◌, subst}
+use Rattle.std.proofs.Common.{ℕ, ◌≡◌, List, [], Option, Some, None, refl, sym, ◌∙◌, subst}
 use Rattle.f2b_world.specs.Told.{Adds, History, Standing}
 use Rattle.jail_conf.specs.Laws.{AreWithinLimits}
 use Rattle.jail_conf.specs.declared.settings.Settings.{Settings}
@@ -7,17 +7,16 @@ use Rattle.jail_conf.proofs.AcceptedLemmas.{conf_is_within}
 use Rattle.reconcile.specs.Engines.{EngineNow}
 use Rattle.reconcile.specs.Loads.{AreSound}
 use Rattle.run_law.specs.Law.{Halts, opening}
-use Rattle.run_law.specs.Points.{AtStore, AtTree, Over, Point, Run}
+use Rattle.run_law.specs.Points.{AtStore, AtTree, Over, Run}
 use Rattle.run_law.specs.Stages.{IsSteady}
 use Rattle.run_law.specs.Stops.{HoldsThese}
 use Rattle.run_law.specs.declared.plan.Plan.{Plan}
 use Rattle.run_law.specs.declared.status.Status.{Status}
-use Rattle.run_law.specs.declared.status.Status.TheVariants.{NoMemory}
 use Rattle.run_law.proofs.LongLemmas.{Any}
-use Rattle.run_law.proofs.PointLemmas.{goes_trans, halts_after, halts_here, over_ends, paid_call}
+use Rattle.run_law.proofs.PointLemmas.{goes_trans, halts_after, over_ends, paid_call}
 use Rattle.run_load.specs.Listening.{ListenFails, Listens}
 use Rattle.run_load.specs.Loading.{IsUnloaded, LoadFails, LoadsTo}
-use Rattle.run_start.specs.First.{BeginFails, Begins, Begun}
+use Rattle.run_start.specs.First.{BeginFails, Begins}
 use Rattle.run_steps.proofs.StartLemmas.{holds_on}
 use Rattle.run_steps.specs.Starting.{Arrives, LeavesSlots, StartFails, Starts}
 use Rattle.run_steps.specs.declared.clocked.Clocked.{Clocked}

@@ -1,8 +1,8 @@
 -- A turn, and all that are left.
-use Rattle.std.proofs.Common.{ℕ, ◌≡◌, ◌≤◌, ◌<◌, ◌+◌, ◌==◌, ◌&&◌, not, Bool, true, false, cond, length, List, [], Option, Some, None, refl, sym, ap, ap₂, ◌∙◌, subst, arith}
+use Rattle.std.proofs.Common.{ℕ, ◌≡◌, ◌≤◌, ◌<◌, ◌+◌, ◌==◌, ◌&&◌, not, Bool, true, false, cond, length, List, Option, Some, None, sym, ap, ap₂, ◌∙◌, subst, arith}
 use Rattle.std.specs.Prelude.{IfSome}
 use Rattle.client_table.specs.Clients.{Client, have_unwritten, most_clients}
-use Rattle.f2b_model.specs.Whole.{Now, now_of}
+use Rattle.f2b_model.specs.Whole.{Now}
 use Rattle.f2b_world.specs.Told.{Standing}
 use Rattle.run_law.specs.Points.{Over, Point}
 use Rattle.run_law.specs.Reload.{at_reload}
@@ -11,13 +11,13 @@ use Rattle.run_law.specs.Stages.{Moves, MoveFails}
 use Rattle.run_law.specs.Turn.{at_pause, is_drained, to_end, to_starts}
 use Rattle.run_law.specs.declared.status.Status.{Status}
 use Rattle.run_law.specs.declared.status.Status.TheVariants.{Stopped, TurnsSpent}
-use Rattle.run_law.proofs.PointLemmas.{goes_refl, next_at, paid_call}
-use Rattle.run_law.proofs.StageLemmas.{move_fails_on, moves_as, moves_none, moves_trans}
+use Rattle.run_law.proofs.PointLemmas.{next_at}
+use Rattle.run_law.proofs.StageLemmas.{move_fails_on, moves_none, moves_trans}
 use Rattle.run_steps.specs.Keeping.{KeepsRunning}
 use Rattle.run_steps.specs.declared.running.Running.{Running}
 use Rattle.server_top.specs.Drained.{has_drained}
 use Rattle.server_top.specs.Ticks.{at_clock}
-use Rattle.server_top.specs.Turns.{Asks, EndsTurn, GoesOn, left_from, left_of}
+use Rattle.server_top.specs.Turns.{Asks, EndsTurn, GoesOn, IsNext, left_from, left_of}
 use Rattle.turn_clients.specs.Serving.{IsAsking, IsFarther, served_to}
 
 pub turn_none : (a : Standing) (from : Server → Point) (kept : Running) → Moves KeepsRunning a a from from kept kept
@@ -124,5 +124,9 @@ pub left_behind : (before between : Running) (place : ℕ) (asked : Option ℕ) 
 left_behind before between place asked None within same farther fewer = tt
 left_behind before between place None (Some r) within same farther fewer = omega (arith, within, same, fewer)
 left_behind before between place (Some next) (Some r) within same farther fewer = omega (arith, same, farther.1, fewer)
+
+-- what is known of the next turn
+pub next_is : (before : Running) (o : Option Running) (next : Running) → o ≡ Some next → IfSome o (IsNext before) → IsNext before next
+next_is before o next is known = let P : Option Running → Type 0 = λ x. IfSome x (IsNext before) in subst P is known
 
 pub ruleset going = (turns_all, turns_fail, turns_on, turns_asked, goes_on, asks_there, farther_asks, left_later, left_behind)

@@ -1,5 +1,5 @@
 -- Runs of words that ask for nothing.
-use Rattle.std.proofs.Common.{ℕ, ◌≡◌, List, Option, Some, None, inl, inr, refl, sym, subst}
+use Rattle.std.proofs.Common.{ℕ, ◌≡◌, List, Option, Some, None, inl, inr, sym, subst}
 use Rattle.f2b_world.specs.Told.{Standing}
 use Rattle.run_law.specs.Served.{IsCaused, IsRun}
 use Rattle.run_law.specs.Stages.{IsRefusedAs, IsUnsaid}

@@ -41,8 +41,8 @@ StandsTaken begun now plan (Some r) = StandsAt KeepsReloaded begun now plan (rel
 StandsTaken begun now plan None = PlanHalts begun now plan TurnsSpent
 
 -- the filters are those of the jails, what is kept of each log is a place, and the client is there, in a turn that is made
-pub record GoesOnWith (filters : List Rules) (kept : Reloaded) (place : ℕ) : Type 0 where
-  pub filters : filters ≡ rules_in kept.clocked
+pub record GoesOnWith (rules : List Rules) (kept : Reloaded) (place : ℕ) : Type 0 where
+  pub filters : rules ≡ rules_in kept.clocked
   pub places : ArePlaces kept.clocked
   pub within : place < length kept.clients
   pub left : 1 ≤ kept.left

@@ -1,5 +1,5 @@
 -- What a reading of the clock changes of what a run keeps.
-use Rattle.std.specs.Prelude.{ℕ, ◌≡◌, max, min, Option, Some, None, if◌then◌else◌}
+use Rattle.std.specs.Prelude.{◌≡◌, max, min, Option, Some, None, if◌then◌else◌}
 use Rattle.f2b_base.specs.Limits.{latest_reading}
 use Rattle.f2b_base.specs.declared.input.What.{What}
 use Rattle.f2b_base.specs.declared.input.What.TheVariants.{Tick}

@@ -227,8 +227,9 @@ fn run<W: World + Directories + Children + Store + Disk + Gate>(
 }
 
 /// Runs the server as its words ask: `--conf DIR` follows the logs of the enabled jails of the configuration in that directory, and serves
-/// clients at its socket. Once one of them has asked for a stop, no log is looked at any more and the lanes are taken down; clients are still
-/// served, and the run ends once all jobs are settled and all replies are taken. `--turns N` ends the run after N turns, and
+/// clients at its socket. Where one of them asks for a reload the configuration is read again within the turn: it is taken whole, or the client
+/// is told why not and nothing changes. Once one has asked for a stop, no log is looked at any more and the lanes are taken down; clients are
+/// still served, and the run ends once all jobs are settled and all replies are taken. `--turns N` ends the run after N turns, and
 /// `--journal-limit BYTES` says how long a slot of the journal may get.
 ///
 /// Each call on the outside is the one that the law gives after the calls before it, and the run ends where the law gives none. The run

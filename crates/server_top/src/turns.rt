@@ -115,7 +115,7 @@ fn up_to_pause<'f, W: World + Children + Disk>(
 }
 
 // The end of a turn, from behind its clients: what is kept at the next one, or nothing where all were made.
-#[tactic(auto, using(crate::proofs::TurnLemmas::turning, crate::proofs::TurnLemmas::ending, run_law::proofs::CauseLemmas::counting))]
+#[tactic(auto, using(crate::proofs::TurnLemmas::turning, run_law::proofs::CauseLemmas::counting))]
 fn end_turn<'f, W: World + Children + Disk>(
     alloc: Global,
     world: &mut W,
@@ -170,7 +170,7 @@ fn make_turns<'f, W: World + Children + Disk + Gate>(
 }
 
 // From a point of a turn where its clients were served so far: behind all of them, or at one that asked for a reload.
-#[tactic(auto, using(crate::proofs::TurnLemmas::asked, run_law::proofs::CauseLemmas::counting))]
+#[tactic(auto, using(crate::proofs::TurnLemmas::turning, crate::proofs::TurnLemmas::going, run_law::proofs::CauseLemmas::counting))]
 fn up_to_reload<'f, W: World + Children + Disk + Gate>(
     alloc: Global,
     world: &mut W,

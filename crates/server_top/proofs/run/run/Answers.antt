@@ -1,5 +1,5 @@
 use Rattle.std.proofs.Common.{◌≡◌, ◌∙◌, ap, sym, subst, refl, List, ℕ, map, string_bytes, Some, None, Option, IsSome}
-use Rattle.f2b_world.specs.Told.{History, Standing}
+use Rattle.f2b_world.specs.Told.{Standing}
 use Rattle.run_law.specs.Served.{IsRun}
 use Rattle.run_law.specs.Stages.{IsSteady}
 use Rattle.run_law.specs.Stops.{HoldsThese, held_in}

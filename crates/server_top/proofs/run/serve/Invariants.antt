@@ -6,7 +6,7 @@ use Rattle.server_top.proofs.run.serve.Given as goal
 
 abbrev pub invariant-reloads : goal.invariant-reloads
 invariant-reloads g l = record {
-  stands : StandsTaken (g.W.Outside.stands l.fn.world) (g.W.Outside.stands l.world) l.plan.now l.taken;
+  stands : StandsTaken (g.W.Outside.stands l.fn.world) (g.W.Outside.stands l.world) l.plan l.taken;
   steady : IsSteady (g.W.Outside.stands l.fn.world) (g.W.Outside.stands l.world);
   goes : IfSome l.taken (λ r. GoesOnWith r.0.items r.1 r.2);
   placed : IfSome l.taken (λ r. IsPlacedIn (g.W.Outside.stands l.world).told r.1.clocked);

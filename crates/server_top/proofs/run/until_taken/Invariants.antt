@@ -9,7 +9,7 @@ use Rattle.server_top.proofs.run.until_taken.Given as goal
 
 abbrev pub invariant-asked : goal.invariant-asked
 invariant-asked g l = record {
-  on : AsksOn (g.W.Outside.stands l.initial.world) (g.W.Outside.stands l.world) l.plan.now l.initial.asked l.asked;
+  on : AsksOn (g.W.Outside.stands l.initial.world) (g.W.Outside.stands l.world) l.plan l.initial.asked l.asked;
   steady : IsSteady (g.W.Outside.stands l.initial.world) (g.W.Outside.stands l.world);
   asks : IfSome l.asked (λ r. Asks r.0 r.1);
   placed : IfSome l.asked (λ r. IsPlacedIn (g.W.Outside.stands l.world).told r.0.clocked);
