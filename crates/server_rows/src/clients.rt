@@ -1,6 +1,6 @@
 //! Runs with clients, as transcripts of what is said and replied, of the clients that come and leave, and of commands.
 use crate::callers::{Caller, plans};
-use crate::play::{File, Given, nothing, play_over, tree};
+use crate::play::{File, Given, nothing, one, play_over, tree};
 use crate::transcript::transcript;
 use f2b_base::{Seq, TreeAnswer};
 use f2b_mem::ChildPlan;
@@ -325,18 +325,18 @@ fn children(alloc: Global, polls: &[u32]) -> Result<Seq<ChildPlan>, Fail> {
     Ok(children)
 }
 
-fn again(alloc: Global, row: &Row) -> Result<Option<TreeAnswer>, Fail> {
-    match row.again {
-        Some(conf) => Ok(Some(tree(alloc, conf)?)),
-        None => Ok(None),
+fn trees(alloc: Global, row: &Row) -> Result<Seq<TreeAnswer>, Fail> {
+    let mut trees = one(alloc, tree(alloc, row.conf)?)?;
+    if let Some(conf) = row.again {
+        trees.push(tree(alloc, conf)?)?;
     }
+    Ok(trees)
 }
 
 fn given(alloc: Global, row: &Row) -> Result<Given<'static>, Fail> {
     Ok(Given {
         words: row.words,
-        tree: tree(alloc, row.conf)?,
-        again: again(alloc, row)?,
+        trees: trees(alloc, row)?,
         readings: row.readings,
         changes: Seq::new(alloc),
         children: children(alloc, row.polls)?,

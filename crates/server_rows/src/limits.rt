@@ -1,5 +1,5 @@
 //! Runs at the limits of a configuration.
-use crate::play::{Given, change, is_as_wanted, tree};
+use crate::play::{Given, change, is_as_wanted, one, tree};
 use f2b_base::{Seq, TreeAnswer};
 use std::alloc::{AllocError, Global};
 use std::test::Fail;
@@ -28,13 +28,13 @@ fn is_served(alloc: Global, count: u32, status: u8, said: &str) -> Result<bool, 
     let log = long(alloc, "1700000990 ", count, " 192.0.2.7\n")?;
     let mut changes = Seq::new(alloc);
     changes.push(change(alloc, 0, "/log", Some(log.as_str()))?)?;
+    let conf = tree(
+        alloc,
+        &[("filter.d/long.conf", filter.as_str()), ("jail.conf", JAIL)],
+    )?;
     let given = Given {
         words: "--conf /c --turns 1",
-        tree: tree(
-            alloc,
-            &[("filter.d/long.conf", filter.as_str()), ("jail.conf", JAIL)],
-        )?,
-        again: None,
+        trees: one(alloc, conf)?,
         readings: &[1_700_001_000],
         changes,
         children: Seq::new(alloc),
@@ -63,8 +63,7 @@ fn refuses_a_pattern_of_8193_bytes(rt: HostRuntime) -> Result<(), Fail> {
 fn refuses_a_configuration_that_is_too_large(rt: HostRuntime) -> Result<(), Fail> {
     let given = Given {
         words: "--conf /c --turns 1",
-        tree: TreeAnswer::TooLarge,
-        again: None,
+        trees: one(rt.alloc(), TreeAnswer::TooLarge)?,
         readings: &[],
         changes: Seq::new(rt.alloc()),
         children: Seq::new(rt.alloc()),

@@ -14,9 +14,8 @@ pub(crate) type File<'a> = (&'a str, &'a str);
 pub(crate) struct Given<'a> {
     /// The words, with blanks between them.
     pub words: &'a str,
-    pub tree: TreeAnswer,
-    /// What the configuration is from its second reading on, where it is another one.
-    pub again: Option<TreeAnswer>,
+    /// What the configuration is at each reading; the last stays.
+    pub trees: Seq<TreeAnswer>,
     /// What the clock says, in seconds since 1970; the last reading stays.
     pub readings: &'a [u64],
     pub changes: Seq<FileChange>,
@@ -38,6 +37,13 @@ pub(crate) fn tree(alloc: Global, conf: &[File<'_>]) -> Result<TreeAnswer, Fail>
         })?;
     }
     Ok(TreeAnswer::Tree(Tree { files }))
+}
+
+/// A configuration that stays.
+pub(crate) fn one(alloc: Global, tree: TreeAnswer) -> Result<Seq<TreeAnswer>, Fail> {
+    let mut trees = Seq::new(alloc);
+    trees.push(tree)?;
+    Ok(trees)
 }
 
 /// That a file has this content after so many pauses, or is gone.
@@ -89,14 +95,9 @@ fn world(alloc: Global, given: Given<'_>, image: Image) -> Result<MemWorld, Fail
     if given.clients.len() > 65_535 {
         return Err(Fail::from("too many clients"));
     }
-    let mut trees = Seq::new(alloc);
-    trees.push(given.tree)?;
-    if let Some(tree) = given.again {
-        trees.push(tree)?;
-    }
     let script = Script {
         readings: readings(alloc, given.readings)?,
-        trees,
+        trees: given.trees,
         changes: given.changes,
         children: given.children,
         clients: given.clients,

@@ -1,5 +1,5 @@
 //! A run that is stopped at each of its calls, and another run over what the stop left.
-use crate::play::{File, Given, change, is_said_over, nothing, play_over, said, tree};
+use crate::play::{File, Given, change, is_said_over, nothing, one, play_over, said, tree};
 use f2b_base::{Bytes, Seq};
 use f2b_mem::{Image, MemWorld};
 use f2b_world::{Event, Said};
@@ -53,8 +53,7 @@ fn given(
     changes.push(change(alloc, 0, "/log", Some("1700000990 fail from 192.0.2.7\n"))?)?;
     Ok(Given {
         words,
-        tree: tree(alloc, &CONF)?,
-        again: None,
+        trees: one(alloc, tree(alloc, &CONF)?)?,
         readings,
         changes,
         children: Seq::new(alloc),

@@ -1,6 +1,6 @@
 //! Runs of one jail with one log.
 use crate::play;
-use crate::play::{File, Given, tree};
+use crate::play::{File, Given, one, tree};
 use f2b_base::{Bytes, Seq, Text};
 use f2b_mem::FileChange;
 use std::alloc::Global;
@@ -291,8 +291,7 @@ fn changes(alloc: Global, log: &[&str], rotated: bool) -> Result<Seq<FileChange>
 fn is_as_wanted(alloc: Global, row: &Row, rotated: bool) -> Result<bool, Fail> {
     let given = Given {
         words: row.words,
-        tree: tree(alloc, row.conf)?,
-        again: None,
+        trees: one(alloc, tree(alloc, row.conf)?)?,
         readings: row.readings,
         changes: changes(alloc, row.log, rotated)?,
         children: Seq::new(alloc),

@@ -1,6 +1,6 @@
 //! Runs of configurations of several files, jails and logs.
 use crate::play;
-use crate::play::{File, Given, change, tree};
+use crate::play::{File, Given, change, one, tree};
 use f2b_base::Seq;
 use f2b_mem::{ChildPlan, FileChange};
 use std::alloc::Global;
@@ -208,8 +208,7 @@ fn plans(alloc: Global, row: &Row) -> Result<Seq<ChildPlan>, Fail> {
 fn is_as_wanted(alloc: Global, row: &Row) -> Result<bool, Fail> {
     let given = Given {
         words: "--conf /c --turns 3",
-        tree: tree(alloc, row.conf)?,
-        again: None,
+        trees: one(alloc, tree(alloc, row.conf)?)?,
         readings: &[1_700_001_000],
         changes: changes(alloc, row)?,
         children: plans(alloc, row)?,
