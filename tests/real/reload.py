@@ -291,14 +291,19 @@ def bans_stay_and_end(room):
         want(4 <= lasted < 600, f"a ban of 4 s lasted {lasted} s")
 
 
+def ban_to_the_end(room, server):
+    """Has an address banned, and waits until no command runs any more."""
+    ban(room)
+    wait_done(room, ["start", f"ban {ADDRESS}"])
+    wait_for(lambda: not children(server), "the end of all commands")
+    server.turn()
+
+
 def nothing_is_another(room):
     """a reload that changes nothing is answered and said, runs no command, and writes nothing"""
     act(room, bantime=600, **NOTES)
     with room.server() as server:
-        ban(room)
-        wait_done(room, ["start", f"ban {ADDRESS}"])
-        wait_for(lambda: not children(server), "the end of all commands")
-        server.turn()
+        ban_to_the_end(room, server)
         # A configuration is the same whatever its files look like.
         write(room.path("conf/jail.local"), "# nothing\n[web]\nmaxretry = 3\n")
         slots = both(room)
@@ -329,10 +334,7 @@ def a_configuration_is_not_taken(room):
     """a configuration that is refused changes nothing: the client is told why, with status 1, and the server says so and goes on"""
     act(room, bantime=600, **NOTES)
     with room.server() as server:
-        ban(room)
-        wait_done(room, ["start", f"ban {ADDRESS}"])
-        wait_for(lambda: not children(server), "the end of all commands")
-        server.turn()
+        ban_to_the_end(room, server)
         _, before, _ = room.run("-s", socket_of(room), "status", "web", program=room.client)
         slots, said = both(room), server.said()
         big = room.path("conf/big.conf")
@@ -483,10 +485,7 @@ def a_server_is_killed_behind_a_reload(room):
         server.wait_said(f"NOTICE [mail] Ban {ADDRESS}")
         act(room, bantime=600, **NOTES)
         reload(room)
-        ban(room)
-        wait_done(room, ["start", f"ban {ADDRESS}"])
-        wait_for(lambda: not children(server), "the end of all commands")
-        server.turn()
+        ban_to_the_end(room, server)
         kill(server)
     with room.server() as server:
         server.turn()
