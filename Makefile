@@ -21,9 +21,14 @@ DATADIR = $(PREFIX)/share/fail2ban
 BASHDIR = $(PREFIX)/share/bash-completion/completions
 ZSHDIR = $(PREFIX)/share/zsh/site-functions
 CONFDIR = /etc/fail2ban
-# Where the service may write: the server keeps its state there, and the configuration has links to two files there.
+# Where the service may write: the server keeps its state there, and the configuration has links to two files there. The units, their scripts and
+# conf/fail2ban.conf name it too, so it is no place to choose.
 STATEDIR = /var/lib/fail2ban
 ROTATEDIR = /etc/logrotate.d
+
+# Folders that are taken away where nothing is left in them. All of another depth are there on each machine.
+FOLDERS = $(foreach path,$(LIBDIR) $(UNITDIR) $(dir $(UNITDIR)) $(BASHDIR) $(dir $(BASHDIR)) $(ZSHDIR) $(dir $(ZSHDIR)) \
+	$(foreach part,1 5 7,$(MANDIR)/man$(part)),'$(DESTDIR)$(patsubst %/,%,$(path))')
 
 PROGRAMS = server client regex
 UNITS = fail2ban.service fail2ban-zone.service fail2ban-zone.timer fail2ban-journal.service
@@ -38,7 +43,7 @@ program = path=$$(tests/program.sh fail2ban_$$name) || exit 1
 endif
 
 # Paths in scripts and units, which stand in the repository as they are below /usr.
-paths = sed -e 's|/usr/bin/fail2ban-|$(BINDIR)/fail2ban-|g' -e 's|/usr/lib/fail2ban/|$(LIBDIR)/|g'
+paths = sed -e 's|/usr/bin/fail2ban-|$(BINDIR)/fail2ban-|g' -e 's|/usr/lib/fail2ban/|$(LIBDIR)/|g' -e 's|/etc/fail2ban|$(CONFDIR)|g'
 # Has systemd read its units again, where they are this machine's.
 reread = [ -n '$(DESTDIR)' ] || [ ! -d /run/systemd/system ] || systemctl daemon-reload
 # Lays conf/ into the configuration, where the shell's word `over` is yes over what is there. Other files stay, and links to what the service writes before each
@@ -105,7 +110,7 @@ uninstall:
 	@rm -f $(foreach name,$(SCRIPTS),'$(DESTDIR)$(LIBDIR)/$(name)') $(foreach name,$(UNITS),'$(DESTDIR)$(UNITDIR)/$(name)')
 	@rm -f $(foreach name,$(MANUALS),'$(DESTDIR)$(MANDIR)/man$(patsubst .%,%,$(suffix $(name)))/$(name)') '$(DESTDIR)$(ZSHDIR)/_fail2ban'
 	@rm -rf '$(DESTDIR)$(DATADIR)'
-	@rmdir '$(DESTDIR)$(LIBDIR)' 2>/dev/null || :
+	@for path in $(FOLDERS); do rmdir "$$path" 2>/dev/null || :; done
 	@! cmp -s service/fail2ban.logrotate '$(DESTDIR)$(ROTATEDIR)/fail2ban' || rm -f '$(DESTDIR)$(ROTATEDIR)/fail2ban'
 	@$(reread)
 	@echo "make: $(CONFDIR) and $(STATEDIR) are left: take them away by hand where nobody needs them"

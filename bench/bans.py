@@ -19,6 +19,9 @@ BANS = int(os.environ.get("BANS", 10_000))
 # So many single failures are timed.
 LINES = 50
 
+# So many fail at once where bans come as fast as their commands run.
+AT_ONCE = 20
+
 # A jail with a log of its own, and how a line of it is a failure.
 WATCHED = """\
 [{name}]
@@ -75,6 +78,11 @@ class Bench:
         with open(f"{self.place}/conf/action.d/note.conf", "w") as file:
             file.write(ACTION.format(last=address(number), place=self.place))
 
+    def counts(self):
+        """Has each ban be noted."""
+        with open(f"{self.place}/conf/action.d/note.conf", "w") as file:
+            file.write(f"[Definition]\nactionban = echo >> {self.place}/<name>-<actname>\n")
+
     def fail(self, numbers):
         for jail in self.jails:
             with open(f"{self.place}/{jail}.log", "a") as file:
@@ -122,6 +130,24 @@ def bans(server, folder, jails, actions):
         process = bench.start(server)
         try:
             return bench.wait(process) - begin, peak_memory(process)
+        finally:
+            process.kill()
+            process.wait()
+
+
+def paced(server, folder):
+    """How long it takes until all are banned, of whom so few fail at once that hardly one waits for his command, and the most memory that the server
+    has had."""
+    with tempfile.TemporaryDirectory(dir=folder) as place:
+        bench = Bench(place, 1, 1)
+        bench.counts()
+        begin = time.monotonic()
+        process = bench.start(server)
+        try:
+            for first in range(0, BANS, AT_ONCE):
+                bench.fail(range(first, min(first + AT_ONCE, BANS)))
+                end = bench.wait(process, min(first + AT_ONCE, BANS))
+            return end - begin, peak_memory(process)
         finally:
             process.kill()
             process.wait()
@@ -195,8 +221,7 @@ def delays(server, folder):
     """How long it takes from the last byte of a line to the end of its command, where each line bans one address in a jail of its own."""
     with tempfile.TemporaryDirectory(dir=folder) as place:
         bench = Bench(place, 1, 1)
-        with open(f"{place}/conf/action.d/note.conf", "w") as file:
-            file.write(f"[Definition]\nactionban = echo >> {place}/<name>-<actname>\n")
+        bench.counts()
         process = bench.start(server)
         try:
             bench.fail([BANS])
@@ -223,6 +248,8 @@ def main(server, folder):
         wall, peak = bans(server, folder, jails, actions)
         what = f"{jails} jail{'s' * (jails > 1)}, {actions} action{'s' * (actions > 1)}"
         print(f"{what:28} {wall:7.2f} {wall / took:9.2f} {goal or '':>5} {peak:9.1f}", flush=True)
+    wall, peak = paced(server, folder)
+    print(f"{f'1 jail, 1 action, {AT_ONCE} at once':28} {wall:7.2f} {wall / took:9.2f} {'':>5} {peak:9.1f}", flush=True)
     print(f"{'start with ' + format(BANS, ',') + ' bans':28} {'s':>7} {'goal':>15} {'peak MiB':>9} {'commands run':>13}  bytes of the slots")
     for what, lengths, wall, peak, run in starts(server, folder):
         print(f"{what:28} {wall:7.2f} {START:15} {peak:9.1f} {run:13}  {lengths}", flush=True)

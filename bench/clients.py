@@ -175,6 +175,31 @@ def reloads(server, place):
         bench.process.wait()
 
 
+def status_kib(process, field):
+    """A line of what the system tells of a process, in KiB."""
+    with open(f"/proc/{process.pid}/status") as file:
+        return next(int(line.split()[1]) for line in file if line.startswith(f"{field}:"))
+
+
+def processor_time(process):
+    """How many nanoseconds a process has had a processor."""
+    with open(f"/proc/{process.pid}/schedstat") as file:
+        return int(file.read().split()[0])
+
+
+def cost_row(name, process, times, made):
+    """Prints how many microseconds of a processor the server needs for a request, and how many KiB it has at most above what it has without."""
+    stands = status_kib(process, "VmRSS")
+    # From here on the system counts the most memory anew.
+    with open(f"/proc/{process.pid}/clear_refs", "w") as file:
+        file.write("5")
+    begin = processor_time(process)
+    for _ in range(times):
+        made()
+    took = (processor_time(process) - begin) / times / 1_000
+    print(f"| {name} | {took:.1f} | {max(0, status_kib(process, 'VmHWM') - stands)} |")
+
+
 def row(name, took):
     print(f"| {name} | {statistics.median(took):.2f} | {min(took):.2f} | {max(took):.2f} |")
 
@@ -193,6 +218,8 @@ def main(server, client, folder):
                 row(name, milliseconds(times, made))
             conns.pop().close()
             row("`fail2ban-client ping`, from start to end", milliseconds(PINGS // 10, lambda: subprocess.run(command, stdout=subprocess.DEVNULL, check=True)))
+            print("\n| a request, with nobody banned | of a processor, microseconds | peak, KiB more |\n|---|---|---|")
+            cost_row("`ping`", bench.process, PINGS, lambda: ping(conns[0]))
             print("\n| bans a second | |\n|---|---|")
             print(f"| asked for one by one | {bans_one_by_one(conns[0], 0):,.0f} |")
             print(f"| asked for one by one, by {len(conns)} clients | {bans_by_sixteen(conns, BANS):,.0f} |")
@@ -201,6 +228,9 @@ def main(server, client, folder):
             print(f"\n| with {BANNED:,} bans, ms | median | least | most |\n|---|---|---|---|")
             for words in ["ping", "status web", "get web banip"]:
                 row(f"`{words}`", milliseconds(PINGS // 10, lambda: ask(conns[0], *words.split())))
+            print(f"\n| a request, with {BANNED:,} bans | of a processor, microseconds | peak, KiB more |\n|---|---|---|")
+            for words in ["ping", "status web"]:
+                cost_row(f"`{words}`", bench.process, PINGS // 10, lambda: ask(conns[0], *words.split()))
             ask(conns[0], "stop")
             if bench.process.wait() != 0:
                 sys.exit(f"the server ended with {bench.process.returncode}")

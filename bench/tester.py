@@ -1,8 +1,9 @@
 """Makes two logs, has the pattern tester and grep search them on one core, and prints what each of them took.
 
-    tester.py TESTER
+    tester.py TESTER [LINES]
 
-Where a fail2ban-regex is installed it searches them too.
+LINES is how many lines each of them has, 300,000 where it is left out; 18,000,000 make a log of 2 GB. Where a fail2ban-regex is installed
+it searches them too.
 """
 
 import os
@@ -59,17 +60,17 @@ def parts(log, number, at, chance):
     return f"{date} host sshd[{number % 30_000}]: {before}", behind.format(host=host, port=chance.randrange(1024, 65536))
 
 
-def lines(log):
+def lines(log, count):
     chance = random.Random(1)
     begin = int(time.time()) - 86_400
-    for number in range(LINES):
-        yield filled(*parts(log, number, begin + number * 86_400 // LINES, chance))
+    for number in range(count):
+        yield filled(*parts(log, number, begin + number * 86_400 // count, chance))
 
 
-def measure(place, log, tester, words, cpu):
+def measure(place, log, count, tester, words, cpu):
     path = os.path.join(place, log)
     with open(path, "w") as file:
-        file.writelines(lines(log))
+        file.writelines(lines(log, count))
     runs = [
         run("fail2ban-regex", [tester, *words(path)], cpu),
         run("grep -cE", ["grep", "-cE", WHOLE_LINES[log], path], cpu),
@@ -77,24 +78,24 @@ def measure(place, log, tester, words, cpu):
     other = shutil.which("fail2ban-regex")
     if other:
         runs.append(run("the installed one", [other, *words(path)], cpu))
-    print(f"{log}: {LINES:,} lines, {os.path.getsize(path):,} bytes; {runs[0].output.splitlines()[0]}, grep {runs[1].output.strip()}")
+    print(f"{log}: {count:,} lines, {os.path.getsize(path):,} bytes; {runs[0].output.splitlines()[0]}, grep {runs[1].output.strip()}")
     for each in runs:
-        print(f"  {each.name:18} {LINES / each.cpu:12,.0f} lines/s {each.cpu:8.2f} CPU s {each.peak / 1024:8.1f} MiB")
+        print(f"  {each.name:18} {count / each.cpu:12,.0f} lines/s {each.cpu:8.2f} CPU s {each.peak / 1024:8.1f} MiB")
 
 
-def main(tester):
+def main(tester, count):
     cpu = max(os.sched_getaffinity(0))
     with tempfile.TemporaryDirectory() as place:
         os.mkdir(os.path.join(place, "filter.d"))
         sshd = os.path.join(place, "filter.d", "sshd.conf")
         with open(sshd, "w") as file:
             file.write(FILTER)
-        measure(place, "epoch", tester, lambda path: ["-d", "Epoch", path, PATTERN], cpu)
-        measure(place, "sshd", tester, lambda path: [path, sshd], cpu)
+        measure(place, "epoch", count, tester, lambda path: ["-d", "Epoch", path, PATTERN], cpu)
+        measure(place, "sshd", count, tester, lambda path: [path, sshd], cpu)
 
 
 if __name__ == "__main__":
-    if len(sys.argv) == 2:
-        main(os.path.abspath(sys.argv[1]))
+    if len(sys.argv) in (2, 3):
+        main(os.path.abspath(sys.argv[1]), int(sys.argv[2]) if len(sys.argv) == 3 else LINES)
     else:
         sys.exit(__doc__)

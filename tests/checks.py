@@ -53,12 +53,16 @@ def made(check):
 
 
 def status_of(title, checks, word="", side_by_side=1):
-    """Makes the checks whose name has the word, so many side by side, prints a line for each and a last one, and gives the exit status: 0 where
-    some passed and none failed. A check is its name and a call, which may give what more there is to say."""
-    chosen, count = [(name, check) for name, check in checks if word in name], Counter()
+    """Makes the checks whose name has the word, so many side by side, prints a line for each, one for each reason to skip some, and a last one, and
+    gives the exit status: 0 where some passed and none failed. A check is its name and a call, which may give what more there is to say."""
+    chosen, count, skipped = [(name, check) for name, check in checks if word in name], Counter(), Counter()
     with ThreadPoolExecutor(side_by_side) as pool:
         for (name, _), (came_to, more) in zip(chosen, pool.map(lambda it: made(it[1]), chosen)):
             count[came_to] += 1
+            skipped[more] += came_to == "skipped"
             print(f"{came_to}: {name}: {more}", flush=True)
+    for why, times in sorted(skipped.items()):
+        if times:
+            print(f"{title}: {times} skipped: {why}")
     print(f"{title}: {count['ok']} passed, {count['FAILED']} failed")
     return 1 if count["FAILED"] or not count["ok"] else 0

@@ -22,5 +22,6 @@ may 'ipset create f2b-try hash:ip && iptables -w -I INPUT -m set --match-set f2b
 may 'ip6tables -w -I INPUT -p tcp -m multiport --dports 22 -j REJECT' ip6tables
 may 'ip rule add priority 1000 lookup 4242 && ip -6 route add blackhole 2001:db8::7 table 4242' "rules and routes"
 server=$(tests/program.sh fail2ban_server)
-echo "firewall: the server is ${server#"$PWD/"}; $(nft --version), $(iptables --version), $(ipset --version | head -n 1)"
-exec unshare --net python3 -B tests/actions --real "$server" "$@"
+client=$(tests/program.sh fail2ban_client)
+echo "firewall: the server is ${server#"$PWD/"}, the client is ${client#"$PWD/"}; $(nft --version), $(iptables --version), $(ipset --version | head -n 1)"
+exec unshare --net python3 -B tests/actions --real "$server" "$client" "$@"

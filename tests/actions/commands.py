@@ -70,17 +70,22 @@ def a_lane_goes_through_its_life(room, firewall, options=""):
 def a_lane_over_an_empty_firewall(room, firewall):
     """over an empty firewall the commands of the lanes before it find nothing to do"""
     for lane, (one, other) in lanes(room, firewall):
-        lane.does("unban", address=one)
-        lane.does("stop")
-        lane.leaves_nothing("behind unban and stop")
+        for before in [[], ["start", "ban"]]:
+            lane.does(*before, address=one)
+            room.empty_firewall()
+            lane.check_is(False, "over an empty firewall")
+            # A ban may come first, or behind the end of another one: in both orders it is no fault, and the firewall is not whole by it.
+            lane.does("ban", "unban", "ban", "unban", address=one)
+            room.empty_firewall()
+            lane.does("unban", "ban", address=other)
+            lane.check_is(False, "behind a ban over an empty firewall")
+            lane.does("stop")
+            lane.leaves_nothing("behind ban, unban and stop")
+        lane.does("ban", address=other)
         lane.does("start")
-        lane.does("ban", address=one)
-        room.empty_firewall()
-        lane.check_is(False, "over an emptied firewall")
-        lane.does("unban", address=one)
-        lane.does("unban", address=other)
+        lane.has()
         lane.does("stop")
-        lane.leaves_nothing("behind them once more")
+        lane.leaves_nothing("behind a start over what a ban had made")
 
 
 def damage_is_seen(room, firewall):
@@ -101,6 +106,22 @@ def damage_is_seen(room, firewall):
             lane.has(other)
             lane.check_is(True, f"behind {command} and a start")
             lane.does("stop")
+
+
+def a_rule_less_is_seen(room, firewall):
+    """with two protocols the check fails where the rule of either is gone"""
+    for lane, _ in lanes(room, firewall, '[protocol="tcp,udp"]'):
+        tables = firewall.filled("{ip}tables -w", NAME, lane.family)
+        for protocol in ["tcp", "udp"]:
+            lane.does("start")
+            lane.check_is(True, "behind the start")
+            rules = room.sh(f"{tables} -S INPUT")[1].splitlines()
+            [rule] = [rule for rule in rules if f"-p {protocol} " in rule and f"f2b-{NAME}" in rule]
+            status, said = room.sh(f"{tables} -D{rule.removeprefix('-A')}")
+            same(status, 0, f"{rule} is taken away ({said})")
+            lane.check_is(False, f"without the rule of {protocol}")
+        lane.does("stop")
+        lane.leaves_nothing("behind the stop")
 
 
 def a_fault_is_told(room, firewall):
@@ -127,7 +148,7 @@ def a_file(room):
     """dummy: its file from start to stop, and where somebody took it away"""
     path = room.path("of/banned")
     commands = room.commands(NAME, f'dummy[file="{path}"]')["inet4"]
-    one, other = "192.0.2.7", "2001:db8::7"
+    one, longer, other = "192.0.2.7", "192.0.2.70", "2001:db8::7"
 
     def does(kind, address=""):
         for _ in range(2):
@@ -140,13 +161,19 @@ def a_file(room):
 
     same(room.sh(commands.of("check"))[0], 1, "the check before the start")
     does("unban", one)
+    does("ban", one)
+    same(os.path.exists(path), False, "a file of a ban without a start")
     does("stop")
     does("start")
+    # The one's text is in the other's.
+    does("ban", longer)
     does("ban", one)
     does("ban", other)
     does("check")
-    has(one, other)
+    has(longer, one, other)
     does("unban", one)
+    has(longer, other)
+    does("unban", longer)
     has(other)
     does("unban", other)
     has()
@@ -205,6 +232,8 @@ def checks(is_real):
         for options in OPTIONS[firewall.action]:
             name = f"{firewall.action}{options}: {a_lane_goes_through_its_life.__doc__}"
             yield name, lambda room, firewall=firewall, options=options: a_lane_goes_through_its_life(room, firewall, options)
+    for firewall in [firewalls.IPSET, firewalls.IPTABLES]:
+        yield f"{firewall.action}: {a_rule_less_is_seen.__doc__}", lambda room, firewall=firewall: a_rule_less_is_seen(room, firewall)
     yield f"route: {a_table_with_a_number.__doc__}", lambda room: a_table_with_a_number(room, firewalls.ROUTE)
     if not is_real:
         for check in [a_file, boot_id_is_written]:

@@ -3,6 +3,7 @@
 import glob
 import os
 import shutil
+import signal
 import subprocess
 import sys
 import time
@@ -77,8 +78,8 @@ class Commands:
 class Room:
     """A folder with a configuration, a log and a server. Its firewall is one of files, or where it is real that of the network's namespace."""
 
-    def __init__(self, server, place, is_real=False):
-        self.server, self.place, self.is_real = server, place, is_real
+    def __init__(self, server, client, place, is_real=False):
+        self.server, self.client, self.place, self.is_real = server, client, place, is_real
         self.log = self.path("log")
         self.runs = None
         self.environment = {"PATH": os.environ["PATH"], "LANG": "C.UTF-8"}
@@ -125,10 +126,16 @@ class Room:
         ended = subprocess.run(["/bin/sh", "-c", command], check=False, **how)
         return ended.returncode, ended.stdout.decode() + ("" if quiet else ended.stderr.decode())
 
-    def start(self, *words):
+    def start(self, *words, apart=False):
+        """Starts the server. One apart has a group of processes of its own, with its commands."""
         with open(self.path("said"), "ab") as said, open(self.path("errors"), "ab") as errors:
             self.runs = subprocess.Popen(
-                [self.server, "--conf", self.path("conf"), *words], stdin=subprocess.DEVNULL, stdout=said, stderr=errors, env=self.environment
+                [self.server, "--conf", self.path("conf"), *words],
+                stdin=subprocess.DEVNULL,
+                stdout=said,
+                stderr=errors,
+                env=self.environment,
+                start_new_session=apart,
             )
 
     def kill(self):
@@ -137,6 +144,17 @@ class Room:
             self.runs.kill()
             self.runs.wait()
             self.runs = None
+
+    def kill_all(self):
+        """Ends a server that runs apart, with the commands that it runs, as the end of the machine does."""
+        os.killpg(self.runs.pid, signal.SIGKILL)
+        self.kill()
+
+    def ask(self, *words):
+        """What the server replies to its client."""
+        asked = [self.client, "-s", self.path("run/fail2ban.sock"), *words]
+        ended = subprocess.run(asked, stdin=subprocess.DEVNULL, capture_output=True, timeout=PATIENCE, check=False)
+        return ended.returncode, ended.stdout.decode()
 
     def says(self, line, count=1):
         """Waits until the server has said a line so often."""

@@ -17,10 +17,10 @@ def jails_of(room):
     return {"nft": firewalls.NFTABLES, "set": firewalls.IPSET, "chain": firewalls.IPTABLES, "way": firewalls.ROUTE, "file": firewalls.dummy(path)}
 
 
-def configure(room, jails, bantime=3600):
+def configure(room, jails, bantime=3600, options="port=22"):
     """Jails with these actions; that of dummy says where its file is."""
     more = {"dummy": f'[file="{room.path("firewall/dummy/banned")}"]'}
-    room.configure({name: firewall.action + more.get(firewall.action, "[port=22]") for name, firewall in jails.items()}, bantime)
+    room.configure({name: firewall.action + more.get(firewall.action, f"[{options}]") for name, firewall in jails.items()}, bantime)
 
 
 def some(count, first=0):
@@ -51,6 +51,17 @@ def is_quiet(room):
     same(room.errors(), "", "what commands wrote")
 
 
+def begun(room, count):
+    """A server that runs with so many bans, which stand in all firewalls: its jails, by their names."""
+    jails = jails_of(room)
+    configure(room, jails)
+    room.start()
+    room.says("INFO Server ready")
+    room.fail(some(count))
+    wait_all(room, some(count), "bans", jails)
+    return jails
+
+
 def bans_and_their_ends(room, count):
     """each address of a ban is in the firewall, and with the end of its ban it is gone"""
     jails = jails_of(room)
@@ -74,12 +85,7 @@ def bans_and_their_ends(room, count):
 
 def emptied_by_others(room, count):
     """where somebody empties the firewall the next ban brings all back"""
-    jails = jails_of(room)
-    configure(room, jails)
-    room.start()
-    room.says("INFO Server ready")
-    room.fail(some(count))
-    wait_all(room, some(count), "bans", jails)
+    jails = begun(room, count)
     is_quiet(room)
     for name, firewall in jails.items():
         for family in FAMILIES[: firewall.lanes]:
@@ -118,6 +124,44 @@ def a_reboot(room, count, jails):
     same(all_have(room, some(count), jails), True, "bans behind another start")
     is_quiet(room)
     return f"{count} in each of {len(jails)} firewalls, in {took:.1f} s"
+
+
+def a_reboot_with_bans_that_wait(room, count):
+    """after a reboot that came while bans waited behind commands that hang the first start makes all of them, and gives none up"""
+    jails = {name: firewall for name, firewall in jails_of(room).items() if name != "file"}
+    # A command that hangs is not to be ended before the machine is.
+    configure(room, jails, options="port=22, timeout=1h")
+    room.boots("0a-1")
+    room.start(apart=True)
+    room.says("INFO Server ready")
+    room.fail(some(count))
+    wait_all(room, some(count), "bans", jails)
+    hangs = room.path("firewall/hangs")
+    open(hangs, "w").close()
+    room.fail(some(count, first=count))
+    for name in jails:
+        room.says(f"NOTICE [{name}] Ban {some(count, first=count)[-1]}")
+    room.kill_all()
+    room.empty_firewall()
+    room.boots("0a-2")
+    is_quiet(room)
+    room.start()
+    wait_all(room, some(count) + some(count, first=count), "all of them behind the reboot", jails)
+    is_quiet(room)
+    return f"{count} that stood and {count} that waited, in each of {len(jails)} firewalls"
+
+
+def a_stop_that_is_asked_for(room, count):
+    """the client's stop lets in whoever is banned, leaves nothing in the firewall, and the server ends with 0"""
+    jails = begun(room, count)
+    same(room.ask("stop"), (0, "Shutdown begun\n"), "the reply to the stop")
+    wait_for(room.has_ended, "the server's end", lambda: len(room.said()))
+    same(room.runs.wait(), 0, "the server's status")
+    for name, firewall in jails.items():
+        same(firewall.traces_of(room, name), [], f"{name}: there behind the stop")
+    same(os.path.exists(room.path("firewall/dummy/banned")), False, "the file of dummy is there")
+    is_quiet(room)
+    return f"{count} in each of {len(jails)} firewalls"
 
 
 # What a client may write, of which no shell, mail or tag may make anything.
@@ -161,7 +205,8 @@ def mails(room):
 
 def a_mail_beside_a_firewall(room):
     """a jail that ships bans and writes a mail with action = %(action_mail)s"""
-    room.configure({}, more=f"[sshd]\nenabled = true\nlogpath = {room.log}\nmaxretry = 2\naction = %(action_mail)s\n")
+    people = "destemail = ops@example.org\nsender = f2b@example.org\n"
+    room.configure({}, more=f"[sshd]\nenabled = true\nlogpath = {room.log}\nmaxretry = 2\naction = %(action_mail)s\n{people}")
     room.start()
     room.says("INFO Server ready")
     now = time.strftime("%b %e %H:%M:%S", time.gmtime())
@@ -171,7 +216,10 @@ def a_mail_beside_a_firewall(room):
     wait_all(room, ["198.51.100.7"], "a ban", {"sshd": firewalls.NFTABLES})
     folder = room.path("firewall/mail")
     wait_for(lambda: [name for name in os.listdir(folder) if name[0] != "."], "a mail")
-    same(room.sh("nft list chain ip f2b-sshd input")[1].split(), "meta l4proto { tcp } th dport { 22 } ip saddr @banned reject".split(), "the rule")
+    [name] = [name for name in os.listdir(folder) if name[0] != "."]
+    with open(os.path.join(folder, name), encoding="ascii") as file:
+        head = file.read().splitlines()[:3]
+    same(head, ["sendmail -t -i -f f2b@example.org", "From: fail2ban <f2b@example.org>", "To: ops@example.org"], "whose the mail is, and who gets it")
     is_quiet(room)
 
 
@@ -233,9 +281,12 @@ MANY = int(os.environ.get("BANS", "0"))
 def checks(is_real):
     count = 100 if is_real else 10
     many = MANY or (1000 if is_real else 300)
-    for check in [bans_and_their_ends, emptied_by_others]:
+    for check in [bans_and_their_ends, emptied_by_others, a_stop_that_is_asked_for]:
         yield check.__doc__, lambda room, check=check: check(room, count)
     yield a_reboot.__doc__, lambda room: a_reboot(room, count, jails_of(room))
     yield f"{a_reboot.__doc__}, of many", lambda room: a_reboot(room, many, {"nft": firewalls.NFTABLES})
+    if not is_real:
+        # What is to hang has to be a stand-in.
+        yield a_reboot_with_bans_that_wait.__doc__, lambda room: a_reboot_with_bans_that_wait(room, count)
     for check in [packets, answers] if is_real else [mails, a_mail_beside_a_firewall]:
         yield check.__doc__, check

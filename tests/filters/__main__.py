@@ -44,7 +44,7 @@ LINES, FOUND, LEFT, HOSTILE = 15, 10, 5, 2
 
 HEAD = re.compile(r"# (filter|words|written): (.+)$")
 WANTED = re.compile(r"# (hostile )?(?:(?P<left>missed|ignored \d+)|(?P<found>\S+ (?:now|(?:\d{4}-)?\d\d-\d\dT\d\d:\d\d:\d\dZ) \d+))(?:: .*)?$")
-SHOWN_FOUND = re.compile(r" {3}(\d+)\) (\S+) (\S+) \S+ (.*)$")
+SHOWN_FOUND = re.compile(r" {3}(\d+)\) (\S+) (\S+) \S+ (?:\d+-\d+|-) (.*)$")
 HEADINGS = {"Matched lines:": "found", "Ignored lines:": "ignored", "Missed lines:": "missed"}
 
 # Whom no line may find by a client's words, and how many lines with such words are made of a log.

@@ -12,9 +12,10 @@ from functools import partial
 import files
 import pages
 import service
+import units
 from root import Root, status_of
 
-CHECKS = [*files.CHECKS, *pages.CHECKS, *service.CHECKS]
+CHECKS = [*files.CHECKS, *pages.CHECKS, *units.CHECKS, *service.CHECKS]
 
 
 def made(programs, check):

@@ -1,6 +1,8 @@
 """Which files an install makes, what it leaves as it is, and what a package holds."""
 
+import filecmp
 import os
+import re
 import stat
 
 from root import TOP, needs, run, same, want
@@ -26,6 +28,21 @@ INSTALLED = """\
 /usr/share/man/man5/jail.conf.5
 /usr/share/man/man7/fail2ban-differences.7
 /usr/share/zsh/site-functions/_fail2ban
+"""
+
+
+FOLDERS_LEFT = """\
+/etc
+/etc/fail2ban
+/etc/logrotate.d
+/usr
+/usr/bin
+/usr/lib
+/usr/share
+/usr/share/man
+/var
+/var/lib
+/var/lib/fail2ban
 """
 
 
@@ -77,6 +94,14 @@ def prefix_is_taken(root):
             want(f"{prefix}/" in text and "/usr/bin/" not in text and "/usr/lib/" not in text, f"{name}: {text}")
 
 
+def unit_reads_the_configuration(root):
+    """the unit reads the configuration where make install with another CONFDIR lays it"""
+    root.make("install", "PREFIX=/usr", "CONFDIR=/opt/f2b/etc")
+    is_as_shipped(root, "/opt/f2b/etc", LINKS)
+    unit = root.read("/usr/lib/systemd/system/fail2ban.service")
+    want("fail2ban-server --conf /opt/f2b/etc --" in unit and "/etc/fail2ban" not in unit, unit)
+
+
 def configuration_is_left(root):
     """make install leaves a configuration that is there as it is; make install-conf lays over it what ships, and leaves all else"""
     root.make("install", "PREFIX=/usr")
@@ -93,6 +118,8 @@ def configuration_is_left(root):
     same(root.files("/etc"), before, "files")
     for path, text in {**mine, **changed}.items():
         same(root.read(path), text, path)
+    # The copy to compare with is that of now, and no other one stands in it.
+    is_as_shipped(root, "/usr/share/fail2ban/conf")
     root.make("install-conf", "PREFIX=/usr")
     for path, text in mine.items():
         same(root.read(path), text, path)
@@ -100,11 +127,25 @@ def configuration_is_left(root):
     is_as_shipped(root, "/etc/fail2ban", LINKS)
 
 
+def own_zone_stays(root):
+    """make install and make install-conf leave a zone.local and a boot.local of one's own, in place of the links"""
+    own = {"/etc/fail2ban/zone.local": "[DEFAULT]\nlogtimezone = UTC+0100\n", "/etc/fail2ban/action.d/boot.local": "[Init]\nboot = mine\n"}
+    for path, text in own.items():
+        root.write(path, text)
+    for target in ["install", "install-conf"]:
+        root.make(target, "PREFIX=/usr")
+        for path, text in own.items():
+            same((os.path.islink(root.at(path)), root.read(path)), (False, text), f"{path} behind make {target}")
+
+
 def jail_local_stays(root):
-    """make install lays what ships beside a jail.local that stands there without a jail.conf"""
+    """make install lays what ships beside a jail.local and a filter that stand there without a jail.conf, and leaves both"""
     root.write("/etc/fail2ban/jail.local", "[sshd]\nport = 2222\n")
+    root.write("/etc/fail2ban/filter.d/sshd.conf", "# changed\n")
     os.chmod(root.at("/etc/fail2ban/jail.local"), 0o600)
     root.make("install", "PREFIX=/usr", umask=0o077)
+    same(root.read("/etc/fail2ban/filter.d/sshd.conf"), "# changed\n", "a filter that ships by the same name")
+    root.make("install-conf", "PREFIX=/usr")
     same(root.read("/etc/fail2ban/jail.local"), "[sshd]\nport = 2222\n", "jail.local")
     same(oct(os.stat(root.at("/etc/fail2ban/jail.local")).st_mode & 0o777), "0o600", "its mode")
     os.remove(root.at("/etc/fail2ban/jail.local"))
@@ -120,7 +161,18 @@ def uninstall_takes_all(root):
     left = [name for name in root.files() if not name.startswith("/etc/fail2ban/")]
     same(left, ["/usr/bin/other", "/var/lib/fail2ban/journal.0"], "files")
     is_as_shipped(root, "/etc/fail2ban", LINKS)
-    want(not os.path.exists(root.at("/usr/lib/fail2ban")), "a folder is left")
+    # Folders that each machine has stay, and those of what is left.
+    below = [name for name in root.folders() if not name.startswith("/etc/fail2ban/")]
+    same(below, FOLDERS_LEFT.splitlines(), "folders")
+
+
+def rotation_of_ones_own_stays(root):
+    """make uninstall leaves what says how logs are rotated where somebody changed it"""
+    root.make("install", "PREFIX=/usr")
+    root.write("/etc/logrotate.d/fail2ban", "# changed\n")
+    root.make("uninstall", "PREFIX=/usr")
+    same(root.files("/etc/logrotate.d"), ["/etc/logrotate.d/fail2ban"], "left")
+    same(root.read("/etc/logrotate.d/fail2ban"), "# changed\n", "/etc/logrotate.d/fail2ban")
 
 
 def package_is_made(root):
@@ -143,10 +195,41 @@ def package_is_made(root):
     of_etc = [name[4:] for name in root.files("/all/etc") if not os.path.islink(root.at(name))]
     same(conffiles, of_etc, "files that are asked about")
     control = root.read("/all/DEBIAN/control")
-    for line in ["Package: fail2ban-gearcrimson", "Conflicts: fail2ban", "Version: "]:
+    # The jails that ship ban by nft.
+    for line in ["Package: fail2ban-gearcrimson", "Conflicts: fail2ban", "Recommends: nftables\n", "Version: "]:
         want(line in control, control)
+    is_proved = all(same_file(root.at(f"/all/usr/bin/fail2ban-{name}"), f"{TOP}/crates/fail2ban_{name}/out/fail2ban_{name}") for name in root.programs)
+    same("What it does is proved." in control, is_proved, f"whether it is said to be proved: {control}")
+    same("It is built with checks while it runs, and without proofs." in control, not is_proved, control)
     for script in ["postinst", "prerm", "postrm"]:
         run("sh", "-n", root.at(f"/all/DEBIAN/{script}"))
+    links_lead_somewhere(root, "/all/usr/share/doc/fail2ban-gearcrimson")
 
 
-CHECKS = [files_are_there, prefix_is_taken, configuration_is_left, jail_local_stays, uninstall_takes_all, package_is_made]
+def same_file(one, other):
+    """Whether both are there, with the same bytes."""
+    return os.path.exists(other) and filecmp.cmp(one, other, shallow=False)
+
+
+def links_lead_somewhere(root, place):
+    """Each link of the package's pages leads to a file of the package, or to another machine."""
+    count = 0
+    for path in root.files(place):
+        if path.endswith(".md"):
+            for link in re.findall(r"\]\(([^)#\s]+)", root.read(path)):
+                count += 1
+                want("://" in link or os.path.exists(os.path.join(os.path.dirname(root.at(path)), link)), f"{path} has a link to {link}")
+    want(count > 50, f"links: {count}")
+
+
+CHECKS = [
+    files_are_there,
+    prefix_is_taken,
+    unit_reads_the_configuration,
+    configuration_is_left,
+    own_zone_stays,
+    jail_local_stays,
+    uninstall_takes_all,
+    rotation_of_ones_own_stays,
+    package_is_made,
+]

@@ -5,7 +5,7 @@ import os
 import re
 import time
 
-from root import PATH, TOP, Failed, same, wait_for, want
+from root import PATH, TOP, same, wait_for, want
 
 UNITS = "/usr/lib/systemd/system"
 # Five and a half hours east of UTC, without summer time, in the words of the C library.
@@ -24,6 +24,16 @@ enabled = true
 [nginx-http-auth]
 enabled = true
 """
+
+# An action's stop that takes as long as somebody wants it to.
+SLOW_STOP = """\
+[Definition]
+actionstop = while [ ! -e /run/let-stop ]; do sleep 0.1; done
+    rm -f '<file>'
+"""
+
+# When and for how long the jails that ship ban, as the client says it.
+LIMITS = {"maxretry": "5\n", "findtime": "600\n", "bantime": "600\n"}
 
 # A log, and a failure in it, for each of three filters.
 JAILS = {
@@ -99,14 +109,16 @@ class Service:
         """What the server replies by its client, at the client's own place for the socket."""
         return self.root.run("/usr/bin/fail2ban-client", *words, environment=self.environment, status=status)[0]
 
-    def answers(self):
-        """Whether the server listens to clients: one that does not is status 8 of the client."""
-        try:
-            self.ask("ping", status=8)
-        except Failed:
-            same(self.ask("ping"), "Server replied: pong\n", "ping")
-            return True
-        return False
+
+def tests_the_filter(root):
+    """The command of README that tests the filter of sshd, before the service has ever been started: two links of the configuration lead to nothing then."""
+    with open(os.path.join(TOP, "README.md"), encoding="utf-8") as file:
+        [words] = re.findall(r"^    (fail2ban-regex .*?) +#", file.read(), re.MULTILINE)
+    log, form, line = JAILS["sshd"]
+    root.write(log, line.format(date=time.strftime(form, time.gmtime()), address="198.51.100.7") * 3 + "no failure\n")
+    said, _ = root.run(*words.split(), environment={"PATH": PATH})
+    want("Lines: 4 lines, 0 ignored, 3 matched, 1 missed" in said, f"{words}: {said}")
+    os.remove(root.at(log))
 
 
 @contextlib.contextmanager
@@ -114,7 +126,9 @@ def serving(root):
     """A server that was installed and started as README says, but for the action."""
     root.furnish()
     root.make("install", "PREFIX=/usr")
+    tests_the_filter(root)
     root.write("/etc/fail2ban/jail.local", LOCAL)
+    root.write("/etc/fail2ban/action.d/dummy.local", SLOW_STOP)
     for log, _, _ in JAILS.values():
         root.write(log, "")
     service = Service(root)
@@ -125,7 +139,7 @@ def serving(root):
 
 
 def bans_by_three_filters(root):
-    """the service bans by the configuration that ships, in the machine's zone, goes on behind kill -9, and stops in order where it listens"""
+    """the service bans by the configuration that ships, in the machine's zone, goes on behind kill -9, reloads, and stops in order by its client"""
     with serving(root) as service:
         want("logtimezone = UTC" + OFFSET in root.read("/var/lib/fail2ban/zone.local"), "the zone")
         want("boot = " in root.read("/var/lib/fail2ban/boot.local"), "the machine's start")
@@ -144,9 +158,7 @@ def bans_by_three_filters(root):
             service.banned(jail, f"2001:db8::{number}", f"198.51.100.{number}")
         bans = [line for line in service.said() if " Ban " in line]
         same(len(bans), 2 * len(JAILS), f"bans, each said once: {bans}")
-        if not service.answers():
-            service.kill()
-            return "without status, reload and stop by the client: this server does not listen to clients yet"
+        asks_of_the_jails(service)
         stops_in_order(service)
     return "with status, reload and stop by the client"
 
@@ -157,17 +169,29 @@ def stops_in_order(service):
     want("Banned IP list:\t2001:db8::1 198.51.100.1\n" in service.ask("status", "sshd"), service.ask("status", "sshd"))
     same(service.ask("set", "sshd", "unbanip", "198.51.100.1"), "1\n", "unbanip")
     service.says("NOTICE [sshd] Unban 198.51.100.1")
+    service.root.write("/run/let-stop", "")
     reloads(service)
-    # The command waits until the server has ended, which is seen here meanwhile.
+    os.remove(service.root.at("/run/let-stop"))
+    # The command waits until the server has ended, which is not before its actions are down.
     [(words, may_fail)] = service.commands("ExecStop")
     want(may_fail, "where the stop fails a signal has to follow")
     words = [str(service.server.pid) if word == "$MAINPID" else word for word in words]
     stop = service.root.start(*words, environment=service.environment, said="/stop", errors="/errors")
+    service.says("INFO Stopping")
+    time.sleep(1)
+    same((service.server.poll(), stop.poll()), (None, None), "status of the server, and of its stop, while an action stops")
+    service.root.write("/run/let-stop", "")
     wait_for(lambda: service.server.poll() is not None, "the server's end", lambda: len(service.said()))
     wait_for(lambda: stop.poll() is not None, "the end of the stop")
     same((service.server.returncode, stop.returncode), (0, 0), "status of the server, and of its stop")
     for jail in JAILS:
         same(service.in_file(f"/run/fail2ban/{jail}.banned"), None, f"what the action's stop leaves of {jail}")
+
+
+def asks_of_the_jails(service):
+    """What ships bans as README's first minutes say: five failures in ten minutes keep out for ten minutes."""
+    for jail in JAILS:
+        same({item: service.ask("get", jail, item) for item in LIMITS}, LIMITS, f"what {jail} has")
 
 
 def reloads(service):
@@ -216,6 +240,17 @@ def zone_is_looked_at(root):
     want(root.read("/var/lib/fail2ban/zone.local").count("logtimezone = UTC+0200\n") == 1, "the zone that a reload by hand takes")
 
 
+def scripts_by_hand(root):
+    """boot-id and zone, run by hand before a start, write where the links of the configuration lead"""
+    root.furnish()
+    root.make("install", "PREFIX=/usr")
+    for name, path in [("boot-id", "/etc/fail2ban/action.d/boot.local"), ("zone", "/etc/fail2ban/zone.local")]:
+        root.run(f"/usr/lib/fail2ban/{name}", environment={"PATH": PATH})
+        said, _ = root.run("/bin/cat", path, environment={"PATH": PATH})
+        want(said.startswith(f"# Written by {name} "), f"{path}: {said}")
+        want(os.path.islink(root.at(path)), f"{path} is a link no more")
+
+
 def stop_without_server(root):
     """the service's stop is done where the server has ended already, and says so where nobody answers"""
     root.furnish()
@@ -235,4 +270,4 @@ def time_to_stop_is_the_sum(_root):
     want(("TimeoutStopSec", str(sum(parts))) in items(text), text)
 
 
-CHECKS = [bans_by_three_filters, zone_is_looked_at, stop_without_server, time_to_stop_is_the_sum]
+CHECKS = [bans_by_three_filters, zone_is_looked_at, scripts_by_hand, stop_without_server, time_to_stop_is_the_sum]

@@ -3,8 +3,8 @@
     python3 tests/real SERVER CLIENT TESTER         makes all checks; TESTER may be empty
     python3 tests/real SERVER CLIENT TESTER WORD    makes those whose sentence has the word
 
-A line for each check, and a last one with how many passed and failed. Each check has a folder of its own, and waits for what has to come
-and not for seconds, so a busy machine makes it slow and not wrong.
+A line for each check, one with how many were skipped for each reason, and a last one with how many passed and failed. Each check has a folder
+of its own, and waits for what has to come and not for seconds, so a busy machine makes it slow and not wrong.
 """
 
 import os
@@ -48,7 +48,7 @@ CHECKS = [
 def made(programs, check):
     """Makes a check in a folder of its own."""
     with tempfile.TemporaryDirectory(prefix="fail2ban-real-") as place:
-        check(Room(*programs, place))
+        return check(Room(*programs, place))
 
 
 def main(programs, word):

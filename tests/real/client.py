@@ -3,13 +3,14 @@
 import contextlib
 import fcntl
 import os
+import re
 import resource
 import socket
 import subprocess
 import threading
 import time
 
-from room import PATIENCE, as_nobody, same, wait_for, want, write
+from room import LONG_PATIENCE, PATIENCE, as_nobody, has_checks, may_trace, same, wait_for, want, write
 
 PING = b"\0\0\0\6\0\4ping"
 PONG = b"\0\0\0\5\0pong"
@@ -18,6 +19,9 @@ REFUSED = b"\0\0\0\x10\1Invalid command"
 # For so many seconds a server may say nothing, and one that has no room may stay so.
 SILENCE = 30
 NO_ROOM = 60
+
+# The most bytes of a reply's text.
+LONGEST = 67_108_864
 
 # A pipe holds so many bytes at least.
 PAGE = 4_096
@@ -32,6 +36,14 @@ def ends(room, status, said, *words, **how):
     """Runs the client to its end, and wants this status and this text, and no errors."""
     saw, text, errors = room.run(*words, program=room.client, **how)
     same((saw, text if said is not None else None, errors), (status, said, ""), f"{words}"[:200])
+
+
+def naps():
+    """How much longer than they should a hundred pauses of the length that the client makes take here now, as a factor."""
+    begin = time.monotonic()
+    for _ in range(100):
+        time.sleep(0.01)
+    return time.monotonic() - begin
 
 
 class Serving:
@@ -103,6 +115,13 @@ def help_is_asked_for(room):
         same((status, said[:16], said.count("\n"), errors), (0, "fail2ban-client ", 1, ""), word)
 
 
+def versions_are_one(room):
+    """the programs have one version"""
+    said = [room.run("--version", program=program)[1].split() for program in [room.program, room.client, room.tester] if program]
+    same([words[0] for words in said], ["fail2ban-server", "fail2ban-client", "fail2ban-regex"][: len(said)], "names")
+    same({tuple(words[1:]) for words in said}, {(said[0][1],)}, "versions")
+
+
 def words_are_wrong(room):
     """the client asks no server where its words ask for nothing, are too long or are no UTF-8: status 2"""
     with served(room, PONG) as serving:
@@ -117,6 +136,8 @@ def words_are_wrong(room):
             ["--str2sec", "5q"],
             ["--str2sec", "1h", "30m"],
             [*at, b"\xff"],
+            ["--help", b"\xff"],
+            ["-V", "more", b"\xff"],
             [*at, "x" * 65_535],
             [*at, "x" * 32_767, "x" * 32_766],
         ]:
@@ -176,10 +197,16 @@ def a_quiet_client_prints_refusals_alone(room):
 
 
 def reply_is_long(room):
-    """the client prints a reply of some millions of bytes whole"""
+    """the client prints a reply of some millions of bytes whole, and one of the most that there may be (but one with checks)"""
     text = b"".join(b"192.0.2.%d " % (number % 256) for number in range(300_000))
     with served(room, reply(text)) as serving:
         ends(room, 0, text.decode() + "\n", "-s", serving.path, "banned")
+    if has_checks(room.client):
+        return
+    with served(room, reply(b"x" * LONGEST)) as serving, open(room.path("said"), "wb") as said:
+        ends(room, 0, "", "-s", serving.path, "banned", stdout=said)
+    with open(room.path("said"), "rb") as said:
+        want(said.read() == b"x" * LONGEST + b"\n", "the longest reply was not printed as it is")
 
 
 def reply_is_cut(room):
@@ -217,7 +244,7 @@ def nobody_is_there(room):
 
 
 def server_is_silent(room):
-    """a server that says nothing for half a minute is status 8, and not before"""
+    """a server that says nothing for half a minute is status 8, not before and not much later"""
 
     def waits(serving, conn):
         serving.read(conn)
@@ -227,7 +254,8 @@ def server_is_silent(room):
     with met(room, waits) as serving:
         begin = time.monotonic()
         ends(room, 8, "", "-s", serving.path, "ping")
-        want(time.monotonic() - begin >= SILENCE - 1, "half a minute is not over")
+        took = time.monotonic() - begin
+        want(SILENCE - 1 <= took <= SILENCE + 15, f"ended after {took:.1f} s")
         same(serving.asked, [PING], "requests")
 
 
@@ -243,7 +271,7 @@ def server_is_slow(room):
 
 
 def server_has_no_room(room):
-    """a server that takes no client is waited for a minute, and then it is status 8"""
+    """a server that takes no client is waited for a minute, and then, not much later, it is status 8"""
     serving = Serving(room, None, backlog=0)
     waiting = []
     try:
@@ -253,9 +281,12 @@ def server_has_no_room(room):
                 waiting.append(socket.socket(socket.AF_UNIX))
                 waiting[-1].setblocking(False)
                 waiting[-1].connect(serving.path)
-        begin = time.monotonic()
+        slower, begin = naps(), time.monotonic()
         ends(room, 8, "", "-s", serving.path, "ping")
-        want(time.monotonic() - begin >= NO_ROOM - 1, "a minute is not over")
+        took = time.monotonic() - begin
+        # A busy machine wakes it late, a hundred times a second.
+        slower = max(slower, naps())
+        want(NO_ROOM - 1 <= took <= NO_ROOM * slower + 30, f"ended after {took:.1f} s, where pauses take {slower:.1f} times as long as they should")
     finally:
         for each in [*waiting, serving.listener]:
             each.close()
@@ -306,12 +337,32 @@ def output_would_block(room):
             process.wait()
 
 
+def output_blocks_for_long(room):
+    """where standard output would block for a minute the client ends with status 9, and not before"""
+    no_pause = ["-e", "trace=nanosleep,clock_nanosleep", "-e", "inject=nanosleep,clock_nanosleep:retval=0"]
+    may_trace(*no_pause)
+    trace = room.path("trace")
+    with served(room, reply(b"x" * 300_000)) as serving:
+        read_end, write_end = os.pipe()
+        os.set_blocking(write_end, False)
+        try:
+            # Its pauses are not made, so that a minute of them is soon over.
+            words = ["strace", "-f", "-o", trace, *no_pause, room.client, "-s", serving.path, "status"]
+            ended = subprocess.run(words, stdin=subprocess.DEVNULL, stdout=write_end, timeout=LONG_PATIENCE, check=False)
+        finally:
+            os.close(read_end)
+            os.close(write_end)
+    same(ended.returncode, 9, "status")
+    with open(trace, encoding="utf-8", errors="replace") as lines:
+        pauses = [re.search(r"tv_sec=(\d+), tv_nsec=(\d+)", line) for line in lines]
+    asked = sum(int(pause[1]) + int(pause[2]) / 1e9 for pause in pauses if pause)
+    want(59 <= asked <= 61, f"pauses of {asked:.2f} s were asked for")
+
+
 def memory_runs_out(room):
     """a client that finds no memory for a reply ends with status 71, and prints nothing"""
-    # The program with checks asks for far more room than it uses, so there the size of one piece is limited.
-    with open(room.client, "rb") as file:
-        is_checked = b"AddressSanitizer" in file.read()
-    if is_checked:
+    # Of a program with checks the size of one piece is limited.
+    if has_checks(room.client):
         limits = {"ASAN_OPTIONS": "allocator_may_return_null=1:max_allocation_size_mb=4"}
         how = {"env": {**os.environ, **limits}}
     else:
@@ -345,13 +396,17 @@ def all_of(controller):
 
 def who_sits_at_a_terminal_is_helped(room):
     """where standard error is a terminal, the client has a sentence of help there for each end at which it prints nothing"""
-    with served(room, b"\0\0\0\0") as bad:
-        for words, wanted in [
-            (["-s"], "fail2ban-client --help lists the words\r\n"),
-            (["-s", room.path("missing"), "ping"], "no server answers at this socket: "),
-            (["-s", bad.path, "ping"], "what answers at this socket is no fail2ban-server\r\n"),
-        ]:
-            same(helped(room, words)[: len(wanted)], wanted, words)
+    for words, wanted in [
+        (["-s"], "fail2ban-client --help lists the words\r\n"),
+        (["-s", room.path("missing"), "ping"], "no server answers at this socket: is one running there, and may you open it?\r\n"),
+    ]:
+        same(helped(room, words), wanted, words)
+    for said, wanted in [
+        (b"\0\0\0\0", "what answers at this socket is no fail2ban-server\r\n"),
+        (PONG[:3], "the server ended before its reply was whole\r\n"),
+    ]:
+        with served(room, said) as serving:
+            same(helped(room, ["-s", serving.path, "ping"]), wanted, said)
 
 
 def the_nearest_word_is_named(room):
@@ -379,11 +434,46 @@ def the_nearest_word_is_named(room):
         same(helped(room, ["-s", serving.path, "pong"]), "", "accepted")
 
 
+def listed(room):
+    """The commands that --help lists, each as the words that name it, with a jail's name in the place of JAIL."""
+    _status, said, _errors = room.run("--help", program=room.client)
+    commands = []
+    for line in said.split("\nCommands:\n")[1].split("\n\n")[0].splitlines():
+        words = re.split(r"\s{2,}", line.strip())[0].split()
+        if line.startswith("   "):
+            # What the jail has, which is told of the lines above.
+            continue
+        if words[:2] in (["set", "JAIL"], ["get", "JAIL"]):
+            commands += [[words[0], "web", item] for item in words[2].split("|")]
+        else:
+            commands.append(words[:1])
+    return [words for at, words in enumerate(commands) if words not in commands[:at]]
+
+
+def listed_words_are_commands(room):
+    """each command that --help lists is one for the server, and where it is refused no other word is named as near"""
+    commands = listed(room)
+    names = {words[0] for words in commands}
+    same(names, {"ping", "version", "status", "banned", "unban", "reload", "stop", "set", "get"}, "commands that are listed")
+    same([len([1 for words in commands if words[0] == name]) for name in ["set", "get"]], [9, 12], "words behind set and get")
+    with served(room, REFUSED) as serving:
+        for words in commands:
+            same(helped(room, ["-s", serving.path, *words]), "", words)
+    with room.server() as server:
+        at = room.path("run/fail2ban.sock")
+        # The stop comes last.
+        for words in sorted(commands, key=lambda words: words == ["stop"]):
+            _status, said, _errors = room.run("-s", at, *words, program=room.client)
+            want(said not in ("", "Invalid command\n"), f"{words}: {said!r}")
+        server.wait_ended(0)
+
+
 CHECKS = [
     server_has_no_room,
     server_is_silent,
     server_is_slow,
     help_is_asked_for,
+    versions_are_one,
     words_are_wrong,
     seconds_are_printed,
     reply_comes_in_pieces,
@@ -396,7 +486,9 @@ CHECKS = [
     nobody_is_there,
     output_is_none,
     output_would_block,
+    output_blocks_for_long,
     memory_runs_out,
     who_sits_at_a_terminal_is_helped,
     the_nearest_word_is_named,
+    listed_words_are_commands,
 ]

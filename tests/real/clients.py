@@ -2,6 +2,7 @@
 
 import contextlib
 import os
+import select
 import socket
 import stat
 import time
@@ -257,18 +258,40 @@ def seventeen_clients_come(room):
 
 def a_client_is_silent(room):
     """a client that is silent for half a minute is let go, in the middle of a request too, and a slow one is not"""
-    with room.server(), connected(room, 3) as (silent, half, slow):
+    with room.server(), connected(room, 4) as (silent, two, half, slow):
         begin = time.monotonic()
+        two.sendall(PING[:2])
         half.sendall(PING[:7])
         for byte in PING[:-1]:
             slow.sendall(bytes([byte]))
             time.sleep(SILENCE / 6)
-        for conn in [silent, half]:
+        for conn in [silent, two, half]:
             wait_closed(conn)
         # The server's clock has whole seconds.
         want(time.monotonic() - begin >= SILENCE - 1, "half a minute is not over")
         slow.sendall(PING[-1:])
         same(hear(slow), (True, "pong"), "reply")
+
+
+def a_reply_is_never_read(room):
+    """a client that asks and never reads its replies is let go half a minute after it took the last byte, and keeps nobody waiting"""
+    with room.server() as server, connected(room, 2) as (deaf, other):
+        other.sendall(PING)
+        same(hear(other), (True, "pong"), "reply")
+        files, begin = server.files(), time.monotonic()
+        deaf.settimeout(0.5)
+        with contextlib.suppress(TimeoutError):
+            while True:
+                deaf.sendall(request("status", "--all") * 100)
+                begin = time.monotonic()
+        ends = select.poll()
+        ends.register(deaf, select.POLLHUP)
+        while not ends.poll(SILENCE / 6 * 1_000):
+            want(time.monotonic() < begin + SILENCE + PATIENCE, "the client was not let go")
+            other.sendall(PING)
+            same(hear(other), (True, "pong"), "reply")
+        want(time.monotonic() - begin >= SILENCE - 2, "half a minute is not over")
+        wait_for(lambda: server.files() == files - 1, f"{files - 1} open files", server.files)
 
 
 def clients_come_and_go(room):
@@ -277,9 +300,10 @@ def clients_come_and_go(room):
         ask(room, 0, "Server replied: pong", "ping")
         server.turn()
         before = server.files()
-        for number in range(50):
+        # A thousand, one after the other: each leaves in the midst of a request, or with a reply unread, which is a reset to the server.
+        for number in range(1_000):
             with connected(room) as (conn,):
-                conn.sendall(request("status", "web")[: number % 16])
+                conn.sendall(PING if number % 2 else request("status", "web")[: number % 16])
         with connected(room) as (conn,):
             conn.sendall(PING)
             same(hear(conn), (True, "pong"), "reply")
@@ -378,6 +402,7 @@ def a_server_is_killed_with_a_client(room):
 
 CHECKS = [
     a_client_is_silent,
+    a_reply_is_never_read,
     a_ping_and_a_status_are_replied,
     what_stands_is_told,
     an_address_is_banned_by_a_command,

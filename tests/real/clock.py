@@ -2,11 +2,10 @@
 
 import os
 import re
-import shutil
 import subprocess
 import time
 
-from room import LONG_PATIENCE, Skipped, among_others, failures, same, want, write
+from room import LONG_PATIENCE, among_others, failures, may_trace, same, want, write
 
 
 def moment_is_that_of_the_machine(room):
@@ -74,8 +73,7 @@ def pauses_are_made_again(room):
 
 def traced(room, *more, turns):
     """The calls of a server that makes so many turns, each as strace shows it."""
-    if not shutil.which("strace") or subprocess.run(["strace", "true"], stderr=subprocess.DEVNULL, check=False).returncode:
-        raise Skipped("strace is not there, or may not look")
+    may_trace()
     trace = room.path("trace")
     words = ["strace", "-f", "-o", trace, *more, *room.words("--turns", str(turns))]
     with open(room.path("said"), "wb") as said:

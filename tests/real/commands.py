@@ -3,13 +3,18 @@
 import contextlib
 import os
 import resource
+import shutil
 import signal
+import socket
 import subprocess
 import time
 
 from room import Skipped, failures, same, wait_for, want, write
 
 ADDRESS = "192.0.2.7"
+
+# The most bytes of a command that Linux starts: with the NUL behind them 32 pages of 4 KiB.
+LONGEST_COMMAND = 131_071
 
 # A command that never ends, and notes the number of the process that its shell waits for.
 ENDLESS = "sleep 1000 & echo $! > {pid}; wait"
@@ -208,16 +213,22 @@ def a_command_knows_little(room):
     """a command has PATH and LANG of the environment, reads nothing, and has no other file of the server"""
     act(room, actionstart="env > {done}; readlink /proc/$$/fd/0 >> {done}; cat >> {done}", actionban="exec ls /proc/self/fd > {pid}")
     environment = {"PATH": "/usr/bin:/bin", "LANG": "C.UTF-8", "SECRET": "yes", "HOME": "/root"}
-    with room.server(env=environment):
+    # Neither what the server reads nor a client of it is a command's.
+    write(room.path("input"), "secret\n")
+    with open(room.path("input"), "rb") as read, room.server(env=environment, stdin=read), socket.socket(socket.AF_UNIX) as client:
+        client.connect(room.path("run/fail2ban.sock"))
+        client.sendall(b"\0\0\0\6\0\4ping")
+        same(client.recv(9), b"\0\0\0\5\0pong", "reply")
         ban(room)
         wait_for(lambda: content(room, "pid").endswith("3\n"), "the files of a command", lambda: content(room, "pid"))
         # The last one is the directory that is listed.
         same(content(room, "pid").split(), ["0", "1", "2", "3"], "files")
-    *lines, reads = content(room, "done").splitlines()
-    variables = dict(line.split("=", 1) for line in lines)
+    lines = content(room, "done").splitlines()
+    variables = dict(line.split("=", 1) for line in lines if "=" in line)
+    reads = [line for line in lines if "=" not in line]
     for of_the_shell in ["PWD", "OLDPWD", "SHLVL", "_"]:
         variables.pop(of_the_shell, None)
-    same((variables, reads), ({"PATH": "/usr/bin:/bin", "LANG": "C.UTF-8"}, "/dev/null"), "environment, and input")
+    same((variables, reads), ({"PATH": "/usr/bin:/bin", "LANG": "C.UTF-8"}, ["/dev/null"]), "environment, and input")
 
 
 def a_command_writes(room):
@@ -280,6 +291,20 @@ def commands_end_with_a_fault(room):
         server.wait()
 
 
+def commands_end_with_a_full_journal(room):
+    """a server whose journal gets full ends the commands that still run"""
+    act(room, actionstart=ENDLESS)
+    _status, said, _errors = room.run("--conf", room.conf, "--journal-limit", "1")
+    need = int(said.split()[-3])
+    with room.server("--journal-limit", str(need + 400)) as server:
+        process = noted_process(room)
+        want(lives(process), "the command has ended already")
+        # So many failures have no room.
+        write(room.log, failures(*[f"198.51.100.{number}" for number in range(100)]), "a")
+        server.wait_ended(7)
+        wait_for(lambda: not lives(process), "the end of the process")
+
+
 def commands_are_told_apart(room):
     """of ten commands that run at once each is told with its own status, in whatever order they end"""
     # The last ones end first.
@@ -329,6 +354,28 @@ def no_process_is_to_be_had(room):
         server.wait_said("ERROR [web/note] ban given up")
 
 
+def no_process_is_to_be_had_for_an_end(room):
+    """where no process is to be had when a command takes too long, its shell is ended all the same, and what it started goes on"""
+    act(room, actionban="sleep 1000 & echo $$ $! > {pid}; wait", timeout="2")
+    if not shutil.which("prlimit"):
+        raise Skipped("there is no prlimit")
+    os.chmod(room.place, 0o777)
+    how = room.as_nobody()
+    with room.server(**how) as server:
+        ban(room)
+        wait_for(lambda: content(room, "pid").endswith("\n"), "the numbers of the processes")
+        shell, other = map(int, content(room, "pid").split())
+        try:
+            subprocess.run(["prlimit", f"--pid={server.pid}", "--nproc=0:0"], check=True, **how)
+            server.wait_said("ERROR [web/note] ban failed: timed out")
+            wait_for(lambda: not lives(shell), "the end of the shell")
+            want(lives(other), "what the shell started has ended too: a process was to be had")
+            server.wait_said("ERROR [web/note] ban failed: not started")
+        finally:
+            with contextlib.suppress(ProcessLookupError):
+                os.kill(other, signal.SIGKILL)
+
+
 def a_shell_is_not_there(room):
     """where there is no sh a command is not started, and the server goes on"""
     act(room, actionban="true")
@@ -358,20 +405,39 @@ def a_command_signals_its_group(room):
 
 
 def a_command_is_too_long(room):
-    """a command of 64 KiB is run, and one that is longer than the system takes is not started"""
-    act(room, actionstart="echo " + "a" * 65_536 + " >> {done}", actionban="echo " + "a" * 140_000 + " >> {done}")
+    """a command of 64 KiB is run, and so is one of the most bytes that the system takes, and one of a byte more is not started"""
+    most = LONGEST_COMMAND - len(room.path("done"))
+    act(
+        room,
+        actionstart="echo " + "a" * 65_536 + " >> {done}",
+        actionban="echo >> {done} " + "b" * (most - 9),
+        actionunban="echo >> {done} " + "c" * (most - 8),
+    )
     with room.server() as server:
-        wait_done(room, ["a" * 65_536])
         ban(room)
-        server.wait_said("ERROR [web/note] ban failed: not started")
+        wait_done(room, ["a" * 65_536, "b" * (most - 9)])
+        _status, said, _errors = room.run("-s", room.path("run/fail2ban.sock"), "unban", ADDRESS, program=room.client)
+        same(said, "1\n", "unban")
+        server.wait_said("ERROR [web/note] unban failed: not started")
+        server.turn()
+        want("c" not in content(room, "done"), "a command that is too long was run")
 
 
-def shells(count):
-    """How many seconds so many shells take here now, one behind the other."""
+def shells_and_appends(room, count):
+    """How many seconds so many shells take here now, one behind the other, each with what is written to a file and synced for its end."""
     begin = time.monotonic()
-    for _ in range(count):
-        subprocess.run(["sh", "-c", "true"], check=True)
+    with open(room.path("synced"), "ab", buffering=0) as file:
+        for _ in range(count):
+            subprocess.run(["sh", "-c", "true"], check=True)
+            append(file)
     return time.monotonic() - begin
+
+
+def append(file):
+    """Writes twice to a file, with a sync behind each."""
+    for _ in range(2):
+        file.write(b"x" * 100)
+        os.fdatasync(file.fileno())
 
 
 def a_lane_does_not_wait(room):
@@ -380,15 +446,16 @@ def a_lane_does_not_wait(room):
     addresses = [f"198.51.100.{number}" for number in range(100)]
     with room.server() as server:
         server.turn()
-        alone = shells(100)
+        alone = shells_and_appends(room, 50)
         begin = time.monotonic()
         write(room.log, "".join(failures(*[address] * 3) for address in addresses), "a")
         wait_done(room, addresses)
         took = time.monotonic() - begin
-        alone = max(alone, shells(100))
-        # A hundred pauses are 25 s. On a busy machine shells are slow by themselves.
-        want(took < 15 + 4 * alone, f"took {took:.1f} s, and a hundred shells {alone:.1f} s")
+        alone += shells_and_appends(room, 50)
+        # A hundred pauses are 25 s. On a busy machine shells, and a disk, are slow by themselves.
+        want(took < 5 + 6 * alone, f"took {took:.1f} s, and a hundred shells with their syncs {alone:.1f} s")
         server.turn()
+        return f"{took:.1f} s, and a hundred shells with their syncs {alone:.1f} s"
 
 
 def reads(server):
@@ -440,9 +507,7 @@ def step_and_append(room):
     begin = time.monotonic()
     time.sleep(0.025)
     with open(room.path("synced"), "ab", buffering=0) as file:
-        for _ in range(2):
-            file.write(b"x" * 100)
-            os.fdatasync(file.fileno())
+        append(file)
     return time.monotonic() - begin
 
 
@@ -462,10 +527,12 @@ CHECKS = [
     a_server_without_errors,
     commands_end_with_the_server,
     commands_end_with_a_fault,
+    commands_end_with_a_full_journal,
     commands_are_told_apart,
     sixteen_commands_run,
     many_lanes_start,
     no_process_is_to_be_had,
+    no_process_is_to_be_had_for_an_end,
     a_shell_is_not_there,
     a_command_signals_its_group,
     a_command_is_too_long,

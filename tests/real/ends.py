@@ -5,7 +5,7 @@ import resource
 import signal
 import subprocess
 
-from room import PATIENCE, as_nobody, failures, same, write
+from room import PATIENCE, as_nobody, failures, has_checks, same, write
 
 USAGE = ["ERROR usage"]
 
@@ -105,10 +105,8 @@ def pattern_is_refused(room):
 
 def memory_runs_out(room):
     """a server that finds no memory ends with status 71, and says nothing"""
-    # The program with checks asks for far more room than it uses, so there the size of one piece is limited.
-    with open(room.program, "rb") as file:
-        is_checked = b"AddressSanitizer" in file.read()
-    if is_checked:
+    # Of a program with checks the size of one piece is limited.
+    if has_checks(room.program):
         limits = {"ASAN_OPTIONS": "allocator_may_return_null=1:max_allocation_size_mb=4"}
         how = {"env": {**os.environ, **limits}}
     else:

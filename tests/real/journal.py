@@ -4,6 +4,7 @@ What slots hold is told by slots.py, which knows the page of the docs alone.
 """
 
 import contextlib
+import fcntl
 import os
 import random
 import re
@@ -16,7 +17,7 @@ import time
 
 import slots
 from commands import ADDRESS, ENDLESS, act, ban, children, content, lives, noted_process, wait_done
-from room import NOBODY, SERVER, Skipped, failures, same, wait_for, want, write
+from room import NOBODY, SERVER, Server, Skipped, failures, may_trace, same, wait_for, want, write
 
 READY = "INFO Server ready"
 BAN = f"NOTICE [web] Ban {ADDRESS}"
@@ -181,8 +182,7 @@ def a_second_server_is_refused(room):
 
 def a_second_server_reads_nothing(room):
     """a second server opens neither slot, and none is opened before the lock is had"""
-    if not may_trace():
-        raise Skipped("strace is not there, or may not look")
+    may_trace()
 
     def calls(status):
         trace = room.path("trace")
@@ -201,6 +201,23 @@ def a_second_server_reads_nothing(room):
     alone = calls(0)
     locked = next(at for at, line in enumerate(alone) if line.startswith("flock(") and line.rstrip().endswith("= 0"))
     want(slot_calls(alone) and min(slot_calls(alone)) > locked, "a slot was opened before the lock was had")
+
+
+def a_lock_is_waited_for(room):
+    """where something has the lock for a moment, as a command that is just started may, a server waits, and starts once it is let go"""
+    os.mkdir(room.path("run"))
+    lock = room.path("run/journal.lock")
+    with open(lock, "wb") as held:
+        fcntl.flock(held, fcntl.LOCK_EX)
+        server = Server(room, [], {})
+        try:
+            wait_for(lambda: server.process.poll() is not None or lock in server.paths(), "the lock's file to be opened")
+            time.sleep(0.3)
+            same((server.text(), server.process.poll()), ("", None), "said, and the end, while something else has the lock")
+            fcntl.flock(held, fcntl.LOCK_UN)
+            server.wait_said(READY)
+        finally:
+            server.end()
 
 
 def a_lock_goes_with_its_server(room):
@@ -370,9 +387,8 @@ def another_configuration_lets_in(room):
 
 def lines_come_behind_their_input(room):
     """before lines are said and a command is started the input is written, synced, closed, and synced again, and nothing else is between"""
-    if not may_trace():
-        raise Skipped("strace is not there, or may not look")
-    act(room, actionstart="true", actionban="true")
+    may_trace()
+    act(room, bantime=6_000, actionstart="true", actionban="true")
     write(room.log, failures(*[ADDRESS] * 3))
     trace = room.path("trace")
     words = ["strace", "-f", "-e", "trace=write,fdatasync,fsync,execve", "-o", trace, *room.words("--turns", "20")]
@@ -390,9 +406,7 @@ def lines_come_behind_their_input(room):
 
 def a_stop_at_each_call(room):
     """a server that is killed at any of its calls on the disk, or whose sync fails there, leaves all that it said, and at most one thing more"""
-    probe = ["strace", "-o", "/dev/null", "-e", "trace=write", "-e", "inject=write:error=EIO:when=1", "true"]
-    if not may_trace() or subprocess.run(probe, capture_output=True, check=False).returncode:
-        raise Skipped("strace is not there, or may not make calls fail")
+    may_trace("-e", "trace=write", "-e", "inject=write:error=EIO:when=1")
     # The slot that counts may not grow, and the other one is open: so the first input changes slots by all its calls, and two are appended.
     first = slots.slot(slots.FIRST_VIEW, generation=5, version=1)
     second = slots.slot(slots.FIRST_VIEW, b"\x64\x00\x00", generation=4)
@@ -403,7 +417,8 @@ def a_stop_at_each_call(room):
     # How many lines were told of so many inputs.
     told = [0, 1, 5, 6]
     words = room.words("--turns", "2")
-    for call, fault, times in [("fdatasync", "error=EIO", 9), ("write", "signal=KILL", 12)]:
+    # The start syncs the directory and both slots; then come five syncs of a change with its input, and two of each further input.
+    for call, fault, times in [("fsync", "error=EIO", 1), ("fdatasync", "error=EIO", 2 + 5 + 2 + 2), ("write", "signal=KILL", 12)]:
         for number in range(1, times + 1):
             place(room, first, second)
             how = ["strace", "-f", "-o", "/dev/null", "-e", f"trace={call}", "-e", f"inject={call}:{fault}:when={number}"]
@@ -424,8 +439,24 @@ def a_stop_at_each_call(room):
             same((status, again), (0, [READY, *lines[max(1, told[kept]) :]]), f"{what}: the next server, over {kept} inputs")
 
 
-def may_trace():
-    return shutil.which("strace") and not subprocess.run(["strace", "true"], stderr=subprocess.DEVNULL, check=False).returncode
+def a_sync_is_of_what_was_written(room):
+    """at the start both slots are synced, and each write to a slot has a sync of that very file behind it, also where slots are changed"""
+    may_trace()
+    start_quickly(room)
+    # The one of version 1 counts and may not grow, so the first input changes to the other one.
+    old, other = slots.slot(slots.FIRST_VIEW, generation=5, version=1), slots.slot(slots.FIRST_VIEW, generation=4)
+    trace = room.path("trace")
+    words = ["strace", "-f", "-y", "-e", "trace=write,fdatasync", "-o", trace, *room.words("--turns", "2")]
+    for changed, pair in [("1", (old, other)), ("0", (other, old))]:
+        place(room, *pair)
+        write(room.log, failures(ADDRESS))
+        subprocess.run(words, stdin=subprocess.DEVNULL, stdout=subprocess.DEVNULL, check=True)
+        with open(trace, encoding="utf-8", errors="replace") as lines:
+            calls = [re.findall(r"(write|fdatasync)\(\d+<[^>]*/journal\.(\d)>", line) for line in lines]
+        saw = [(call, slot) for found_in in calls for call, slot in found_in]
+        # The change has three writes, and the configuration and the failure have two each.
+        behind_the_start = [("write", changed), ("fdatasync", changed)] * 7
+        same(saw, [("fdatasync", "0"), ("fdatasync", "1"), *behind_the_start], f"calls of a change to slot {changed}")
 
 
 def kind_of(call):
@@ -496,6 +527,39 @@ def version_1_is_read(room):
     first, second = both(room)
     held = slots.journal(first, second)
     same((first, held.generation, held.version, held.view["now"]), (old, 6, 2, 100), "slots")
+
+
+def failures_of_version_1_count(room):
+    """failures that a journal of version 1 has, one in its view and one in an input, count on: a third one bans"""
+    start_quickly(room)
+    # Slot 0 is so long that the second failure does not fit behind it.
+    place(room, slots.slot(slots.FIRST_VIEW, *[b"\x64\x00\x00"] * 300), None)
+    write(room.log, failures(ADDRESS))
+    room.ends(0, [READY, found()], "--conf", room.conf, "--turns", "2")
+    write(room.log, failures(ADDRESS), "a")
+    room.ends(0, [READY, found()], "--conf", room.conf, "--turns", "2", "--journal-limit", str(len(both(room)[0]) + 10))
+    old = slots.in_version_1(both(room)[1])
+    held = slots.Slot(old)
+    web, in_input = held.view["jails"][0], held.inputs[0][3][3]
+    lines = [line for *_, line in [*web["failures"], *in_input]]
+    same((held.version, len(web["failures"]), lines), (1, 1, ["", ""]), "the journal of version 1")
+    place(room, None, old)
+    write(room.log, failures(ADDRESS), "a")
+    room.ends(0, [READY, found(), BAN], "--conf", room.conf, "--turns", "2")
+    same(slots.journal(*both(room)).version, 2, "version")
+
+
+def a_long_journal_is_read_in_pieces(room):
+    """a start over a journal of 12 MiB, that counts or does not, takes less than 9 MiB more than one over none"""
+    # Logs of long paths were read, of a jail that is not there.
+    long = slots.slot(slots.FIRST_VIEW, *[slots.read_input(100, 0, "none", "x" * 60_000, 0, b"", [])] * 210, generation=2)
+    took = []
+    for pair in [(None, None), (long, None), (long, slots.slot(slots.FIRST_VIEW, generation=3))]:
+        place(room, *pair)
+        with room.server(env={**os.environ, "ASAN_OPTIONS": "quarantine_size_mb=1"}) as server:
+            took.append(server.peak())
+    want(max(took) - took[0] < 9 << 20, f"peaks of {took} bytes, the first one over no journal and the others over {len(long)} bytes")
+    return f"{(max(took) - took[0]) >> 10} KiB more"
 
 
 def numbers_are_used_up(room):
@@ -679,16 +743,22 @@ def a_disk_gets_full(room):
     want(lasting > 0, "nothing was kept")
 
 
-def a_small_disk(room):
-    """on a small disk that gets full, and is made larger, the next server goes on from all that was said"""
-    mounted = room.path("small")
-    os.mkdir(mounted)
+def mounts(mounted, size):
+    """The words that start a program to which a small disk is mounted there."""
     user = [] if os.geteuid() == 0 else ["--map-root-user"]
-    makes = 'mount -t tmpfs -o size=16k none "$1" && mkdir "$1/run" && shift && exec "$@"'
+    makes = f'mount -t tmpfs -o size={size} none "$1" && mkdir "$1/run" && shift && exec "$@"'
     starter = ["unshare", *user, "--mount", "sh", "-c", makes, "sh", mounted]
     probed = subprocess.run([*starter, "true"], capture_output=True, check=False)
     if probed.returncode != 0:
         raise Skipped("no file system may be mounted here")
+    return starter
+
+
+def a_small_disk(room):
+    """on a small disk that gets full, and is made larger, the next server goes on from all that was said"""
+    mounted = room.path("small")
+    os.mkdir(mounted)
+    starter = mounts(mounted, "16k")
     write(room.path("conf/fail2ban.conf"), f"[Definition]\nsocket = {mounted}/run/fail2ban.sock\n")
     addresses = [f"198.51.{number // 250}.{number % 250 + 1}" for number in range(2_000)]
     # Some hundred failures a look, so that it takes some looks until the disk is full.
@@ -703,11 +773,28 @@ def a_small_disk(room):
     want(lines.index("status 5") > 100, "the disk was full before a failure was said")
 
 
+def a_disk_may_not_be_written(room):
+    """where the disk has become one that may only be read a start says so, status 5, and both slots stay as they are"""
+    mounted = room.path("small")
+    os.mkdir(mounted)
+    starter = mounts(mounted, "1m")
+    write(room.path("conf/fail2ban.conf"), f"[Definition]\nsocket = {mounted}/run/fail2ban.sock\n")
+    ends, remounts = '"$@"; echo "status $?"', 'mount -o remount,ro none "$0"'
+    twice = f'cd "$0/run"; {ends}; cat * >"$0/../before"; {remounts} && {ends}; cat * | cmp - "$0/../before"'
+    words = [*starter, "sh", "-c", twice, mounted, *room.words("--turns", "2")]
+    ended = subprocess.run(words, stdin=subprocess.DEVNULL, capture_output=True, check=False)
+    lines = [line if line.startswith("status") else line.split(" ", 1)[1] for line in ended.stdout.decode().splitlines()]
+    what = f"said, and whether the slots are the same, behind {ended.stderr.decode()[:500]!r}"
+    same((lines, ended.returncode), ([READY, "status 0", *DISK, "status 5"], 0), what)
+    want(os.path.getsize(room.path("before")) > 100, "nothing was written before")
+
+
 CHECKS = [
     files_are_the_owners_alone,
     a_directory_stays_as_it_is,
     a_second_server_is_refused,
     a_second_server_reads_nothing,
+    a_lock_is_waited_for,
     a_lock_goes_with_its_server,
     bans_go_on,
     a_ban_that_ended_meanwhile_is_lifted,
@@ -718,10 +805,13 @@ CHECKS = [
     another_configuration_lets_in,
     lines_come_behind_their_input,
     a_stop_at_each_call,
+    a_sync_is_of_what_was_written,
     a_journal_of_random_bytes,
     a_journal_is_cut_or_turned,
     two_slots_count,
     version_1_is_read,
+    failures_of_version_1_count,
+    a_long_journal_is_read_in_pieces,
     numbers_are_used_up,
     a_limit_of_one_byte,
     a_full_journal,
@@ -730,4 +820,5 @@ CHECKS = [
     a_slot_is_another_kind,
     a_disk_gets_full,
     a_small_disk,
+    a_disk_may_not_be_written,
 ]

@@ -1,10 +1,22 @@
 """Real logs: rotated, cut, replaced, unreadable, and with bytes of any kind."""
 
 import os
+import shutil
+import time
 
 from room import among_others, failures, same, want, write
 
 READY = "INFO Server ready"
+
+# So long a line may be that is searched, and a pattern that finds one of any length.
+LONGEST = 65_536
+NAMED = "    ^ name N+ from <ADDR>$\n"
+
+# What has a program that is built with checks not keep what is freed.
+KEEPS_NOTHING = "quarantine_size_mb=0:thread_local_quarantine_size_kb=0"
+
+# The filters that ship.
+FILTERS = os.path.join(os.path.dirname(os.path.dirname(os.path.dirname(os.path.abspath(__file__)))), "conf/filter.d")
 
 
 def found(address):
@@ -52,6 +64,26 @@ def log_is_moved_away(room):
         server.turn()
         same(server.said(), wanted, "said")
         same(server.files(), files, "files that are open")
+
+
+def log_is_moved_away_often(room):
+    """of a log that is moved away five times a second while a hundred lines a second are written no line is found twice, and each in its order"""
+    written = 0
+    with room.server() as server:
+        server.turn()
+        begin = time.monotonic()
+        while written < 300:
+            if written % 20 == 0 and written:
+                os.rename(room.log, room.log + ".1")
+            write(room.log, failures(f"198.51.{written // 250}.{written % 250 + 1}"), "a")
+            written += 1
+            time.sleep(max(0.0, begin + written / 100 - time.monotonic()))
+        server.wait_said(found("198.51.1.50"))
+        said = [line for line in server.said() if "Found" in line]
+        wanted = [found(f"198.51.{number // 250}.{number % 250 + 1}") for number in range(300)]
+        places = [wanted.index(line) for line in said]
+        want(all(one < next_one for one, next_one in zip(places, places[1:])), f"found in this order: {places}")
+        return f"{300 - len(said)} of 300 lines were lost, and {server.count(rotated(room))} of 14 rotations were seen"
 
 
 def log_is_cut(room):
@@ -210,15 +242,60 @@ def log_is_large(room):
         same(server.said(), [READY, found("192.0.2.7")], "said")
 
 
+def named(address, length, ending="\n"):
+    """A failure of an address with a name of any length, in so many bytes with the line's ending."""
+    front, end = failures("x").split(" ", 1)[0] + " name ", f" from {address}{ending}"
+    return front + "N" * (length - len(front) - len(end)) + end
+
+
 def line_is_long(room):
-    """a line of more than 65,536 bytes is missed, and the next one found"""
-    line = failures("192.0.2.1")
-    now = line.split(" ", 1)[0]
+    """a line of 65,536 bytes is searched, one of more is missed, and the next one found"""
+    room.configure(more=NAMED)
     with room.server() as server:
         server.turn()
-        write(room.log, now + " " * 65_537 + line[len(now) :] + failures("192.0.2.2"), "a")
+        for length in [LONGEST, LONGEST + 1, LONGEST + 2]:
+            write(room.log, named(f"192.0.2.{length - LONGEST}", length + 1), "a")
+        # With the CR that is dropped a line has as many bytes as it comes with.
+        write(room.log, named("192.0.2.3", LONGEST + 1, "\r\n") + named("192.0.2.4", LONGEST + 2, "\r\n") + failures("192.0.2.5"), "a")
+        server.wait_said(found("192.0.2.5"))
+        same(server.said(), [READY, *[found(f"192.0.2.{number}") for number in (0, 3, 5)]], "said")
+
+
+def line_has_no_end(room):
+    """a line of 8,000,000 bytes is one line that is missed, however it comes, and takes no more memory than another"""
+    room.configure(more=NAMED)
+    line = named("192.0.2.1", 8_000_001)
+    with room.server(env={**os.environ, "ASAN_OPTIONS": KEEPS_NOTHING}) as server:
+        write(room.log, named("192.0.2.2", LONGEST) + named("192.0.2.3", 4 * LONGEST), "a")
         server.wait_said(found("192.0.2.2"))
-        same(server.said(), [READY, found("192.0.2.2")], "said")
+        server.turn()
+        before = server.peak()
+        for piece in [line[:5_000_000], line[5_000_000:-1], "\n"]:
+            write(room.log, piece, "a")
+            server.turn()
+            same(server.said(), [READY, found("192.0.2.2")], "said")
+        write(room.log, failures("192.0.2.4"), "a")
+        server.wait_said(found("192.0.2.4"))
+        want(server.peak() - before < 1 << 20, f"bytes of memory: {server.peak()} at most, behind {before}")
+        same(server.said(), [READY, found("192.0.2.2"), found("192.0.2.4")], "said")
+
+
+def a_name_is_forged(room):
+    """who logs in by a name that looks as if another one had failed is banned himself, and nobody in his place"""
+    os.mkdir(room.path("conf/filter.d"))
+    for name in ["sshd.conf", "common.conf"]:
+        shutil.copy(os.path.join(FILTERS, name), room.path("conf/filter.d"))
+    room.configure(more=f"\n[sshd]\nenabled = true\nfilter = sshd\nlogpath = {room.path('auth.log')}\nmaxretry = 3\n")
+    front = time.strftime("%Y-%m-%dT%H:%M:%S+00:00 host sshd[811]: ", time.gmtime())
+    with room.server() as server:
+        for text in [
+            "Failed password for invalid user x from 198.51.100.1 port 22 ssh2 from 192.0.2.7 port 4242 ssh2",
+            "Failed password for 2020-01-01T00:00:00+00:00 x from 198.51.100.1 port 22 ssh2 from 192.0.2.7 port 4242 ssh2",
+            "Invalid user x from 198.51.100.1 port 22 from 192.0.2.7 port 4242",
+        ]:
+            write(room.path("auth.log"), front + text + "\n", "a")
+        server.wait_said("NOTICE [sshd] Ban 192.0.2.7")
+        same(server.said(), [READY, *["INFO [sshd] Found 192.0.2.7"] * 3, "NOTICE [sshd] Ban 192.0.2.7"], "said")
 
 
 def bytes_are_no_text(room):
@@ -245,6 +322,7 @@ def bans_begin_and_end(room):
 CHECKS = [
     line_becomes_whole,
     log_is_moved_away,
+    log_is_moved_away_often,
     log_is_cut,
     log_is_replaced,
     log_is_edited,
@@ -257,6 +335,8 @@ CHECKS = [
     long_log,
     log_is_large,
     line_is_long,
+    line_has_no_end,
+    a_name_is_forged,
     bytes_are_no_text,
     bans_begin_and_end,
 ]

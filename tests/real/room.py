@@ -2,6 +2,7 @@
 
 import contextlib
 import os
+import shutil
 import subprocess
 import sys
 import tempfile
@@ -75,6 +76,19 @@ def as_nobody():
     except OSError as why:
         raise Skipped("root may not start a program as another user here") from why
     return how
+
+
+def may_trace(*fault):
+    """Skips a check where strace may not look at what a program calls here, or may not make a call fail."""
+    words = ["strace", "-o", "/dev/null", *fault, "true"]
+    if not shutil.which("strace") or subprocess.run(words, capture_output=True, check=False).returncode != 0:
+        raise Skipped("strace is not there, or may not look" + (" and make calls fail" if fault else ""))
+
+
+def has_checks(program):
+    """Whether a program was built with checks while it runs: such a one asks for far more room than it uses, and takes long over many bytes."""
+    with open(program, "rb") as file:
+        return b"AddressSanitizer" in file.read()
 
 
 class Room:
@@ -209,6 +223,19 @@ class Server:
 
     def files(self):
         return len(os.listdir(f"/proc/{self.pid}/fd"))
+
+    def paths(self):
+        """Where the files are that it has open. One that goes meanwhile is none of them."""
+        of = f"/proc/{self.pid}/fd"
+        paths = []
+        with contextlib.suppress(OSError):
+            paths = [os.readlink(f"{of}/{number}") for number in os.listdir(of)]
+        return paths
+
+    def peak(self):
+        """The most bytes of memory that it has had so far."""
+        with open(f"/proc/{self.pid}/status", encoding="utf-8") as file:
+            return next(int(line.split()[1]) * 1_024 for line in file if line.startswith("VmHWM"))
 
     def turn(self):
         """Waits until all logs were looked at once more: a turn that finds the second failure began behind the first."""

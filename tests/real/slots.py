@@ -37,6 +37,8 @@ class Reader:
 
     def __init__(self, data, at=0, version=2):
         self.data, self.at, self.version = data, at, version
+        # Where the lines of failures stand.
+        self.lines = []
 
     def byte(self, below=256):
         if self.at >= len(self.data) or self.data[self.at] >= below:
@@ -151,7 +153,10 @@ class Reader:
         return self.number(1 << 32)
 
     def failure(self):
-        return self.address(), self.moment(), self.text(512) if self.version == 2 else ""
+        address, moment, begin = self.address(), self.moment(), self.at
+        line = self.text(512) if self.version == 2 else ""
+        self.lines.append((begin, self.at))
+        return address, moment, line
 
     def until(self):
         return self.moment() if self.flag() else None
@@ -344,6 +349,7 @@ class Slot:
         while fields.byte():
             self.inputs.append(fields.input())
         self.end = fields.at - 1
+        self.lines = fields.lines
 
 
 def journal(first, second):
@@ -359,6 +365,13 @@ def journal(first, second):
             raise
     counting = [slot for slot in read if slot.is_open]
     return max(counting, key=lambda slot: slot.generation) if counting else None
+
+
+def in_version_1(data):
+    """A slot in version 1 that has what a slot of version 2 has, but the lines of failures."""
+    for begin, end in reversed(Slot(data).lines):
+        data = data[:begin] + data[end:]
+    return data[:9] + b"\x01" + data[10:]
 
 
 def number(value):

@@ -1,11 +1,11 @@
 //! Whole configurations, with what they come to.
+
 use crate::rows::same;
-use crate::trees::{told, tree};
-use f2b_base::{ActionDef, JailDef, WatchDef};
-use jail_conf::conf;
+use crate::trees::{Told, is_told, read};
+use f2b_base::{ActionDef, JailDef, NoMemory, WatchDef};
+use jail_conf::Settings;
 use std::alloc::Global;
 use std::process::Abort;
-use std::test::Fail;
 
 const NOTE: &str = "[Definition]
 actionstart = echo start <name>
@@ -56,13 +56,20 @@ const WORKED: [(&str, &str); 5] = [
     ("paths.conf", PATHS),
 ];
 
+fn most(jail: &JailDef) -> (u64, u64) {
+    (jail.maxretry, jail.maxmatches)
+}
+
+fn counts(jail: &JailDef) -> (usize, usize, usize) {
+    (jail.fail.len(), jail.ignore_lines.len(), jail.ignore.len())
+}
+
 fn is_as_worked(rt: &impl Abort, jail: &JailDef) {
     same(rt, "name", jail.name.as_str(), "sshd");
     same(rt, "pref", jail.pref.is_some(), true);
-    let counts = (jail.fail.len(), jail.ignore_lines.len(), jail.ignore.len());
-    same(rt, "counts", counts, (3, 0, 4));
+    same(rt, "counts", counts(jail), (3, 0, 4));
     same(rt, "findtime", jail.findtime, 600);
-    same(rt, "most", (jail.maxretry, jail.maxmatches), (3, 3));
+    same(rt, "most", most(jail), (3, 3));
     same(rt, "base", jail.rule.base, 600);
 }
 
@@ -72,8 +79,8 @@ fn first_path(watches: &[WatchDef]) -> Option<&str> {
 }
 
 fn log_is_as_worked(rt: &impl Abort, watches: &[WatchDef]) {
-    let log = (watches.len(), first_path(watches));
-    same(rt, "log", log, (1, Some("/var/log/auth.log")));
+    same(rt, "logs", watches.len(), 1);
+    same(rt, "log", first_path(watches), Some("/var/log/auth.log"));
 }
 
 fn is_worked(rt: &impl Abort, action: &ActionDef) {
@@ -99,40 +106,45 @@ fn jails_are_as_worked(rt: &impl Abort, jails: &[JailDef]) {
     }
 }
 
+fn settings_are_as_worked(rt: &impl Abort, settings: &Settings) {
+    let socket = "/var/run/fail2ban/fail2ban.sock";
+    same(rt, "socket", settings.socket.as_str(), socket);
+    same(rt, "purge", settings.defs.purge, 86_400);
+    jails_are_as_worked(rt, settings.defs.jails.as_slice());
+}
+
+fn is_read_as_worked(rt: &impl Abort, told: &Told) {
+    match told {
+        Ok(settings) => settings_are_as_worked(rt, settings),
+        Err(_) => same(rt, "told", "refused", "read"),
+    }
+}
+
 #[test]
-fn reads_the_worked_tree(rt: HostRuntime) -> Result<(), Fail> {
-    let settings = conf(rt.alloc(), &tree(rt.alloc(), &WORKED)?)?;
-    same(
-        &rt,
-        "socket",
-        settings.socket.as_str(),
-        "/var/run/fail2ban/fail2ban.sock",
-    );
-    same(&rt, "purge", settings.defs.purge, 86_400);
-    jails_are_as_worked(&rt, settings.defs.jails.as_slice());
-    Ok(())
+fn reads_the_worked_tree(rt: HostRuntime) {
+    is_read_as_worked(&rt, &read(rt.alloc(), &WORKED));
 }
 
 const SLOW: &str = "[Definition]\nactionban = a\n[Init]\ntimeout = 0\n";
 
-/// What is told of an enabled jail with these items.
-fn told_of_jail(alloc: Global, items: &str) -> Result<String, Fail> {
-    let jail = format!(in alloc; "[j]\nenabled = on\n{items}\n")?;
-    let files = [
-        ("action.d/a.conf", "[Definition]\nactionban = ban\n"),
-        ("action.d/slow.conf", SLOW),
-        ("filter.d/f.conf", "[Definition]\nmaxlines = 2\n"),
-        ("filter.d/p.conf", "[Definition]\nprefregex = <HOST>\n"),
-        ("jail.conf", jail.as_str()),
-    ];
-    told(alloc, files.as_slice())
-}
+const BAN: (&str, &str) = ("action.d/a.conf", "[Definition]\nactionban = ban\n");
 
-/// Rows of a jail's items, and what is told of it.
-fn are_told_of_jails(rt: &impl Abort, alloc: Global, rows: &[(&str, &str)]) -> Result<(), Fail> {
+const NEVER: (&str, &str) = ("action.d/slow.conf", SLOW);
+
+const LINES: (&str, &str) = ("filter.d/f.conf", "[Definition]\nmaxlines = 2\n");
+
+const PREFIX: (&str, &str) = ("filter.d/p.conf", "[Definition]\nprefregex = <HOST>\n");
+
+/// Rows of the items of an enabled jail, and what is told of it.
+fn are_told_of_jails(
+    rt: &impl Abort,
+    alloc: Global,
+    rows: &[(&str, &str)],
+) -> Result<(), NoMemory> {
     for &(items, want) in rows {
-        let told = told_of_jail(alloc, items)?;
-        same(rt, items, told.as_str(), want);
+        let jail = format!(in alloc; "[j]\nenabled = on\n{items}\n")?;
+        let files = [BAN, NEVER, LINES, PREFIX, ("jail.conf", jail.as_str())];
+        is_told(rt, alloc, items, &files, want)?;
     }
     Ok(())
 }
@@ -175,7 +187,7 @@ const KINDS: [(&str, &str); 25] = [
 ];
 
 #[test]
-fn tells_each_kind_of_an_item(rt: HostRuntime) -> Result<(), Fail> {
+fn tells_each_kind_of_an_item(rt: HostRuntime) -> Result<(), NoMemory> {
     are_told_of_jails(&rt, rt.alloc(), &KINDS)
 }
 
@@ -184,11 +196,10 @@ fn are_told_of_two(
     rt: &impl Abort,
     alloc: Global,
     rows: &[(&str, &str, &str)],
-) -> Result<(), Fail> {
+) -> Result<(), NoMemory> {
     for &(server, jails, want) in rows {
         let files = [("fail2ban.conf", server), ("jail.conf", jails)];
-        let told = told(alloc, files.as_slice())?;
-        same(rt, jails, told.as_str(), want);
+        is_told(rt, alloc, jails, &files, want)?;
     }
     Ok(())
 }
@@ -228,6 +239,6 @@ const FIRST_OF_TWO: [(&str, &str, &str); 7] = [
 ];
 
 #[test]
-fn tells_the_first_of_two_faults(rt: HostRuntime) -> Result<(), Fail> {
+fn tells_the_first_of_two_faults(rt: HostRuntime) -> Result<(), NoMemory> {
     are_told_of_two(&rt, rt.alloc(), &FIRST_OF_TWO)
 }

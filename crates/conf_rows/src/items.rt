@@ -1,123 +1,115 @@
 //! Texts of items, with what they are read as.
+
 use crate::rows::same;
-use crate::trees::{jail_with, only_jail, told};
-use f2b_base::{DateSpec, Text};
-use jail_conf::{ConfKind, Fail as Refusal, str2sec};
+use crate::trees::{Told, are_told, are_told_with, is_told, jail_in, read, read_with};
+use f2b_base::{DateSpec, NoMemory};
+use jail_conf::str2sec;
 use std::alloc::Global;
 use std::process::Abort;
-use std::test::Fail;
 
-/// A value, or where there is none a refusal of this kind.
-fn answer<A>(value: Option<A>, kind: ConfKind) -> Result<A, Refusal<ConfKind>> {
-    value.ok_or(Refusal::Refused(kind))
+/// An item that is read as a number.
+#[derive(Clone, Copy)]
+enum Item {
+    /// One where it is so, and none where not.
+    Increment,
+    Maxretry,
+    Bantime,
+    /// In thousandths.
+    Factor,
+    /// In seconds.
+    Zone,
+    /// How many addresses are never banned.
+    Ignored,
 }
 
-fn refused<A>(kind: ConfKind) -> Result<A, Refusal<ConfKind>> {
-    Err(Refusal::Refused(kind))
-}
-
-fn increment(alloc: Global, text: &str) -> Result<Result<bool, Refusal<ConfKind>>, Fail> {
-    Ok(jail_with(alloc, "bantime.increment", text)?.map(|jail| jail.rule.increment))
-}
-
-/// Rows of a text and what it means, or none where it is refused.
-fn are_booleans(rt: &impl Abort, alloc: Global, rows: &[(&str, Option<bool>)]) -> Result<(), Fail> {
-    for &(text, want) in rows {
-        let read = increment(alloc, text)?;
-        same(rt, text, &read, &answer(want, ConfKind::BadBool));
+fn name_of(item: Item) -> &'static str {
+    match item {
+        Item::Increment => "bantime.increment",
+        Item::Maxretry => "maxretry",
+        Item::Bantime => "bantime",
+        Item::Factor => "bantime.factor",
+        Item::Zone => "logtimezone",
+        Item::Ignored => "ignoreip",
     }
-    Ok(())
 }
 
-const BOOLEANS: [(&str, Option<bool>); 9] = [
-    ("true", Some(true)),
-    (" Yes\t", Some(true)),
-    ("1", Some(true)),
-    ("OFF", Some(false)),
-    ("0", Some(false)),
-    ("", None),
-    ("maybe", None),
-    ("true yes", None),
-    ("yess", None),
+/// What an item of the one jail is read as.
+fn number(told: &Told, item: Item) -> Option<i64> {
+    let jail = jail_in(told)?;
+    match item {
+        Item::Increment => Some(i64::from(jail.rule.increment)),
+        Item::Maxretry => i64::try_from(jail.maxretry).ok(),
+        Item::Bantime => Some(jail.rule.base),
+        Item::Factor => i64::try_from(jail.rule.factor).ok(),
+        Item::Zone => Some(jail.zone),
+        Item::Ignored => i64::try_from(jail.ignore.len()).ok(),
+    }
+}
+
+/// Rows of a text and what an item with it is read as.
+fn are_numbers(rt: &impl Abort, alloc: Global, item: Item, rows: &[(&str, i64)]) {
+    for &(text, want) in rows {
+        let told = read_with(alloc, name_of(item), text);
+        same(rt, text, number(&told, item), Some(want));
+    }
+}
+
+const BOOLEANS: [(&str, i64); 5] = [("true", 1), (" Yes\t", 1), ("1", 1), ("OFF", 0), ("0", 0)];
+
+const NO_BOOLEANS: [&str; 4] = ["", "maybe", "true yes", "yess"];
+
+#[test]
+fn reads_booleans(rt: HostRuntime) -> Result<(), NoMemory> {
+    are_numbers(&rt, rt.alloc(), Item::Increment, &BOOLEANS);
+    let want = "jail.conf|j|bantime.increment|BadBool";
+    are_told_with(&rt, rt.alloc(), "bantime.increment", &NO_BOOLEANS, want)
+}
+
+const CHOICES: [(&str, &str, &str); 4] = [
+    ("usedns", "Warn", "read"),
+    ("usedns", "raw", "jail.conf|j|usedns|Unsupported"),
+    ("bantime.overalljails", "no", "read"),
+    (
+        "bantime.overalljails",
+        "yes",
+        "jail.conf|j|bantime.overalljails|Unsupported",
+    ),
 ];
 
 #[test]
-fn reads_booleans(rt: HostRuntime) -> Result<(), Fail> {
-    are_booleans(&rt, rt.alloc(), &BOOLEANS)
+fn reads_choices(rt: HostRuntime) -> Result<(), NoMemory> {
+    are_told(&rt, rt.alloc(), &CHOICES)
 }
 
-/// What is told of a jail with this item.
-fn told_with(alloc: Global, name: &str, text: &str) -> Result<Result<(), Refusal<ConfKind>>, Fail> {
-    Ok(jail_with(alloc, name, text)?.map(|_jail| ()))
-}
+const NUMBERS: [(&str, i64); 3] = [("1", 1), ("007", 7), (" 100000 ", 100_000)];
 
-/// That is told of a jail with this item.
-fn is_told(
-    rt: &impl Abort,
-    alloc: Global,
-    name: &str,
-    text: &str,
-    want: &Result<(), Refusal<ConfKind>>,
-) -> Result<(), Fail> {
-    let told = told_with(alloc, name, text)?;
-    same(rt, (name, text), &told, want);
-    Ok(())
-}
+const NO_NUMBERS: [&str; 7] = ["", "0", "100001", "-1", "+1", "1.0", "18446744073709551617"];
 
 #[test]
-fn reads_choices(rt: HostRuntime) -> Result<(), Fail> {
-    let alloc = rt.alloc();
-    is_told(&rt, alloc, "usedns", "Warn", &Ok(()))?;
-    let unsupported = refused(ConfKind::Unsupported);
-    is_told(&rt, alloc, "usedns", "raw", &unsupported)?;
-    is_told(&rt, alloc, "bantime.overalljails", "no", &Ok(()))?;
-    is_told(&rt, alloc, "bantime.overalljails", "yes", &unsupported)
+fn reads_numbers(rt: HostRuntime) -> Result<(), NoMemory> {
+    are_numbers(&rt, rt.alloc(), Item::Maxretry, &NUMBERS);
+    let want = "jail.conf|j|maxretry|BadNumber";
+    are_told_with(&rt, rt.alloc(), "maxretry", &NO_NUMBERS, want)
 }
 
-fn maxretry(alloc: Global, text: &str) -> Result<Result<u64, Refusal<ConfKind>>, Fail> {
-    Ok(jail_with(alloc, "maxretry", text)?.map(|jail| jail.maxretry))
-}
-
-/// Rows of a text and its number, or none where it is refused.
-fn are_numbers(rt: &impl Abort, alloc: Global, rows: &[(&str, Option<u64>)]) -> Result<(), Fail> {
-    for &(text, want) in rows {
-        let read = maxretry(alloc, text)?;
-        same(rt, text, &read, &answer(want, ConfKind::BadNumber));
-    }
-    Ok(())
-}
-
-const NUMBERS: [(&str, Option<u64>); 10] = [
-    ("1", Some(1)),
-    ("007", Some(7)),
-    (" 100000 ", Some(100_000)),
-    ("", None),
-    ("0", None),
-    ("100001", None),
-    ("-1", None),
-    ("+1", None),
-    ("1.0", None),
-    ("18446744073709551617", None),
+const MAXLINES: [(&str, &str, &str); 2] = [
+    ("maxlines", "01", "read"),
+    ("maxlines", "2", "jail.conf|j|maxlines|Unsupported"),
 ];
 
-#[test]
-fn reads_numbers(rt: HostRuntime) -> Result<(), Fail> {
-    are_numbers(&rt, rt.alloc(), &NUMBERS)
+fn multipliers(told: &Told) -> Option<&[u64]> {
+    Some(jail_in(told)?.rule.multipliers.as_slice())
+}
+
+fn are_multipliers(rt: &impl Abort, alloc: Global, text: &str, want: &[u64]) {
+    let told = read_with(alloc, "bantime.multipliers", text);
+    same(rt, text, multipliers(&told), Some(want));
 }
 
 #[test]
-fn reads_the_number_one_and_several_numbers(rt: HostRuntime) -> Result<(), Fail> {
-    let alloc = rt.alloc();
-    is_told(&rt, alloc, "maxlines", "01", &Ok(()))?;
-    is_told(&rt, alloc, "maxlines", "2", &refused(ConfKind::Unsupported))?;
-    let jail = jail_with(alloc, "bantime.multipliers", "1 5\n 30")??;
-    same(
-        &rt,
-        "multipliers",
-        jail.rule.multipliers.as_slice(),
-        &[1, 5, 30],
-    );
-    Ok(())
+fn reads_the_number_one_and_several_numbers(rt: HostRuntime) -> Result<(), NoMemory> {
+    are_multipliers(&rt, rt.alloc(), "1 5\n 30", &[1, 5, 30]);
+    are_told(&rt, rt.alloc(), &MAXLINES)
 }
 
 /// Rows of a text and its seconds.
@@ -153,157 +145,130 @@ fn reads_times(rt: HostRuntime) {
     are_times(&rt, &TIMES);
 }
 
-fn base(alloc: Global, text: &str) -> Result<Result<i64, Refusal<ConfKind>>, Fail> {
-    Ok(jail_with(alloc, "bantime", text)?.map(|jail| jail.rule.base))
-}
-
-#[test]
-fn reads_times_of_items(rt: HostRuntime) -> Result<(), Fail> {
-    let alloc = rt.alloc();
-    let no_time = refused(ConfKind::BadTime);
-    is_told(&rt, alloc, "findtime", "0", &no_time)?;
-    let for_ever = base(alloc, "-1")?;
-    same(&rt, "for ever", &for_ever, &Ok(-1));
-    is_told(&rt, alloc, "bantime", "0s", &no_time)?;
-    let no_number = refused(ConfKind::BadNumber);
-    is_told(&rt, alloc, "bantime.rndtime", "12d", &no_number)?;
-    is_told(&rt, alloc, "bantime.rndtime", "x", &no_time)
-}
-
-fn factor(alloc: Global, text: &str) -> Result<Result<u64, Refusal<ConfKind>>, Fail> {
-    Ok(jail_with(alloc, "bantime.factor", text)?.map(|jail| jail.rule.factor))
-}
-
-/// Rows of a text and its factor in thousandths, or none where it is refused.
-fn are_factors(rt: &impl Abort, alloc: Global, rows: &[(&str, Option<u64>)]) -> Result<(), Fail> {
-    for &(text, want) in rows {
-        let read = factor(alloc, text)?;
-        same(rt, text, &read, &answer(want, ConfKind::BadNumber));
-    }
-    Ok(())
-}
-
-const FACTORS: [(&str, Option<u64>); 10] = [
-    ("1.5", Some(1_500)),
-    ("2", Some(2_000)),
-    ("0.001", Some(1)),
-    ("0", None),
-    ("1.5000", None),
-    ("1.", None),
-    (".5", None),
-    ("1.2.3", None),
-    ("1000.1", None),
-    ("-1", None),
-];
-
-fn zone(alloc: Global, text: &str) -> Result<Result<i64, Refusal<ConfKind>>, Fail> {
-    Ok(jail_with(alloc, "logtimezone", text)?.map(|jail| jail.zone))
-}
-
-/// Rows of a text and its zone in seconds, or none where it is refused.
-fn are_zones(rt: &impl Abort, alloc: Global, rows: &[(&str, Option<i64>)]) -> Result<(), Fail> {
-    for &(text, want) in rows {
-        let read = zone(alloc, text)?;
-        same(rt, text, &read, &answer(want, ConfKind::BadZone));
-    }
-    Ok(())
-}
-
-const ZONES: [(&str, Option<i64>); 10] = [
-    ("Z", Some(0)),
-    ("UTC", Some(0)),
-    ("UTC-0130", Some(-5_400)),
-    ("GMT+2359", Some(86_340)),
-    ("", None),
-    ("z", None),
-    ("UTC+1", None),
-    ("GMT+2400", None),
-    ("GMT+0060", None),
-    ("UTC 0100", None),
+const NO_TIMES: [(&str, &str, &str); 4] = [
+    ("findtime", "0", "jail.conf|j|findtime|BadTime"),
+    ("bantime", "0s", "jail.conf|j|bantime|BadTime"),
+    (
+        "bantime.rndtime",
+        "12d",
+        "jail.conf|j|bantime.rndtime|BadNumber",
+    ),
+    (
+        "bantime.rndtime",
+        "x",
+        "jail.conf|j|bantime.rndtime|BadTime",
+    ),
 ];
 
 #[test]
-fn reads_factors_and_zones(rt: HostRuntime) -> Result<(), Fail> {
-    are_factors(&rt, rt.alloc(), &FACTORS)?;
-    are_zones(&rt, rt.alloc(), &ZONES)
+fn reads_times_of_items(rt: HostRuntime) -> Result<(), NoMemory> {
+    // For ever.
+    are_numbers(&rt, rt.alloc(), Item::Bantime, &[("-1", -1)]);
+    are_told(&rt, rt.alloc(), &NO_TIMES)
 }
 
-/// A spec of dates, or the kind of its refusal.
-type Date = Result<DateSpec, Refusal<ConfKind>>;
+/// In thousandths.
+const FACTORS: [(&str, i64); 3] = [("1.5", 1_500), ("2", 2_000), ("0.001", 1)];
 
-fn date(alloc: Global, text: &str) -> Result<Date, Fail> {
-    Ok(jail_with(alloc, "datepattern", text)?.map(|jail| jail.date))
-}
+const NO_FACTORS: [&str; 7] = ["0", "1.5000", "1.", ".5", "1.2.3", "1000.1", "-1"];
 
-/// A text is read as that spec of dates.
-fn is_date(rt: &impl Abort, alloc: Global, text: &str, want: &Date) -> Result<(), Fail> {
-    let date = date(alloc, text)?;
-    same(rt, text, &date, want);
-    Ok(())
-}
+/// In seconds.
+const ZONES: [(&str, i64); 4] = [
+    ("Z", 0),
+    ("UTC", 0),
+    ("UTC-0130", -5_400),
+    ("GMT+2359", 86_340),
+];
+
+const NO_ZONES: [&str; 6] = ["", "z", "UTC+1", "GMT+2400", "GMT+0060", "UTC 0100"];
 
 #[test]
-fn reads_dates(rt: HostRuntime) -> Result<(), Fail> {
-    let alloc = rt.alloc();
-    is_date(&rt, alloc, "{^LN-BEG}", &Ok(DateSpec::Anchored))?;
-    is_date(&rt, alloc, "{NONE}", &Ok(DateSpec::NoDate))?;
-    is_date(&rt, alloc, "Epoch", &Ok(DateSpec::Epoch))?;
-    is_date(&rt, alloc, "ISO8601", &Ok(DateSpec::Iso))?;
-    let pattern = Text::from_str(alloc, "%d/%b")?;
-    let own = Ok(DateSpec::AnchoredPattern(pattern));
-    is_date(&rt, alloc, "{^LN-BEG}%%d/%%b", &own)
+fn reads_factors_and_zones(rt: HostRuntime) -> Result<(), NoMemory> {
+    are_numbers(&rt, rt.alloc(), Item::Factor, &FACTORS);
+    are_numbers(&rt, rt.alloc(), Item::Zone, &ZONES);
+    let want = "jail.conf|j|bantime.factor|BadNumber";
+    are_told_with(&rt, rt.alloc(), "bantime.factor", &NO_FACTORS, want)?;
+    let want = "jail.conf|j|logtimezone|BadZone";
+    are_told_with(&rt, rt.alloc(), "logtimezone", &NO_ZONES, want)
 }
 
-fn are_no_dates(rt: &impl Abort, alloc: Global, texts: &[&str]) -> Result<(), Fail> {
-    let no_date = refused(ConfKind::BadDate);
-    for text in texts {
-        is_date(rt, alloc, text, &no_date)?;
+/// The name of a spec of dates, and its pattern.
+type Date = (&'static str, &'static str);
+
+fn shown(date: &DateSpec) -> (&'static str, &str) {
+    match date {
+        DateSpec::Default => ("default", ""),
+        DateSpec::Anchored => ("anchored", ""),
+        DateSpec::Epoch => ("epoch", ""),
+        DateSpec::Iso => ("iso", ""),
+        DateSpec::NoDate => ("none", ""),
+        DateSpec::Pattern(pattern) => ("pattern", pattern.as_str()),
+        DateSpec::AnchoredPattern(pattern) => ("anchored pattern", pattern.as_str()),
     }
-    Ok(())
+}
+
+fn date(told: &Told) -> Option<(&'static str, &str)> {
+    Some(shown(&jail_in(told)?.date))
+}
+
+/// Rows of a text and the spec of dates that it is read as.
+fn are_dates(rt: &impl Abort, alloc: Global, rows: &[(&str, Date)]) {
+    for &(text, want) in rows {
+        let told = read_with(alloc, "datepattern", text);
+        same(rt, text, date(&told), Some(want));
+    }
+}
+
+const DATES: [(&str, Date); 5] = [
+    ("{^LN-BEG}", ("anchored", "")),
+    ("{NONE}", ("none", "")),
+    ("Epoch", ("epoch", "")),
+    ("ISO8601", ("iso", "")),
+    ("{^LN-BEG}%%d/%%b", ("anchored pattern", "%d/%b")),
+];
+
+#[test]
+fn reads_dates(rt: HostRuntime) {
+    are_dates(&rt, rt.alloc(), &DATES);
 }
 
 const NO_DATES: [&str; 5] = ["", "%%d", "%%d%%d%%m", "%%Q%%d%%m", "{^LN-BEG}Epoch"];
 
 #[test]
-fn refuses_what_is_no_date(rt: HostRuntime) -> Result<(), Fail> {
-    are_no_dates(&rt, rt.alloc(), &NO_DATES)
-}
-
-/// How many addresses are never banned.
-fn ignored(alloc: Global, text: &str) -> Result<Result<usize, Refusal<ConfKind>>, Fail> {
-    Ok(jail_with(alloc, "ignoreip", text)?.map(|jail| jail.ignore.len()))
+fn refuses_what_is_no_date(rt: HostRuntime) -> Result<(), NoMemory> {
+    let want = "jail.conf|j|datepattern|BadDate";
+    are_told_with(&rt, rt.alloc(), "datepattern", &NO_DATES, want)
 }
 
 #[test]
-fn reads_addresses(rt: HostRuntime) -> Result<(), Fail> {
-    let alloc = rt.alloc();
-    let count = ignored(alloc, "127.0.0.1/8 ::1,\n 10.0.0.1")?;
+fn reads_addresses(rt: HostRuntime) -> Result<(), NoMemory> {
     // Three, and the two of the loopback.
-    same(&rt, "ignored", &count, &Ok(5));
-    let no_address = refused(ConfKind::BadAddress);
-    is_told(&rt, alloc, "ignoreip", "10.0.0.1 host", &no_address)
+    let three = "127.0.0.1/8 ::1,\n 10.0.0.1";
+    are_numbers(&rt, rt.alloc(), Item::Ignored, &[(three, 5)]);
+    let want = "jail.conf|j|ignoreip|BadAddress";
+    are_told_with(&rt, rt.alloc(), "ignoreip", &["10.0.0.1 host"], want)
 }
 
 const FROM_DEFAULT: &str =
     "[DEFAULT]\nenabled = on\nbackend = raw\nmaxretry = 3\n[j]\nbackend = AUTO\n";
 
-#[test]
-fn reads_an_item_where_it_stands(rt: HostRuntime) -> Result<(), Fail> {
-    let files = [("jail.conf", FROM_DEFAULT)];
-    let jail = only_jail(rt.alloc(), files.as_slice())??;
-    same(&rt, "maxretry", jail.maxretry, 3);
-    same(&rt, "increment", jail.rule.increment, false);
+/// What is read where an item stands in the section of defaults.
+fn is_from_default(rt: &impl Abort, told: &Told) {
+    same(rt, "maxretry", number(told, Item::Maxretry), Some(3));
+    same(rt, "increment", number(told, Item::Increment), Some(0));
     // That the machine's own addresses are never banned is not said, and the two of the loopback are there.
-    same(&rt, "ignored", jail.ignore.len(), 2);
-    Ok(())
+    same(rt, "ignored", number(told, Item::Ignored), Some(2));
+}
+
+#[test]
+fn reads_an_item_where_it_stands(rt: HostRuntime) {
+    is_from_default(&rt, &read(rt.alloc(), &[("jail.conf", FROM_DEFAULT)]));
 }
 
 /// Rows of a `jail.conf`, and where its item is refused and why: file, section, item and kind.
-fn are_told(rt: &impl Abort, alloc: Global, rows: &[(&str, &str)]) -> Result<(), Fail> {
+fn are_refused(rt: &impl Abort, alloc: Global, rows: &[(&str, &str)]) -> Result<(), NoMemory> {
     for &(jail, want) in rows {
-        let files = [("jail.conf", jail)];
-        let told = told(alloc, files.as_slice())?;
-        same(rt, jail, told.as_str(), want);
+        is_told(rt, alloc, jail, &[("jail.conf", jail)], want)?;
     }
     Ok(())
 }
@@ -320,6 +285,6 @@ const OF_DEFAULT: [(&str, &str); 2] = [
 ];
 
 #[test]
-fn tells_where_an_item_stands(rt: HostRuntime) -> Result<(), Fail> {
-    are_told(&rt, rt.alloc(), &OF_DEFAULT)
+fn tells_where_an_item_stands(rt: HostRuntime) -> Result<(), NoMemory> {
+    are_refused(&rt, rt.alloc(), &OF_DEFAULT)
 }

@@ -1,11 +1,10 @@
 //! Names of filters with options, with what they are read as.
+
 use crate::rows::same;
-use crate::trees::{told, tree, with_item};
-use f2b_base::{Plain, Text};
-use jail_conf::conf;
+use crate::trees::{Told, is_told, jail_in, read, with_item};
+use f2b_base::NoMemory;
 use std::alloc::Global;
 use std::process::Abort;
-use std::test::Fail;
 
 /// Shows the options `x`, `y` and `z` that a filter is given, each where it is not given as its tag.
 const FILTER: (&str, &str) = (
@@ -13,28 +12,22 @@ const FILTER: (&str, &str) = (
     "[Definition]\nfailregex = <HOST> <x>|<y>|<z>\n",
 );
 
-/// What is told of a jail with this filter.
-fn told_of(alloc: Global, text: &str) -> Result<String, Fail> {
+/// That is told of a jail with this filter.
+fn is_told_of(rt: &impl Abort, alloc: Global, text: &str, want: &str) -> Result<(), NoMemory> {
     let jail = with_item(alloc, "filter", text)?;
-    let files = [FILTER, ("jail.conf", jail.as_str())];
-    told(alloc, files.as_slice())
-}
-
-/// The pattern of a jail with this filter.
-fn shown(alloc: Global, text: &str) -> Result<Text, Fail> {
-    let jail = with_item(alloc, "filter", text)?;
-    let files = [FILTER, ("jail.conf", jail.as_str())];
-    let settings = conf(alloc, &tree(alloc, files.as_slice())?)?;
-    let jail = settings.defs.jails.as_slice().first().ok_or("no jail")?;
-    let pattern = jail.fail.as_slice().first().ok_or("no pattern")?;
-    Ok(pattern.copy()?)
+    is_told(
+        rt,
+        alloc,
+        text,
+        &[FILTER, ("jail.conf", jail.as_str())],
+        want,
+    )
 }
 
 /// Rows of a text and what is told of it.
-fn are_told(rt: &impl Abort, alloc: Global, rows: &[(&str, &str)]) -> Result<(), Fail> {
-    for &(text, want) in rows {
-        let told = told_of(alloc, text)?;
-        same(rt, text, told.as_str(), want);
+fn are_told(rt: &impl Abort, alloc: Global, rows: &[(&str, &str)]) -> Result<(), NoMemory> {
+    for (text, want) in rows {
+        is_told_of(rt, alloc, text, want)?;
     }
     Ok(())
 }
@@ -47,13 +40,24 @@ const NAMES: [(&str, &str); 4] = [
     ("a b]", "filter.d/a b].conf|j|filter|MissingFile"),
 ];
 
+/// What a jail with this filter comes to.
+fn read_with_filter(alloc: Global, text: &str) -> Told {
+    let jail = with_item(alloc, "filter", text)?;
+    read(alloc, &[FILTER, ("jail.conf", jail.as_str())])
+}
+
+/// The first pattern of the one jail.
+fn pattern_in(told: &Told) -> Option<&str> {
+    let pattern = jail_in(told)?.fail.as_slice().first()?;
+    Some(pattern.as_str())
+}
+
 /// Rows of a text and what is shown of its options.
-fn are_shown(rt: &impl Abort, alloc: Global, rows: &[(&str, &str)]) -> Result<(), Fail> {
+fn are_shown(rt: &impl Abort, alloc: Global, rows: &[(&str, &str)]) {
     for &(text, want) in rows {
-        let shown = shown(alloc, text)?;
-        same(rt, text, shown.as_str(), want);
+        let told = read_with_filter(alloc, text);
+        same(rt, text, pattern_in(&told), Some(want));
     }
-    Ok(())
 }
 
 /// A percent sign of a text is doubled where it stands in a file.
@@ -78,15 +82,14 @@ const OPTIONS: [(&str, &str); 14] = [
 ];
 
 #[test]
-fn reads_names_with_options(rt: HostRuntime) -> Result<(), Fail> {
-    are_told(&rt, rt.alloc(), &NAMES)?;
-    are_shown(&rt, rt.alloc(), &OPTIONS)
+fn reads_names_with_options(rt: HostRuntime) -> Result<(), NoMemory> {
+    are_shown(&rt, rt.alloc(), &OPTIONS);
+    are_told(&rt, rt.alloc(), &NAMES)
 }
 
-fn are_refused(rt: &impl Abort, alloc: Global, texts: &[&str]) -> Result<(), Fail> {
-    for &text in texts {
-        let told = told_of(alloc, text)?;
-        same(rt, text, told.as_str(), "jail.conf|j|filter|BadOptions");
+fn are_refused(rt: &impl Abort, alloc: Global, texts: &[&str]) -> Result<(), NoMemory> {
+    for text in texts {
+        is_told_of(rt, alloc, text, "jail.conf|j|filter|BadOptions")?;
     }
     Ok(())
 }
@@ -118,7 +121,7 @@ const NO_NAMES: [&str; 20] = [
 const BLANKS: [(&str, &str); 2] = [("", "read"), (" \t", "read")];
 
 #[test]
-fn refuses_what_is_no_name_with_options(rt: HostRuntime) -> Result<(), Fail> {
+fn refuses_what_is_no_name_with_options(rt: HostRuntime) -> Result<(), NoMemory> {
     are_refused(&rt, rt.alloc(), &NO_NAMES)?;
     are_told(&rt, rt.alloc(), &BLANKS)
 }

@@ -1,15 +1,14 @@
 //! Patterns, with what they are read as.
+
 use crate::rows::same;
-use crate::trees::{Read, jail_with, only_jail, told};
-use f2b_base::{NoMemory, Text};
-use jail_conf::{ConfKind, Fail as Refusal};
+use crate::trees::{Told, are_told, are_told_with, is_told, jail_in, read, read_with, tells};
+use f2b_base::NoMemory;
 use std::alloc::Global;
 use std::process::Abort;
-use std::test::Fail;
 
 /// So many times that text, with this behind it.
-fn repeated(alloc: Global, text: &str, times: usize, end: &str) -> Result<Text, NoMemory> {
-    let mut all = Text::new(alloc);
+fn repeated(alloc: Global, text: &str, times: usize, end: &str) -> Result<String, NoMemory> {
+    let mut all = String::new(alloc);
     for _ in 0..times {
         all.push_str(text)?;
     }
@@ -17,41 +16,46 @@ fn repeated(alloc: Global, text: &str, times: usize, end: &str) -> Result<Text, 
     Ok(all)
 }
 
-/// How many patterns there are, of failures and of lines that are ignored, or what kind of refusal there is.
-type Counts = Result<(usize, usize), Refusal<ConfKind>>;
-
-/// How many patterns are read from these lines, which begin with a blank.
-fn count(alloc: Global, fail: &str, ignore: &str) -> Result<Counts, Fail> {
-    let jail = format!(in alloc;
-        "[j]\nenabled = on\nnone =\nfailregex =\n{fail}ignoreregex =\n{ignore}"
-    )?;
-    let files = [("jail.conf", jail.as_str())];
-    let jail = only_jail(alloc, files.as_slice())?;
-    Ok(jail.map(|jail| (jail.fail.len(), jail.ignore_lines.len())))
+/// How many patterns there are, of failures and of lines that are ignored.
+fn counts(told: &Told) -> Option<(usize, usize)> {
+    let jail = jail_in(told)?;
+    Some((jail.fail.len(), jail.ignore_lines.len()))
 }
 
-/// A refusal of this kind.
-fn refused<A>(kind: ConfKind) -> Result<A, Refusal<ConfKind>> {
-    Err(Refusal::Refused(kind))
+/// One pattern of failures is read from this text.
+fn is_pattern(rt: &impl Abort, alloc: Global, text: &str) {
+    let told = read_with(alloc, "failregex", text);
+    same(rt, text, counts(&told), Some((1, 0)));
 }
 
-/// How many patterns of failures are read from this text, or what kind of refusal there is.
-fn fail_count(alloc: Global, text: &str) -> Result<Result<usize, Refusal<ConfKind>>, Fail> {
-    let jail = jail_with(alloc, "failregex", text)?;
-    Ok(jail.map(|jail| jail.fail.len()))
+fn is_longest(rt: &impl Abort, alloc: Global) -> Result<(), NoMemory> {
+    let text = repeated(alloc, "a", 8_186, "<HOST>")?;
+    same(rt, "longest", text.as_str().len(), 8_192);
+    is_pattern(rt, alloc, text.as_str());
+    Ok(())
+}
+
+fn is_longer(rt: &impl Abort, alloc: Global) -> Result<(), NoMemory> {
+    let text = repeated(alloc, "a", 8_187, "<HOST>")?;
+    let want = "jail.conf|j|failregex|TooMany";
+    are_told_with(rt, alloc, "failregex", &[text.as_str()], want)
 }
 
 #[test]
-fn reads_patterns_of_so_many_bytes(rt: HostRuntime) -> Result<(), Fail> {
-    let alloc = rt.alloc();
-    let longest = repeated(alloc, "a", 8_186, "<HOST>")?;
-    let longer = repeated(alloc, "a", 8_187, "<HOST>")?;
-    same(&rt, "longest", longest.as_str().len(), 8_192);
-    let read = fail_count(alloc, longest.as_str())?;
-    same(&rt, "longest", &read, &Ok(1));
-    let read = fail_count(alloc, longer.as_str())?;
-    same(&rt, "longer", &read, &refused(ConfKind::TooMany));
-    Ok(())
+fn reads_patterns_of_so_many_bytes(rt: HostRuntime) -> Result<(), NoMemory> {
+    is_longest(&rt, rt.alloc())?;
+    is_longer(&rt, rt.alloc())
+}
+
+/// A jail with these lines of patterns, which begin with a blank.
+fn jail_of(alloc: Global, fail: &str, ignore: &str) -> Result<String, NoMemory> {
+    Ok(format!(in alloc; "[j]\nenabled = on\nnone =\nfailregex =\n{fail}ignoreregex =\n{ignore}")?)
+}
+
+/// What a jail with these lines of patterns comes to.
+fn read_lines(alloc: Global, fail: &str, ignore: &str) -> Told {
+    let jail = jail_of(alloc, fail, ignore)?;
+    read(alloc, &[("jail.conf", jail.as_str())])
 }
 
 /// So many patterns are read from these lines.
@@ -60,40 +64,54 @@ fn are_counted(
     alloc: Global,
     fail: &str,
     ignore: &str,
-    want: &Counts,
-) -> Result<(), Fail> {
-    let counts = count(alloc, fail, ignore)?;
-    same(rt, (fail.len(), ignore.len()), &counts, want);
+    want: (usize, usize),
+) -> Result<(), NoMemory> {
+    let told = read_lines(alloc, fail, ignore);
+    same(rt, (fail.len(), ignore.len()), counts(&told), Some(want));
     Ok(())
 }
 
-/// So many patterns of failures.
-fn hosts(alloc: Global, times: usize) -> Result<Text, NoMemory> {
-    repeated(alloc, " <HOST>\n", times, "")
+/// These lines of ignored patterns are too many.
+fn are_too_many(rt: &impl Abort, alloc: Global, fail: &str, ignore: &str) -> Result<(), NoMemory> {
+    let told = read_lines(alloc, fail, ignore);
+    let at = (fail.len(), ignore.len());
+    tells(rt, alloc, at, &told, "jail.conf|j|ignoreregex|TooMany")
 }
+
+const HOST_LINE: &str = " <HOST>\n";
+
+fn most_are_ignored(rt: &impl Abort, alloc: Global) -> Result<(), NoMemory> {
+    let most = repeated(alloc, " a\n", 512, "")?;
+    are_counted(rt, alloc, "", most.as_str(), (0, 512))?;
+    are_too_many(rt, alloc, HOST_LINE, most.as_str())
+}
+
+fn more_are_ignored(rt: &impl Abort, alloc: Global) -> Result<(), NoMemory> {
+    let more = repeated(alloc, " a\n", 513, "")?;
+    are_too_many(rt, alloc, "", more.as_str())
+}
+
+/// So many patterns of failures are read, and so many of lines that are ignored.
+fn hosts_are_counted(
+    rt: &impl Abort,
+    alloc: Global,
+    times: usize,
+    ignore: &str,
+    want: usize,
+) -> Result<(), NoMemory> {
+    let hosts = repeated(alloc, HOST_LINE, times, "")?;
+    are_counted(rt, alloc, hosts.as_str(), ignore, (times, want))
+}
+
+/// One pattern, and lines that are empty.
+const BLANK: &str = " a\n %(none)s\n %(none)s %(none)s\n";
 
 #[test]
-fn reads_so_many_patterns(rt: HostRuntime) -> Result<(), Fail> {
-    let alloc = rt.alloc();
-    let most = repeated(alloc, " a\n", 512, "")?;
-    let more = repeated(alloc, " a\n", 513, "")?;
-    are_counted(&rt, alloc, "", most.as_str(), &Ok((0, 512)))?;
-    let too_many = refused(ConfKind::TooMany);
-    are_counted(&rt, alloc, "", more.as_str(), &too_many)?;
-    are_counted(&rt, alloc, " <HOST>\n", most.as_str(), &too_many)?;
-    let blank = " a\n %(none)s\n %(none)s %(none)s\n";
-    let but_one = hosts(alloc, 511)?;
-    are_counted(&rt, alloc, but_one.as_str(), blank, &Ok((511, 1)))?;
-    let all = hosts(alloc, 512)?;
-    are_counted(&rt, alloc, all.as_str(), "", &Ok((512, 0)))
-}
-
-fn have_bad_tags(rt: &impl Abort, alloc: Global, texts: &[&str]) -> Result<(), Fail> {
-    for text in texts {
-        let kind = kind_of(jail_with(alloc, "ignoreregex", text)?);
-        same(rt, *text, &kind, &Some(ConfKind::BadTag));
-    }
-    Ok(())
+fn reads_so_many_patterns(rt: HostRuntime) -> Result<(), NoMemory> {
+    most_are_ignored(&rt, rt.alloc())?;
+    more_are_ignored(&rt, rt.alloc())?;
+    hosts_are_counted(&rt, rt.alloc(), 511, BLANK, 1)?;
+    hosts_are_counted(&rt, rt.alloc(), 512, "", 0)
 }
 
 const BAD_TAGS: [&str; 9] = [
@@ -108,42 +126,30 @@ const BAD_TAGS: [&str; 9] = [
     "<F-CONTENT>",
 ];
 
-/// The kind of a refusal, where there is one.
-fn kind_of(read: Read) -> Option<ConfKind> {
-    match read {
-        Err(Refusal::Refused(kind)) => Some(kind),
-        Err(Refusal::NoMemory) => None,
-        Ok(_jail) => None,
-    }
-}
-
-/// Rows of a text and the kind of its refusal.
-fn are_refused_for_hosts(
-    rt: &impl Abort,
-    alloc: Global,
-    rows: &[(&str, ConfKind)],
-) -> Result<(), Fail> {
-    for (text, want) in rows {
-        let kind = kind_of(jail_with(alloc, "failregex", text)?);
-        same(rt, *text, kind.as_ref(), Some(want));
-    }
-    Ok(())
-}
-
-const BAD_HOSTS: [(&str, ConfKind); 5] = [
-    ("a", ConfKind::NoHost),
-    ("a<SKIPLINES>", ConfKind::NoHost),
-    ("<HOST> <ADDR> <SUBNET>", ConfKind::TwoHosts),
-    ("<HOST> <SUBNET>", ConfKind::BadTag),
-    ("<HOST>\n a\n <SUBNET>", ConfKind::NoHost),
+const BAD_HOSTS: [(&str, &str, &str); 5] = [
+    ("failregex", "a", "jail.conf|j|failregex|NoHost"),
+    ("failregex", "a<SKIPLINES>", "jail.conf|j|failregex|NoHost"),
+    (
+        "failregex",
+        "<HOST> <ADDR> <SUBNET>",
+        "jail.conf|j|failregex|TwoHosts",
+    ),
+    (
+        "failregex",
+        "<HOST> <SUBNET>",
+        "jail.conf|j|failregex|BadTag",
+    ),
+    (
+        "failregex",
+        "<HOST>\n a\n <SUBNET>",
+        "jail.conf|j|failregex|NoHost",
+    ),
 ];
 
-fn are_patterns(rt: &impl Abort, alloc: Global, texts: &[&str]) -> Result<(), Fail> {
+fn are_patterns(rt: &impl Abort, alloc: Global, texts: &[&str]) {
     for text in texts {
-        let read = fail_count(alloc, text)?;
-        same(rt, *text, &read, &Ok(1));
+        is_pattern(rt, alloc, text);
     }
-    Ok(())
 }
 
 const PATTERNS: [&str; 4] = [
@@ -154,27 +160,26 @@ const PATTERNS: [&str; 4] = [
 ];
 
 #[test]
-fn refuses_patterns(rt: HostRuntime) -> Result<(), Fail> {
-    have_bad_tags(&rt, rt.alloc(), &BAD_TAGS)?;
-    are_refused_for_hosts(&rt, rt.alloc(), &BAD_HOSTS)?;
-    are_patterns(&rt, rt.alloc(), &PATTERNS)
+fn refuses_patterns(rt: HostRuntime) -> Result<(), NoMemory> {
+    let want = "jail.conf|j|ignoreregex|BadTag";
+    are_told_with(&rt, rt.alloc(), "ignoreregex", &BAD_TAGS, want)?;
+    are_patterns(&rt, rt.alloc(), &PATTERNS);
+    are_told(&rt, rt.alloc(), &BAD_HOSTS)
 }
 
-/// What is told of a filter with this pattern of what a line has to match first.
-fn told_of_prefix(alloc: Global, text: &str) -> Result<String, Fail> {
-    let filter = format!(in alloc; "[Definition]\nprefregex = {text}\n")?;
-    let files = [
-        ("filter.d/f.conf", filter.as_str()),
-        ("jail.conf", "[j]\nenabled = on\nfilter = f\n"),
-    ];
-    told(alloc, files.as_slice())
-}
+const FILTERED: (&str, &str) = ("jail.conf", "[j]\nenabled = on\nfilter = f\n");
 
-/// Texts of which that is told.
-fn are_prefixes(rt: &impl Abort, alloc: Global, texts: &[&str], want: &str) -> Result<(), Fail> {
+/// Patterns of what a line has to match first, of which that is told.
+fn are_prefixes(
+    rt: &impl Abort,
+    alloc: Global,
+    texts: &[&str],
+    want: &str,
+) -> Result<(), NoMemory> {
     for &text in texts {
-        let told = told_of_prefix(alloc, text)?;
-        same(rt, text, told.as_str(), want);
+        let filter = format!(in alloc; "[Definition]\nprefregex = {text}\n")?;
+        let files = [("filter.d/f.conf", filter.as_str()), FILTERED];
+        is_told(rt, alloc, text, &files, want)?;
     }
     Ok(())
 }
@@ -194,12 +199,8 @@ const NO_PREFIXES: [&str; 6] = [
 ];
 
 #[test]
-fn reads_what_a_line_has_to_match_first(rt: HostRuntime) -> Result<(), Fail> {
+fn reads_what_a_line_has_to_match_first(rt: HostRuntime) -> Result<(), NoMemory> {
     are_prefixes(&rt, rt.alloc(), &PREFIXES, "read")?;
-    are_prefixes(
-        &rt,
-        rt.alloc(),
-        &NO_PREFIXES,
-        "filter.d/f.conf|j|prefregex|BadTag",
-    )
+    let want = "filter.d/f.conf|j|prefregex|BadTag";
+    are_prefixes(&rt, rt.alloc(), &NO_PREFIXES, want)
 }

@@ -1,25 +1,25 @@
 //! Refusals as they print.
+
 use crate::rows::same;
-use crate::trees::tree;
-use f2b_base::Text;
-use jail_conf::{ConfKind, Fail as Refusal, conf};
+use crate::trees::{Told, read};
+use f2b_base::{NoMemory, Text};
+use jail_conf::{ConfKind, Fail as Refusal};
 use std::alloc::Global;
 use std::process::Abort;
-use std::test::Fail;
 
-/// The refusal of a configuration with this `jail.conf`, as it prints, or nothing where it is accepted.
-fn printed(alloc: Global, jail: &str) -> Result<Text, Fail> {
-    let files = [("jail.conf", jail)];
-    match conf(alloc, &tree(alloc, files.as_slice())?) {
-        Err(Refusal::Refused(error)) => Ok(error.text(alloc)?),
+/// A refusal, as it prints, or nothing where there is none.
+fn printed(alloc: Global, told: &Told) -> Result<Text, NoMemory> {
+    match told {
+        Err(Refusal::Refused(error)) => error.text(alloc),
         _ => Ok(Text::new(alloc)),
     }
 }
 
 /// Rows of a `jail.conf`, and what is printed of it.
-fn are_printed(rt: &impl Abort, alloc: Global, rows: &[(&str, &str)]) -> Result<(), Fail> {
+fn are_printed(rt: &impl Abort, alloc: Global, rows: &[(&str, &str)]) -> Result<(), NoMemory> {
     for &(jail, want) in rows {
-        let text = printed(alloc, jail)?;
+        let told = read(alloc, &[("jail.conf", jail)]);
+        let text = printed(alloc, &told)?;
         same(rt, jail, text.as_str(), want);
     }
     Ok(())
@@ -58,14 +58,19 @@ const REFUSALS: [(&str, &str); 8] = [
 ];
 
 #[test]
-fn prints_a_refusal_with_its_place(rt: HostRuntime) -> Result<(), Fail> {
+fn prints_a_refusal_with_its_place(rt: HostRuntime) -> Result<(), NoMemory> {
     are_printed(&rt, rt.alloc(), &REFUSALS)
+}
+
+fn helps(rt: &impl Abort, kind: &ConfKind, want: &str) {
+    same(rt, "help", kind.help(), want);
 }
 
 #[test]
 fn helps_by_what_is_allowed(rt: HostRuntime) {
-    assert_eq!(rt;
-        ConfKind::BadName.help(),
-        "the name of a jail has 1 to 64 of A-Z a-z 0-9 _ . -"
+    helps(
+        &rt,
+        &ConfKind::BadName,
+        "the name of a jail has 1 to 64 of A-Z a-z 0-9 _ . -",
     );
 }

@@ -3,11 +3,11 @@
 use std::fmt::Debug;
 use std::process::Abort;
 
-/// What was seen at a row is what was wanted.
+/// Fails at this row unless what was seen is what is wanted.
 pub(crate) fn same<A, T>(rt: &impl Abort, at: A, saw: T, want: T)
 where
     A: Copy + Debug,
     T: Copy + PartialEq + Debug,
 {
-    assert_eq!(rt; saw, want, "at {at:?}");
+    assert!(rt; saw == want, "at {at:?}: {saw:?}, not {want:?}");
 }

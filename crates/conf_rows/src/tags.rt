@@ -6,34 +6,35 @@ use f2b_model::Fill;
 use ini_interp::{InterpError, Sections, read_file};
 use std::alloc::Global;
 use std::process::Abort;
-use std::test::Fail;
 use tag_subst::{TagError, escape, render, substitute};
 
-/// The answer as one text.
-fn shown(alloc: Global, answer: Result<Text, TagError>) -> Result<String, NoMemory> {
+/// What an answer says, and the text or the name with it.
+fn said(answer: &Result<Text, TagError>) -> (&'static str, &str) {
     match answer {
-        Ok(text) => {
-            let text = text.as_str();
-            Ok(format!(in alloc; "= {text}")?)
-        }
-        Err(TagError::TooDeep(name)) => {
-            let name = name.as_str();
-            Ok(format!(in alloc; "too deep {name}")?)
-        }
-        Err(TagError::Interp(InterpError::Missing(name))) => {
-            let name = name.as_str();
-            Ok(format!(in alloc; "missing {name}")?)
-        }
-        Err(TagError::Interp(InterpError::TooDeep(name))) => {
-            let name = name.as_str();
-            Ok(format!(in alloc; "value too deep {name}")?)
-        }
-        Err(TagError::Interp(InterpError::BadPercent(at))) => {
-            Ok(format!(in alloc; "percent {at}")?)
-        }
-        Err(TagError::Interp(InterpError::NoMemory)) => Ok(String::from_str(alloc, "misled")?),
-        Err(TagError::NoMemory) => Ok(String::from_str(alloc, "no memory")?),
+        Ok(text) => ("=", text.as_str()),
+        Err(TagError::TooDeep(name)) => ("too deep", name.as_str()),
+        Err(TagError::Interp(error)) => said_of_value(error),
+        Err(TagError::NoMemory) => ("no memory", ""),
     }
+}
+
+/// The same of the fault of a value.
+fn said_of_value(error: &InterpError) -> (&'static str, &str) {
+    match error {
+        InterpError::Missing(name) => ("missing", name.as_str()),
+        InterpError::TooDeep(name) => ("value too deep", name.as_str()),
+        InterpError::BadPercent(_) => ("percent", ""),
+        InterpError::NoMemory => ("misled", ""),
+    }
+}
+
+/// The answer as one text.
+fn shown(alloc: Global, answer: &Result<Text, TagError>) -> Result<String, NoMemory> {
+    if let Err(TagError::Interp(InterpError::BadPercent(at))) = answer {
+        return Ok(format!(in alloc; "percent {at}")?);
+    }
+    let (word, text) = said(answer);
+    Ok(format!(in alloc; "{word} {text}")?)
 }
 
 /// Items of the scope of an action, and of sections outside it.
@@ -45,19 +46,33 @@ const CHAIN: &[u8] =
     b"[Definition]\nd0=<d1>\nd1=<d2>\nd2=<d3>\nd3=<d4>\nd4=<d5>\nd5=<d6>\nd6=<d7>\nd7=<d8>\nd8=<d9>\nd9=<d10>\nd10=end\ne=d1\nempty=\n";
 
 /// The scope of an action.
-fn scope(alloc: Global) -> Result<Seq<Text>, NoMemory> {
-    let mut scope = Seq::new(alloc);
-    for section in ["]options", "Init", "Definition", "DEFAULT"] {
-        scope.push(Text::from_str(alloc, section)?)?;
+const SCOPE: [&str; 4] = ["]options", "Init", "Definition", "DEFAULT"];
+
+fn texts(alloc: Global, list: &[&str]) -> Result<Seq<Text>, NoMemory> {
+    let mut texts = Seq::new(alloc);
+    for text in list {
+        texts.push(Text::from_str(alloc, text)?)?;
     }
-    Ok(scope)
+    Ok(texts)
+}
+
+fn put_options(items: &mut Sections) -> Result<(), NoMemory> {
+    items.put("]options", "port", "2222")?;
+    items.put("]options", "o", "opt")
+}
+
+/// Items, which read.
+fn read(rt: &impl Abort, alloc: Global, bytes: &[u8]) -> Sections {
+    match read_file(alloc, bytes) {
+        Ok(items) => items,
+        Err(_) => panic!(rt; "not read"),
+    }
 }
 
 /// The items, with options.
-fn items(alloc: Global) -> Result<Sections, Fail> {
-    let mut items = read_file(alloc, ITEMS)?;
-    items.put("]options", "port", "2222")?;
-    items.put("]options", "o", "opt")?;
+fn items(rt: &impl Abort, alloc: Global) -> Result<Sections, NoMemory> {
+    let mut items = read(rt, alloc, ITEMS);
+    put_options(&mut items)?;
     Ok(items)
 }
 
@@ -67,13 +82,24 @@ fn are_replaced(
     alloc: Global,
     items: &Sections,
     rows: &[(&str, &str)],
-) -> Result<(), Fail> {
-    let scope = scope(alloc)?;
+) -> Result<(), NoMemory> {
+    let scope = texts(alloc, &SCOPE)?;
     for &(text, want) in rows {
-        let got = shown(alloc, substitute(alloc, text, items, &scope))?;
-        same(rt, text, got.as_str(), want);
+        let answer = substitute(alloc, text, items, &scope);
+        let shown = shown(alloc, &answer)?;
+        same(rt, text, shown.as_str(), want);
     }
     Ok(())
+}
+
+/// The same of the items with options.
+fn are_replaced_first(
+    rt: &impl Abort,
+    alloc: Global,
+    rows: &[(&str, &str)],
+) -> Result<(), NoMemory> {
+    let items = items(rt, alloc)?;
+    are_replaced(rt, alloc, &items, rows)
 }
 
 const STATIC_TAGS: [(&str, &str); 16] = [
@@ -97,8 +123,8 @@ const STATIC_TAGS: [(&str, &str); 16] = [
 ];
 
 #[test]
-fn replaces_static_tags(rt: HostRuntime) -> Result<(), Fail> {
-    are_replaced(&rt, rt.alloc(), &items(rt.alloc())?, &STATIC_TAGS)
+fn replaces_static_tags(rt: HostRuntime) -> Result<(), NoMemory> {
+    are_replaced_first(&rt, rt.alloc(), &STATIC_TAGS)
 }
 
 const NO_TAGS: [(&str, &str); 15] = [
@@ -121,8 +147,8 @@ const NO_TAGS: [(&str, &str); 15] = [
 ];
 
 #[test]
-fn leaves_what_is_no_tag(rt: HostRuntime) -> Result<(), Fail> {
-    are_replaced(&rt, rt.alloc(), &items(rt.alloc())?, &NO_TAGS)
+fn leaves_what_is_no_tag(rt: HostRuntime) -> Result<(), NoMemory> {
+    are_replaced_first(&rt, rt.alloc(), &NO_TAGS)
 }
 
 const WITHOUT_AN_ITEM: [(&str, &str); 16] = [
@@ -147,8 +173,8 @@ const WITHOUT_AN_ITEM: [(&str, &str); 16] = [
 ];
 
 #[test]
-fn leaves_tags_without_an_item(rt: HostRuntime) -> Result<(), Fail> {
-    are_replaced(&rt, rt.alloc(), &items(rt.alloc())?, &WITHOUT_AN_ITEM)
+fn leaves_tags_without_an_item(rt: HostRuntime) -> Result<(), NoMemory> {
+    are_replaced_first(&rt, rt.alloc(), &WITHOUT_AN_ITEM)
 }
 
 const IN_SECTIONS: [(&str, &str); 16] = [
@@ -171,8 +197,8 @@ const IN_SECTIONS: [(&str, &str); 16] = [
 ];
 
 #[test]
-fn looks_in_sections(rt: HostRuntime) -> Result<(), Fail> {
-    are_replaced(&rt, rt.alloc(), &items(rt.alloc())?, &IN_SECTIONS)
+fn looks_in_sections(rt: HostRuntime) -> Result<(), NoMemory> {
+    are_replaced_first(&rt, rt.alloc(), &IN_SECTIONS)
 }
 
 const TEN_DEEP: [(&str, &str); 7] = [
@@ -189,22 +215,24 @@ const TEN_DEEP: [(&str, &str); 7] = [
 // The depth is tested before the look-up, and a reserved name has none.
 const ABSENT: [(&str, &str); 1] = [("<d1>", "too deep Gone")];
 
-#[test]
-fn replaces_ten_deep(rt: HostRuntime) -> Result<(), Fail> {
-    let mut items = read_file(rt.alloc(), CHAIN)?;
-    are_replaced(&rt, rt.alloc(), &items, &TEN_DEEP)?;
+fn are_replaced_ten_deep(
+    rt: &impl Abort,
+    alloc: Global,
+    items: &mut Sections,
+) -> Result<(), NoMemory> {
+    are_replaced(rt, alloc, items, &TEN_DEEP)?;
     items.put("Definition", "d10", "<ip><Definition/Gone>")?;
-    are_replaced(&rt, rt.alloc(), &items, &ABSENT)
+    are_replaced(rt, alloc, items, &ABSENT)
+}
+
+#[test]
+fn replaces_ten_deep(rt: HostRuntime) -> Result<(), NoMemory> {
+    are_replaced_ten_deep(&rt, rt.alloc(), &mut read(&rt, rt.alloc(), CHAIN))
 }
 
 /// What a ban's tags stand for.
-fn fill(
-    alloc: Global,
-    ip: Option<Addr>,
-    family: Family,
-    bantime: i64,
-    matches: &str,
-) -> Result<Fill, NoMemory> {
+fn fill_of(alloc: Global, ban: Ban, matches: &str) -> Result<Fill, NoMemory> {
+    let (ip, family, bantime) = ban;
     Ok(Fill {
         ip,
         family,
@@ -216,16 +244,21 @@ fn fill(
     })
 }
 
-/// Rows of a template and what is rendered of it.
+/// A ban, by its address, its family and its seconds.
+type Ban = (Option<Addr>, Family, i64);
+
+/// Rows of a template and what is rendered of it for a ban with these lines.
 fn are_filled(
     rt: &impl Abort,
     alloc: Global,
-    fill: &Fill,
+    ban: Ban,
+    matches: &str,
     rows: &[(&str, &str)],
-) -> Result<(), Fail> {
+) -> Result<(), NoMemory> {
+    let fill = fill_of(alloc, ban, matches)?;
     for &(template, want) in rows {
-        let got = render(alloc, template, fill)?;
-        same(rt, template, got.as_str(), want);
+        let text = render(alloc, template, &fill)?;
+        same(rt, template, text.as_str(), want);
     }
     Ok(())
 }
@@ -251,12 +284,12 @@ const DYNAMIC_TAGS: [(&str, &str); 18] = [
     ("", ""),
 ];
 
+const OF_IPV4: Ban = (Some(Addr::V4(0xc000_0207)), Family::Inet4, 600);
+
 #[test]
-fn fills_dynamic_tags_in(rt: HostRuntime) -> Result<(), Fail> {
-    let address = Some(Addr::V4(0xc000_0207));
+fn fills_dynamic_tags_in(rt: HostRuntime) -> Result<(), NoMemory> {
     let safe = escape(rt.alloc(), "a;b $c")?;
-    let fill = fill(rt.alloc(), address, Family::Inet4, 600, safe.as_str())?;
-    are_filled(&rt, rt.alloc(), &fill, &DYNAMIC_TAGS)
+    are_filled(&rt, rt.alloc(), OF_IPV4, safe.as_str(), &DYNAMIC_TAGS)
 }
 
 const OTHER_BANS: [(&str, &str); 4] = [
@@ -270,20 +303,25 @@ const OTHER_BANS: [(&str, &str); 4] = [
 // A Start or a Stop has no address.
 const NO_ADDRESS: [(&str, &str); 1] = [("[<ip>] <family> <bantime> [<matches>]", "[] inet4 0 []")];
 
+const OF_IPV6: Ban = (
+    Some(Addr::V6(0x2001_0db8_0000_0000_0000_0000_0000_0001)),
+    Family::Inet6,
+    -1,
+);
+
+const OF_NONE: Ban = (None, Family::Both, 0);
+
 #[test]
-fn fills_in_other_bans(rt: HostRuntime) -> Result<(), Fail> {
-    let address = Some(Addr::V6(0x2001_0db8_0000_0000_0000_0000_0000_0001));
-    let tagged = fill(rt.alloc(), address, Family::Inet6, -1, "<ip>$(x)")?;
-    are_filled(&rt, rt.alloc(), &tagged, &OTHER_BANS)?;
-    let started = fill(rt.alloc(), None, Family::Both, 0, "")?;
-    are_filled(&rt, rt.alloc(), &started, &NO_ADDRESS)
+fn fills_in_other_bans(rt: HostRuntime) -> Result<(), NoMemory> {
+    are_filled(&rt, rt.alloc(), OF_IPV6, "<ip>$(x)", &OTHER_BANS)?;
+    are_filled(&rt, rt.alloc(), OF_NONE, "", &NO_ADDRESS)
 }
 
 /// Rows of a text and what is safe of it.
-fn are_escaped(rt: &impl Abort, alloc: Global, rows: &[(&str, &str)]) -> Result<(), Fail> {
+fn are_escaped(rt: &impl Abort, alloc: Global, rows: &[(&str, &str)]) -> Result<(), NoMemory> {
     for &(text, want) in rows {
-        let got = escape(alloc, text)?;
-        same(rt, text, got.as_str(), want);
+        let safe = escape(alloc, text)?;
+        same(rt, text, safe.as_str(), want);
     }
     Ok(())
 }
@@ -302,6 +340,6 @@ const ESCAPED: [(&str, &str); 10] = [
 ];
 
 #[test]
-fn escapes(rt: HostRuntime) -> Result<(), Fail> {
+fn escapes(rt: HostRuntime) -> Result<(), NoMemory> {
     are_escaped(&rt, rt.alloc(), &ESCAPED)
 }

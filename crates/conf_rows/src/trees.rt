@@ -1,52 +1,101 @@
 //! Configurations of a few files, and what they come to.
-use f2b_base::{Bytes, JailDef, NoMemory, Plain, Seq, Text, Tree, TreeFile};
-use jail_conf::{ConfKind, Fail as Refusal, conf};
-use std::alloc::Global;
-use std::test::Fail;
 
-fn file_of(alloc: Global, path: &str, content: &str) -> Result<TreeFile, NoMemory> {
+use crate::rows::same;
+use f2b_base::{Bytes, JailDef, NoMemory, Seq, Text, Tree, TreeFile};
+use jail_conf::{ConfError, ConfFail, Fail as Refusal, Settings, conf};
+use std::alloc::Global;
+use std::fmt::Debug;
+use std::process::Abort;
+
+fn file_of(alloc: Global, path: &str, content: &[u8]) -> Result<TreeFile, NoMemory> {
     Ok(TreeFile {
         path: Text::from_str(alloc, path)?,
-        content: Bytes::from_slice(alloc, content.as_bytes())?,
+        content: Bytes::from_slice(alloc, content)?,
     })
 }
 
 /// A tree of these files, each a path and its content.
-pub(crate) fn tree(alloc: Global, files: &[(&str, &str)]) -> Result<Tree, NoMemory> {
+fn tree(alloc: Global, files: &[(&str, &str)]) -> Result<Tree, NoMemory> {
     let mut listed = Seq::new(alloc);
-    for &(path, content) in files {
-        listed.push(file_of(alloc, path, content)?)?;
+    for (path, content) in files {
+        listed.push(file_of(alloc, path, content.as_bytes())?)?;
     }
     Ok(Tree { files: listed })
 }
 
+/// A tree with one file of these bytes.
+fn tree_of_bytes(alloc: Global, path: &str, bytes: &[u8]) -> Result<Tree, NoMemory> {
+    let mut files = Seq::new(alloc);
+    files.push(file_of(alloc, path, bytes)?)?;
+    Ok(Tree { files })
+}
+
+/// What a configuration comes to.
+pub(crate) type Told = Result<Settings, ConfFail>;
+
+/// What the configuration of these files comes to.
+pub(crate) fn read(alloc: Global, files: &[(&str, &str)]) -> Told {
+    let tree = tree(alloc, files)?;
+    conf(alloc, &tree)
+}
+
+/// What the configuration of one file of these bytes comes to.
+pub(crate) fn read_bytes(alloc: Global, path: &str, bytes: &[u8]) -> Told {
+    let tree = tree_of_bytes(alloc, path, bytes)?;
+    conf(alloc, &tree)
+}
+
+/// File, section, item and kind of a refusal.
+fn refusal_text(alloc: Global, error: &ConfError) -> Result<String, NoMemory> {
+    let file = error.file.as_str();
+    let section = error.section.as_str();
+    let name = error.name.as_str();
+    let kind = &error.kind;
+    Ok(format!(in alloc; "{file}|{section}|{name}|{kind:?}")?)
+}
+
 /// What is told of a configuration: file, section, item and kind of the refusal, or `read`.
-pub(crate) fn told(alloc: Global, files: &[(&str, &str)]) -> Result<String, Fail> {
-    match conf(alloc, &tree(alloc, files)?) {
+fn text_of(alloc: Global, told: &Told) -> Result<String, NoMemory> {
+    match told {
         Ok(_) => Ok(String::from_str(alloc, "read")?),
-        Err(Refusal::Refused(error)) => {
-            let file = error.file.as_str();
-            let section = error.section.as_str();
-            let name = error.name.as_str();
-            let kind = &error.kind;
-            Ok(format!(in alloc; "{file}|{section}|{name}|{kind:?}")?)
-        }
+        Err(Refusal::Refused(error)) => refusal_text(alloc, error),
         Err(Refusal::NoMemory) => Ok(String::from_str(alloc, "no memory")?),
     }
 }
 
-/// The definition of a jail, or the kind of its refusal.
-pub(crate) type Read = Result<JailDef, Refusal<ConfKind>>;
+/// Fails at this row unless that is told of a configuration.
+pub(crate) fn tells<A: Copy + Debug>(
+    rt: &impl Abort,
+    alloc: Global,
+    at: A,
+    told: &Told,
+    want: &str,
+) -> Result<(), NoMemory> {
+    let text = text_of(alloc, told)?;
+    same(rt, at, text.as_str(), want);
+    Ok(())
+}
 
-/// What the one jail of a configuration comes to.
-pub(crate) fn only_jail(alloc: Global, files: &[(&str, &str)]) -> Result<Read, Fail> {
-    match conf(alloc, &tree(alloc, files)?) {
+/// Fails at this row unless that is told of the configuration of these files.
+pub(crate) fn is_told<A: Copy + Debug>(
+    rt: &impl Abort,
+    alloc: Global,
+    at: A,
+    files: &[(&str, &str)],
+    want: &str,
+) -> Result<(), NoMemory> {
+    let told = read(alloc, files);
+    tells(rt, alloc, at, &told, want)
+}
+
+/// The one jail of a configuration that is read.
+pub(crate) fn jail_in(told: &Told) -> Option<&JailDef> {
+    match told {
         Ok(settings) => match settings.defs.jails.as_slice() {
-            [jail] => Ok(Ok(jail.copy()?)),
-            _ => Err(Fail::from("not one jail")),
+            [jail] => Some(jail),
+            _ => None,
         },
-        Err(Refusal::Refused(error)) => Ok(Err(Refusal::Refused(error.kind))),
-        Err(Refusal::NoMemory) => Ok(Err(Refusal::NoMemory)),
+        Err(_) => None,
     }
 }
 
@@ -55,9 +104,36 @@ pub(crate) fn with_item(alloc: Global, name: &str, text: &str) -> Result<String,
     Ok(format!(in alloc; "[j]\nenabled = on\nnone =\n{name} = %(none)s{text}%(none)s\n")?)
 }
 
-/// What the jail with this item comes to.
-pub(crate) fn jail_with(alloc: Global, name: &str, text: &str) -> Result<Read, Fail> {
+/// What a jail with this item comes to.
+pub(crate) fn read_with(alloc: Global, name: &str, text: &str) -> Told {
     let jail = with_item(alloc, name, text)?;
-    let files = [("jail.conf", jail.as_str())];
-    only_jail(alloc, files.as_slice())
+    read(alloc, &[("jail.conf", jail.as_str())])
+}
+
+/// Fails unless that is told of a jail with this item, for each of these texts.
+pub(crate) fn are_told_with(
+    rt: &impl Abort,
+    alloc: Global,
+    name: &str,
+    texts: &[&str],
+    want: &str,
+) -> Result<(), NoMemory> {
+    for &text in texts {
+        let told = read_with(alloc, name, text);
+        tells(rt, alloc, (name, text), &told, want)?;
+    }
+    Ok(())
+}
+
+/// Rows of an item's name, its text, and what is told of a jail with it.
+pub(crate) fn are_told(
+    rt: &impl Abort,
+    alloc: Global,
+    rows: &[(&str, &str, &str)],
+) -> Result<(), NoMemory> {
+    for &(name, text, want) in rows {
+        let told = read_with(alloc, name, text);
+        tells(rt, alloc, (name, text), &told, want)?;
+    }
+    Ok(())
 }

@@ -1,14 +1,13 @@
 //! Worked lines. The expected seconds come from another calendar, and the offsets from the lines as they are written.
-ghost use Rattle.std.specs.Prelude.{IfOk, IfSome};
+ghost use Rattle.std.specs.Prelude.{IfOk};
 ghost use Rattle.date_detect.specs.Forms.{HasDatePattern};
 
-use crate::rows::same;
+use crate::rows::{is_so, same};
 use date_detect::{BuildError, Dates, Found, Searcher, is_date_pattern};
 use f2b_base::{DateSpec, NoMemory, Text};
 use f2b_world::{Made, Outside, Patterns, build_pattern};
 use std::alloc::Global;
 use std::process::Abort;
-use std::test::*;
 
 /// 2024-03-01T10:00:00Z.
 const NOW: u64 = 1_709_287_200;
@@ -40,19 +39,28 @@ fn at(start: u64, end: u64, secs: i64) -> Found {
     Found { start, end, secs }
 }
 
-/// The spec of a user's pattern, at the beginning of a line or anywhere, where it is a date pattern.
-fn own(alloc: Global, anchored: bool, text: &str) -> Result<Option<DateSpec>, NoMemory>
-    ensures { IfOk result (λ spec. IfSome spec HasDatePattern) }
+/// The dates of a spec.
+fn built(rt: &impl Abort, alloc: Global, spec: &DateSpec) -> Dates
+    requires { HasDatePattern spec.now }
 {
-    if !is_date_pattern(text) {
-        return Ok(None);
+    let mut library = Library { alloc };
+    match Dates::build(alloc, &mut library, spec) {
+        Ok(dates) => dates,
+        Err(_) => panic!(rt; "not built"),
     }
+}
+
+/// The spec of a user's pattern, at the beginning of a line or anywhere.
+fn own(rt: &impl Abort, alloc: Global, anchored: bool, text: &str) -> Result<DateSpec, NoMemory>
+    ensures { IfOk result HasDatePattern }
+{
+    is_so(rt, text, is_date_pattern(text));
     let text = Text::from_str(alloc, text)?;
-    Ok(Some(if anchored {
+    Ok(if anchored {
         DateSpec::AnchoredPattern(text)
     } else {
         DateSpec::Pattern(text)
-    }))
+    })
 }
 
 /// Where a date begins and ends, and its seconds.
@@ -69,11 +77,11 @@ fn are_found(
     alloc: Global,
     dates: &Dates,
     rows: &[(&str, u64, i32, Option<Place>)],
-) -> Result<(), Fail> {
+) -> Result<(), NoMemory> {
     let mut searcher = dates.searcher(alloc)?;
     for &(line, now, zone, found) in rows {
-        let at = (line, now, zone);
-        same(rt, at, searcher.found(line, now, zone), wanted(found));
+        let saw = searcher.found(line, now, zone);
+        same(rt, (line, now, zone), saw, wanted(found));
     }
     Ok(())
 }
@@ -305,9 +313,8 @@ const USUAL_DATES: [(&str, u64, i32, Option<Place>); 83] = [
 ];
 
 #[test]
-fn usual_dates(rt: HostRuntime) -> Result<(), Fail> {
-    let mut library = Library { alloc: rt.alloc() };
-    let dates = Dates::build(rt.alloc(), &mut library, &DateSpec::Default)?;
+fn usual_dates(rt: HostRuntime) -> Result<(), NoMemory> {
+    let dates = built(&rt, rt.alloc(), &DateSpec::Default);
     are_found(&rt, rt.alloc(), &dates, &USUAL_DATES)
 }
 
@@ -343,53 +350,62 @@ const AT_THE_BEGINNING: [(&str, u64, i32, Option<Place>); 13] = [
 ];
 
 #[test]
-fn dates_at_the_beginning(rt: HostRuntime) -> Result<(), Fail> {
-    let mut library = Library { alloc: rt.alloc() };
-    let dates = Dates::build(rt.alloc(), &mut library, &DateSpec::Anchored)?;
+fn dates_at_the_beginning(rt: HostRuntime) -> Result<(), NoMemory> {
+    let dates = built(&rt, rt.alloc(), &DateSpec::Anchored);
     are_found(&rt, rt.alloc(), &dates, &AT_THE_BEGINNING)
 }
 
 const THREE_FORMS: &str = "Mar  1 09:59:00 1709287200 2024-03-01T10:00:00Z";
 
-/// The date of the line of three forms.
-fn found_by(alloc: Global, spec: &DateSpec) -> Result<Option<Found>, Fail>
+/// The date that a spec finds in the line of three forms.
+fn is_found_by(
+    rt: &impl Abort,
+    alloc: Global,
+    spec: &DateSpec,
+    want: Option<Place>,
+) -> Result<(), NoMemory>
     requires { HasDatePattern spec.now }
 {
-    let mut library = Library { alloc };
-    let dates = Dates::build(alloc, &mut library, spec)?;
-    Ok(dates.find(alloc, THREE_FORMS, NOW, 0)?)
-}
-
-#[test]
-fn dates_of_one_form_or_none(rt: HostRuntime) -> Result<(), Fail> {
-    let epoch = found_by(rt.alloc(), &DateSpec::Epoch)?;
-    same(&rt, "epoch", epoch, Some(at(16, 26, 1_709_287_200)));
-    let iso = found_by(rt.alloc(), &DateSpec::Iso)?;
-    same(&rt, "iso", iso, Some(at(27, 47, 1_709_287_200)));
-    same(&rt, "none", found_by(rt.alloc(), &DateSpec::NoDate)?, None);
+    let dates = built(rt, alloc, spec);
+    let found = dates.find(alloc, THREE_FORMS, NOW, 0)?;
+    same(rt, spec, found, wanted(want));
     Ok(())
 }
 
-/// The dates of a user's pattern.
-fn dates_of(alloc: Global, anchored: bool, pattern: &str) -> Result<Dates, Fail> {
-    let mut library = Library { alloc };
-    match own(alloc, anchored, pattern)? {
-        Some(spec) => Ok(Dates::build(alloc, &mut library, &spec)?),
-        None => Err(Fail::from("no date pattern")),
-    }
+#[test]
+fn dates_of_one_form_or_none(rt: HostRuntime) -> Result<(), NoMemory> {
+    let epoch = Some((16, 26, 1_709_287_200));
+    is_found_by(&rt, rt.alloc(), &DateSpec::Epoch, epoch)?;
+    let iso = Some((27, 47, 1_709_287_200));
+    is_found_by(&rt, rt.alloc(), &DateSpec::Iso, iso)?;
+    is_found_by(&rt, rt.alloc(), &DateSpec::NoDate, None)
 }
 
-/// The date that a user's pattern finds in a line.
-fn found_by_own(
+/// The dates of a user's pattern.
+fn dates_of(
+    rt: &impl Abort,
     alloc: Global,
     anchored: bool,
     pattern: &str,
-    line: &str,
-    now: u64,
-    zone: i32,
-) -> Result<Option<Found>, Fail> {
-    let dates = dates_of(alloc, anchored, pattern)?;
-    Ok(dates.find(alloc, line, now, zone)?)
+) -> Result<Dates, NoMemory> {
+    let spec = own(rt, alloc, anchored, pattern)?;
+    Ok(built(rt, alloc, &spec))
+}
+
+/// That date is found in a line by a user's pattern.
+fn is_found_by_own(
+    rt: &impl Abort,
+    alloc: Global,
+    anchored: bool,
+    pattern: &str,
+    row: (&str, u64, i32),
+    want: Option<Place>,
+) -> Result<(), NoMemory> {
+    let (line, now, zone) = row;
+    let dates = dates_of(rt, alloc, anchored, pattern)?;
+    let found = dates.find(alloc, line, now, zone)?;
+    same(rt, (pattern, row), found, wanted(want));
+    Ok(())
 }
 
 /// Rows of a pattern, a line, the moment, the zone, and the date that is found.
@@ -397,10 +413,9 @@ fn are_found_by(
     rt: &impl Abort,
     alloc: Global,
     rows: &[(&str, &str, u64, i32, Option<Place>)],
-) -> Result<(), Fail> {
+) -> Result<(), NoMemory> {
     for &(pattern, line, now, zone, found) in rows {
-        let saw = found_by_own(alloc, false, pattern, line, now, zone)?;
-        same(rt, (line, pattern), saw, wanted(found));
+        is_found_by_own(rt, alloc, false, pattern, (line, now, zone), found)?;
     }
     Ok(())
 }
@@ -518,7 +533,7 @@ const OF_A_USER: [(&str, &str, u64, i32, Option<Place>); 19] = [
 ];
 
 #[test]
-fn dates_of_a_user(rt: HostRuntime) -> Result<(), Fail> {
+fn dates_of_a_user(rt: HostRuntime) -> Result<(), NoMemory> {
     are_found_by(&rt, rt.alloc(), &OF_A_USER)
 }
 
@@ -527,10 +542,9 @@ fn are_found_first(
     rt: &impl Abort,
     alloc: Global,
     rows: &[(&str, &str, Option<Place>)],
-) -> Result<(), Fail> {
+) -> Result<(), NoMemory> {
     for &(pattern, line, found) in rows {
-        let saw = found_by_own(alloc, true, pattern, line, NOW, 0)?;
-        same(rt, (line, pattern), saw, wanted(found));
+        is_found_by_own(rt, alloc, true, pattern, (line, NOW, 0), found)?;
     }
     Ok(())
 }
@@ -546,14 +560,14 @@ const OF_A_USER_AT_THE_BEGINNING: [(&str, &str, Option<Place>); 7] = [
 ];
 
 #[test]
-fn dates_of_a_user_at_the_beginning(rt: HostRuntime) -> Result<(), Fail> {
+fn dates_of_a_user_at_the_beginning(rt: HostRuntime) -> Result<(), NoMemory> {
     are_found_first(&rt, rt.alloc(), &OF_A_USER_AT_THE_BEGINNING)
 }
 
 /// Texts that are date patterns, or are not.
 fn are_date_patterns(rt: &impl Abort, texts: &[&str], want: bool) {
-    for text in texts {
-        same(rt, *text, is_date_pattern(text), want);
+    for &text in texts {
+        same(rt, text, is_date_pattern(text), want);
     }
 }
 
@@ -588,19 +602,30 @@ fn date_patterns(rt: HostRuntime) {
     are_date_patterns(&rt, &NO_DATE_PATTERNS, false);
 }
 
-/// Why no dates are built of a pattern.
-fn refused(alloc: Global, text: &str) -> Result<Option<BuildError>, Fail> {
-    let mut library = Library { alloc };
-    match own(alloc, false, text)? {
-        Some(spec) => Ok(Dates::build(alloc, &mut library, &spec).err()),
-        None => Err(Fail::from("no date pattern")),
+/// Why no dates are built, if they are not.
+fn error_of(built: &Result<Dates, BuildError>) -> Option<BuildError> {
+    match built {
+        Ok(_) => None,
+        Err(error) => Some(*error),
     }
 }
 
+/// Why no dates are built of a pattern.
+fn refused(rt: &impl Abort, alloc: Global, text: &str) -> Result<Option<BuildError>, NoMemory> {
+    let spec = own(rt, alloc, false, text)?;
+    let mut library = Library { alloc };
+    let built = Dates::build(alloc, &mut library, &spec);
+    Ok(error_of(&built))
+}
+
 /// Rows of a pattern and why no dates are built of it.
-fn are_refused(rt: &impl Abort, alloc: Global, rows: &[(&str, BuildError)]) -> Result<(), Fail> {
+fn are_refused(
+    rt: &impl Abort,
+    alloc: Global,
+    rows: &[(&str, BuildError)],
+) -> Result<(), NoMemory> {
     for &(text, error) in rows {
-        same(rt, text, refused(alloc, text)?, Some(error));
+        same(rt, text, refused(rt, alloc, text)?, Some(error));
     }
     Ok(())
 }
@@ -613,6 +638,6 @@ const REFUSED: [(&str, BuildError); 4] = [
 ];
 
 #[test]
-fn refused_patterns(rt: HostRuntime) -> Result<(), Fail> {
+fn refused_patterns(rt: HostRuntime) -> Result<(), NoMemory> {
     are_refused(&rt, rt.alloc(), &REFUSED)
 }

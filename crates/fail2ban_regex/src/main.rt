@@ -2,29 +2,36 @@
 //!
 //! What a test is, is in the crates below, over traits of the outside. Here stand these traits over the operating system, and the
 //! words that the program is called with. That files, the clock and standard output are what the system says they are is trusted.
-//! Nothing here knows what a test is.
+//! Nothing here knows what a test is, but for what helps whoever sits at a terminal: why a pattern is refused, and how far a log was
+//! read.
 //!
 //! ```text
 //! let mut output = Output::new(rt.clone()?);
-//! let mut files = RealFiles::new(rt);
+//! let mut files = Watched::new(RealFiles::new(rt), None);
 //! Ok(regex_tool(alloc, words, now, &mut files, &mut output).number())
 //! ```
 #![tactic(auto)]
 
+mod advice;
 mod fault;
 mod files;
 mod output;
 mod regular;
+mod terminal;
 mod tree;
+mod watched;
 mod words;
 
+use advice::advise;
 use files::RealFiles;
 use output::Output;
-use regex_tool::regex_tool;
-use std::alloc::{AllocError, AllocGlobal};
+use regex_tool::{regex_tool, wants_detail};
+use std::alloc::{AllocError, AllocGlobal, Global};
 use std::io::Print;
 use std::process::ExitCode;
 use std::time::{Clock, SystemTime, UNIX_EPOCH};
+use terminal::Terminal;
+use watched::{Progress, Watched};
 use words::Call;
 
 /// The status where standard output cannot be written.
@@ -45,13 +52,27 @@ fn main(rt: HostRuntime) -> ExitCode {
     })
 }
 
+/// What shows how far a log was read, where a terminal is there and the words want details.
+fn progress_for(alloc: Global, words: &[String], terminal: Option<Terminal>) -> Option<Progress> {
+    match terminal {
+        Some(terminal) if wants_detail(alloc, words) => Some(Progress::new(alloc, terminal)),
+        _ => None,
+    }
+}
+
 /// Makes the test of these words, and gives its exit status.
 fn test(rt: HostRuntime, words: &[String]) -> Result<u8, AllocError> {
     let now = seconds(&rt);
     let alloc = rt.alloc();
+    let progress = progress_for(alloc, words, Terminal::of(rt.stderr()));
+    let terminal = Terminal::of(rt.stderr());
     let mut output = Output::new(rt.clone()?);
-    let mut files = RealFiles::new(rt);
-    Ok(regex_tool(alloc, words, now, &mut files, &mut output).number())
+    let mut files = Watched::new(RealFiles::new(rt), progress);
+    let status = regex_tool(alloc, words, now, &mut files, &mut output);
+    if let Some(terminal) = terminal {
+        advise(alloc, words, &status, &mut files, &terminal);
+    }
+    Ok(status.number())
 }
 
 /// Seconds since 1970, or 0 where the clock cannot be read.

@@ -31,8 +31,8 @@ Tells which lines of a log a pattern or a filter finds.
   --print-all-matched, --print-all-ignored, --print-all-missed
                behind that, all lines of this kind
   -v           all matched lines, each with the number of its pattern, its
-               address and its time, in seconds and as a clock shows it; and
-               what may be wrong
+               address, its time, in seconds and as a clock shows it, and the
+               first and the last byte of its date; and what may be wrong
   -h, --help   print this help
   -V, --version
                print the version

@@ -4,7 +4,7 @@
 
 use crate::fault::Fault;
 use std::alloc::{AllocError, AllocGlobal};
-use std::env::{self, Env};
+use std::env::{self, Env, VarError};
 use std::fs;
 use std::process::{Child, Command, OpenProcess, Processes, Stdio};
 use std::rt::{Files, Stderr};
@@ -62,10 +62,14 @@ fn hand_on<R: Env + AllocGlobal>(
     command: &mut Command,
     name: &str,
 ) -> Result<(), AllocError> {
-    if let Ok(value) = env::var(rt, name) {
-        let _ = command.env(name, value.as_str())?;
+    match env::var(rt, name) {
+        Ok(value) => {
+            let _ = command.env(name, value.as_str())?;
+            Ok(())
+        }
+        Err(VarError::NotPresent | VarError::NotUnicode) => Ok(()),
+        Err(VarError::OutOfMemory) => Err(AllocError),
     }
-    Ok(())
 }
 
 // The numbers of the processes whose parent is the shell, with blanks between them. None where there are none, or that cannot be told.

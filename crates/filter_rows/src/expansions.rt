@@ -1,15 +1,20 @@
 //! Worked patterns.
+use crate::rows::same;
+use f2b_base::NoMemory;
 use host_ident::{HostGroups, expand, host_of, hosts};
 use std::alloc::Global;
 use std::process::Abort;
-use std::test::*;
 
 /// Rows of a pattern, what it is expanded to, and how many hosts it has.
-fn are_expanded(rt: &impl Abort, alloc: Global, rows: &[(&str, &str, u32)]) -> Result<(), Fail> {
+fn are_expanded(
+    rt: &impl Abort,
+    alloc: Global,
+    rows: &[(&str, &str, u32)],
+) -> Result<(), NoMemory> {
     for &(pattern, expanded, count) in rows {
         let text = expand(alloc, pattern)?;
-        assert_eq!(rt; text.as_str(), expanded);
-        assert_eq!(rt; hosts(pattern), count);
+        same(rt, pattern, text.as_str(), expanded);
+        same(rt, pattern, hosts(pattern), count);
     }
     Ok(())
 }
@@ -31,6 +36,6 @@ const PATTERNS: [(&str, &str, u32); 5] = [
 ];
 
 #[test]
-fn worked_patterns(rt: HostRuntime) -> Result<(), Fail> {
+fn worked_patterns(rt: HostRuntime) -> Result<(), NoMemory> {
     are_expanded(&rt, rt.alloc(), &PATTERNS)
 }

@@ -14,3 +14,5 @@ mod expansions;
 mod found;
 #[cfg(test)]
 mod patterns;
+#[cfg(test)]
+mod rows;

@@ -1,8 +1,9 @@
 //! What no clause says: which texts are built, that patterns get a set, and that one matcher serves many lines.
+use crate::rows::same;
+use f2b_base::NoMemory;
 use f2b_world::{Cut, HostSpans, Made, Matcher, Pattern, PatternSet, SetMatcher, build_pattern};
 use std::alloc::Global;
 use std::process::Abort;
-use std::test::*;
 
 fn answer(alloc: Global, text: &str) -> &'static str {
     match build_pattern(alloc, text) {
@@ -15,8 +16,8 @@ fn answer(alloc: Global, text: &str) -> &'static str {
 
 /// Rows of a text and what building it answers.
 fn are_answered(rt: &impl Abort, alloc: Global, rows: &[(&str, &str)]) {
-    for (text, want) in rows {
-        assert_eq!(rt; answer(alloc, text), *want, "{text}");
+    for &(text, want) in rows {
+        same(rt, text, answer(alloc, text), want);
     }
 }
 
@@ -32,10 +33,10 @@ fn texts_are_built_or_refused(rt: HostRuntime) {
     are_answered(&rt, rt.alloc(), &TEXTS);
 }
 
-fn built(alloc: Global, text: &str) -> Result<Pattern, Fail> {
+fn built(rt: &impl Abort, alloc: Global, text: &str) -> Pattern {
     match build_pattern(alloc, text) {
-        Made::Built(pattern) => Ok(pattern),
-        _ => Err(Fail::from("not built")),
+        Made::Built(pattern) => pattern,
+        _ => panic!(rt; "not built"),
     }
 }
 
@@ -53,10 +54,10 @@ fn have_groups(
     alloc: Global,
     pattern: &Pattern,
     rows: &[(&str, Option<Groups>)],
-) -> Result<(), Fail> {
+) -> Result<(), NoMemory> {
     let mut matcher = pattern.matcher(alloc)?;
-    for (line, want) in rows {
-        assert_eq!(rt; groups_in(&mut matcher, line), *want, "{line}");
+    for &(line, want) in rows {
+        same(rt, line, groups_in(&mut matcher, line), want);
     }
     Ok(())
 }
@@ -81,11 +82,11 @@ const LINES: [(&str, Option<Groups>); 3] = [
     ),
 ];
 
+const HOSTS: &str = r"from (?:(?P<f2b4>[0-9]+\.[0-9]+)|(?P<f2bn>[a-z]+))$";
+
 #[test]
-fn groups_of_many_lines(rt: HostRuntime) -> Result<(), Fail> {
-    let text = r"from (?:(?P<f2b4>[0-9]+\.[0-9]+)|(?P<f2bn>[a-z]+))$";
-    let pattern = built(rt.alloc(), text)?;
-    have_groups(&rt, rt.alloc(), &pattern, &LINES)
+fn groups_of_many_lines(rt: HostRuntime) -> Result<(), NoMemory> {
+    have_groups(&rt, rt.alloc(), &built(&rt, rt.alloc(), HOSTS), &LINES)
 }
 
 const NUMBERS: [Option<usize>; 6] = [Some(3), None, Some(2), Some(0), Some(1), Some(9)];
@@ -105,10 +106,10 @@ fn have_numbered(
     alloc: Global,
     pattern: &Pattern,
     rows: &[(&str, Option<Cuts>)],
-) -> Result<(), Fail> {
+) -> Result<(), NoMemory> {
     let mut matcher = pattern.matcher(alloc)?;
-    for (line, want) in rows {
-        assert_eq!(rt; cuts_in(&mut matcher, line), *want, "{line}");
+    for &(line, want) in rows {
+        same(rt, line, cuts_in(&mut matcher, line), want);
     }
     Ok(())
 }
@@ -145,32 +146,47 @@ const NUMBERED_LINES: [(&str, Option<Cuts>); 3] = [
     ),
 ];
 
+const NUMBERED: &str = "([0-9]+)(x)?-([a-z]+)";
+
 #[test]
-fn numbered_groups_of_many_lines(rt: HostRuntime) -> Result<(), Fail> {
-    let pattern = built(rt.alloc(), "([0-9]+)(x)?-([a-z]+)")?;
+fn numbered_groups_of_many_lines(rt: HostRuntime) -> Result<(), NoMemory> {
+    let pattern = built(&rt, rt.alloc(), NUMBERED);
     have_numbered(&rt, rt.alloc(), &pattern, &NUMBERED_LINES)
 }
 
-fn built_each(alloc: Global, texts: &[&str]) -> Result<Vec<Pattern>, Fail> {
+fn built_each(rt: &impl Abort, alloc: Global, texts: &[&str]) -> Result<Vec<Pattern>, NoMemory> {
     let mut patterns = Vec::new(alloc);
     for text in texts {
-        patterns.push(built(alloc, text)?)?;
+        patterns.push(built(rt, alloc, text))?;
     }
     Ok(patterns)
 }
 
 /// Rows of a line and whether any of the patterns matches.
-fn do_match(
+fn do_match_in(
     rt: &impl Abort,
     alloc: Global,
     set: &PatternSet,
     rows: &[(&str, bool)],
-) -> Result<(), Fail> {
+) -> Result<(), NoMemory> {
     let mut matcher = set.matcher(alloc)?;
-    for (line, want) in rows {
-        assert_eq!(rt; matcher.any(line), *want, "{line}");
+    for &(line, want) in rows {
+        same(rt, line, matcher.any(line), want);
     }
     Ok(())
+}
+
+/// The same of a set of these patterns.
+fn do_match(
+    rt: &impl Abort,
+    alloc: Global,
+    patterns: &[Pattern],
+    rows: &[(&str, bool)],
+) -> Result<(), NoMemory> {
+    match PatternSet::of(alloc, patterns)? {
+        Some(set) => do_match_in(rt, alloc, &set, rows),
+        None => panic!(rt; "no set"),
+    }
 }
 
 const ANY: [(&str, bool); 4] = [
@@ -180,15 +196,15 @@ const ANY: [(&str, bool); 4] = [
     ("bad", true),
 ];
 
+const OF_SET: [&str; 2] = ["^from (?P<f2b4>[0-9]+)$", r"\bbad\b"];
+
 #[test]
-fn a_set_says_whether_any_of_its_patterns_matches(rt: HostRuntime) -> Result<(), Fail> {
-    let patterns = built_each(rt.alloc(), &["^from (?P<f2b4>[0-9]+)$", r"\bbad\b"])?;
-    let set = PatternSet::of(rt.alloc(), patterns.as_slice())?.ok_or("a set")?;
-    do_match(&rt, rt.alloc(), &set, &ANY)
+fn a_set_says_whether_any_of_its_patterns_matches(rt: HostRuntime) -> Result<(), NoMemory> {
+    let patterns = built_each(&rt, rt.alloc(), &OF_SET)?;
+    do_match(&rt, rt.alloc(), patterns.as_slice(), &ANY)
 }
 
 #[test]
-fn a_set_of_no_patterns_matches_nothing(rt: HostRuntime) -> Result<(), Fail> {
-    let empty = PatternSet::of(rt.alloc(), &[])?.ok_or("a set of none")?;
-    do_match(&rt, rt.alloc(), &empty, &[("bad", false)])
+fn a_set_of_no_patterns_matches_nothing(rt: HostRuntime) -> Result<(), NoMemory> {
+    do_match(&rt, rt.alloc(), &[], &[("bad", false)])
 }

@@ -124,7 +124,7 @@ fn refuses_patterns(rt: HostRuntime) -> Result<(), Fail> {
 }
 
 /// Tests with more faults than one: the words, the directory, its files, the patterns, the log and the output come in this order.
-const FAULTS: [(Faults, Row); 8] = [
+const FAULTS: [(Faults, Row); 9] = [
     // No file is read for words that are refused.
     (
         Faults {
@@ -192,6 +192,18 @@ const FAULTS: [(Faults, Row); 8] = [
             words: &["/log", "<HOST>"],
             status: 3,
             said: "ERROR configuration not read\n",
+        },
+    ),
+    // With details the patterns of dates are built once more before the log is read.
+    (
+        Faults {
+            files: &[7],
+            output: &[],
+        },
+        Row {
+            words: &["-v", "/log", "<HOST>"],
+            status: 11,
+            said: "ERROR Pattern refused: regex datepattern TooBig\n",
         },
     ),
     // Where a line cannot be said, that is how it ends.

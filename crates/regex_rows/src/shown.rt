@@ -65,17 +65,18 @@ fn shows_lines(rt: HostRuntime) -> Result<(), Fail> {
 }
 
 const DETAILS: [Row; 4] = [
-    // With the number of the pattern, and the address and the time, in seconds and as a clock shows it, where it is a failure.
+    // With the number of the pattern, the address and the time, in seconds and as a clock shows it, where it is a failure, and the
+    // first and the last byte of the date.
     Row {
         words: &["-v", "/hosts", "from <HOST>$"],
         status: 0,
-        said: "Failregex: 4 total\n   1) [4] from <HOST>$\nIgnoreregex: 0 total\nLines: 4 lines, 0 ignored, 4 matched, 0 missed\nMatched lines:\n   1) 2001:db8::9 1709287200 2024-03-01T10:00:00+00:00 1709287200 from 2001:db8::9\n   1) - - - 1709287201 from mx.example.org\n   1) 192.0.2.7 1709287210 2024-03-01T10:00:10+00:00 1709287300 from 192.0.2.7\n   1) - - - 1969-12-31T10:00:00Z from 192.0.2.7\nWARNING failregex 1 may match in the middle of a line: begin it with ^ and what stands before\n",
+        said: "Failregex: 4 total\n   1) [4] from <HOST>$\nIgnoreregex: 0 total\nLines: 4 lines, 0 ignored, 4 matched, 0 missed\nMatched lines:\n   1) 2001:db8::9 1709287200 2024-03-01T10:00:00+00:00 1-10 1709287200 from 2001:db8::9\n   1) - - - 1-10 1709287201 from mx.example.org\n   1) 192.0.2.7 1709287210 2024-03-01T10:00:10+00:00 1-10 1709287300 from 192.0.2.7\n   1) - - - 1-20 1969-12-31T10:00:00Z from 192.0.2.7\nWARNING failregex 1 may match in the middle of a line: begin it with ^ and what stands before\n",
     },
     // A pattern with both ends is not warned of.
     Row {
         words: &["-v", "1709287200 from 192.0.2.7", "^ from <HOST>$"],
         status: 0,
-        said: "Failregex: 1 total\n   1) [1] ^ from <HOST>$\nIgnoreregex: 0 total\nLines: 1 lines, 0 ignored, 1 matched, 0 missed\nMatched lines:\n   1) 192.0.2.7 1709287200 2024-03-01T10:00:00+00:00 1709287200 from 192.0.2.7\n",
+        said: "Failregex: 1 total\n   1) [1] ^ from <HOST>$\nIgnoreregex: 0 total\nLines: 1 lines, 0 ignored, 1 matched, 0 missed\nMatched lines:\n   1) 192.0.2.7 1709287200 2024-03-01T10:00:00+00:00 1-10 1709287200 from 192.0.2.7\n",
     },
     // An escaped `$` is no end, and one behind an escaped backslash is.
     Row {
@@ -101,7 +102,7 @@ const MOMENTS: [Row; 2] = [
             "^ from <HOST>$",
         ],
         status: 0,
-        said: "Failregex: 1 total\n   1) [1] ^ from <HOST>$\nIgnoreregex: 0 total\nLines: 1 lines, 0 ignored, 1 matched, 0 missed\nMatched lines:\n   1) 192.0.2.7 1709287200 2024-03-01T12:30:00+02:30 1709287200 from 192.0.2.7\n",
+        said: "Failregex: 1 total\n   1) [1] ^ from <HOST>$\nIgnoreregex: 0 total\nLines: 1 lines, 0 ignored, 1 matched, 0 missed\nMatched lines:\n   1) 192.0.2.7 1709287200 2024-03-01T12:30:00+02:30 1-10 1709287200 from 192.0.2.7\n",
     },
     // There it is still the day before.
     Row {
@@ -113,7 +114,7 @@ const MOMENTS: [Row; 2] = [
             "^ from <HOST>$",
         ],
         status: 0,
-        said: "Failregex: 1 total\n   1) [1] ^ from <HOST>$\nIgnoreregex: 0 total\nLines: 1 lines, 0 ignored, 1 matched, 0 missed\nMatched lines:\n   1) 192.0.2.7 1709287200 2024-02-29T23:30:00-10:30 2024-02-29 23:30:00 from 192.0.2.7\n",
+        said: "Failregex: 1 total\n   1) [1] ^ from <HOST>$\nIgnoreregex: 0 total\nLines: 1 lines, 0 ignored, 1 matched, 0 missed\nMatched lines:\n   1) 192.0.2.7 1709287200 2024-02-29T23:30:00-10:30 1-19 2024-02-29 23:30:00 from 192.0.2.7\n",
     },
 ];
 

@@ -3,6 +3,7 @@ pub mod BuildLemmas
 pub mod CountsLemmas
 pub mod DefinitionLemmas
 pub mod FileLemmas
+pub mod NoteLemmas
 pub mod RaisedLemmas
 pub mod ReadLemmas
 pub mod RunLemmas

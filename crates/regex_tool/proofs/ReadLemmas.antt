@@ -12,15 +12,19 @@ use Rattle.log_follow.specs.declared.carry.Carry.{Carry}
 use Rattle.log_follow.specs.declared.carry.Carry.TheVariants.{Kept}
 use Rattle.log_follow.specs.declared.line.Line.{Line}
 use Rattle.regex_tool.specs.Counts.{counts_of, counted}
-use Rattle.regex_tool.specs.Logs.{finding_of, findings_of, last_line, log_lines}
+use Rattle.regex_tool.specs.Logs.{Looks, date_if, finding_of, findings_of, last_line, log_lines, looks_of, seen_of}
+use Rattle.regex_tool.specs.Notes.{no_notes, notes_after, notes_with}
 use Rattle.regex_tool.specs.Results.{Adds, AddsFindings, AreResults, HasRead}
 use Rattle.regex_tool.specs.Sections.{no_sections, sections_after, sections_with}
 use Rattle.regex_tool.specs.declared.counts.Counts.{Counts}
 use Rattle.regex_tool.specs.declared.log_test.LogTest.{LogTest}
+use Rattle.regex_tool.specs.declared.notes.DateNotes.{DateNotes}
 use Rattle.regex_tool.specs.declared.results.Results.{Results}
 use Rattle.regex_tool.specs.declared.sections.Sections.{Sections}
+use Rattle.regex_tool.specs.declared.seen.Seen.{Seen}
 use Rattle.regex_tool.specs.declared.shows.Shows.{Shows}
 use Rattle.regex_tool.proofs.CountsLemmas.{counts_of-one_more}
+use Rattle.regex_tool.proofs.NoteLemmas.{notes-none, notes-one, notes-both}
 use Rattle.regex_tool.proofs.SectionLemmas.{sections-none, sections-one, sections-both}
 
 -- a line more
@@ -63,47 +67,50 @@ carry_of-none : carry_of [] ≡ Kept []
 unfolding carry_of
 carry_of-none = refl
 
--- lines more were counted and shown behind those before
-are_more : (jail : JailDef) (shows : Shows) (rules : Rules) (now at : ℕ) (lines more : List Line) (old new : Results) → rules ≡ rules_of jail → at ≡ now
-    → AreResults jail shows now lines old → Adds rules at old more new → AreResults jail shows now (lines ++ more) new
-are_more jail shows rules now at lines more old new same clock before adds =
-    let here : Adds rules now old more new = subst (λ n. Adds rules n old more new) clock adds in
-    let own : Adds (rules_of jail) now old more new = subst (λ (r : Rules). Adds r now old more new) same here in
+-- lines more were counted, shown and noted behind those before
+are_more : (jail : JailDef) (shows : Shows) (looks : Looks) (now at : ℕ) (lines more : List Line) (old new : Results) → looks ≡ looks_of jail shows → at ≡ now
+    → AreResults jail shows now lines old → Adds looks at old more new → AreResults jail shows now (lines ++ more) new
+are_more jail shows looks now at lines more old new same clock before adds =
+    let here : Adds looks now old more new = subst (λ n. Adds looks n old more new) clock adds in
+    let own : Adds (looks_of jail shows) now old more new = subst (λ (l : Looks). Adds l now old more new) same here in
     record {
       counts = own.counts jail (findings_of (rules_of jail) now lines) before.counts ∙ ap (counts_of jail) (sym (findings_of-append (rules_of jail) now lines more));
-      sections = own.sections ∙ (ap (λ (s : Sections). sections_with s (rules_of jail) now more) before.sections ∙ sections-both (rules_of jail) now (no_sections shows) lines more);
+      sections = own.sections ∙ (ap (λ (s : Sections). sections_with s (looks_of jail shows) now more) before.sections ∙ sections-both (looks_of jail shows) now (no_sections shows) lines more);
+      notes = own.notes ∙ (ap (λ (n : DateNotes). notes_with n (looks_of jail shows) now more) before.notes ∙ notes-both (looks_of jail shows) now no_notes lines more);
     }
 
 -- no line
-are_none : (jail : JailDef) (shows : Shows) (now : ℕ) (results : Results) → results.counts ≡ counts_of jail [] → results.sections ≡ no_sections shows → AreResults jail shows now [] results
-are_none jail shows now results counts sections = record {
+are_none : (jail : JailDef) (shows : Shows) (now : ℕ) (results : Results) → results.counts ≡ counts_of jail [] → results.sections ≡ no_sections shows → results.notes ≡ no_notes
+    → AreResults jail shows now [] results
+are_none jail shows now results counts sections notes = record {
   counts = counts ∙ ap (counts_of jail) (sym (findings_of-none (rules_of jail) now));
-  sections = sections ∙ sym (sections-none (rules_of jail) now (no_sections shows));
+  sections = sections ∙ sym (sections-none (looks_of jail shows) now (no_sections shows));
+  notes = notes ∙ sym (notes-none (looks_of jail shows) now no_notes);
 }
 
 -- a test begins with no bytes
-pub read_none : (jail : JailDef) (shows : Shows) (test : LogTest) → test.searcher ≡ rules_of jail → test.carry ≡ Kept [] → test.results.counts ≡ counts_of jail []
-    → test.results.sections ≡ no_sections shows → HasRead jail shows test.now test []
-read_none jail shows test rules carry counts sections = record {
-  rules = rules;
+pub read_none : (jail : JailDef) (shows : Shows) (test : LogTest) → test.search ≡ looks_of jail shows → test.carry ≡ Kept [] → test.results.counts ≡ counts_of jail []
+    → test.results.sections ≡ no_sections shows → test.results.notes ≡ no_notes → HasRead jail shows test.now test []
+read_none jail shows test looks carry counts sections notes = record {
+  looks = looks;
   now_is = refl;
   carry = carry ∙ (sym carry_of-none ∙ ap carry_of (sym rest_of-none));
-  results = subst (λ (ls : List Line). AreResults jail shows test.now ls test.results) (sym lines_of-none) (are_none jail shows test.now test.results counts sections);
+  results = subst (λ (ls : List Line). AreResults jail shows test.now ls test.results) (sym lines_of-none) (are_none jail shows test.now test.results counts sections notes);
 }
 
 -- more bytes were read, and the lines taken that became whole
-pub read_more : (old new : LogTest) (lines : List Line) (bytes : List ℕ) → new.searcher ≡ old.searcher → new.now ≡ old.now
+pub read_more : (old new : LogTest) (lines : List Line) (bytes : List ℕ) → new.search ≡ old.search → new.now ≡ old.now
     → ((seen : List ℕ) → Carries old.carry seen → Carries new.carry (seen ++ bytes)) → ((seen : List ℕ) → Carries old.carry seen → lines ≡ new_lines seen bytes)
-    → Adds old.searcher old.now old.results lines new.results
+    → Adds old.search old.now old.results lines new.results
     → (jail : JailDef) (shows : Shows) (now : ℕ) (seen : List ℕ) → HasRead jail shows now old seen → HasRead jail shows now new (seen ++ bytes)
-read_more old new lines bytes searcher clock carries whole adds jail shows now seen read =
+read_more old new lines bytes search clock carries whole adds jail shows now seen read =
     let grown : lines_of seen ++ lines ≡ lines_of (seen ++ bytes) = ap (λ (ls : List Line). lines_of seen ++ ls) (whole seen read.carry) ∙ sym (lines_grow seen bytes) in
     record {
-      rules = searcher ∙ read.rules;
+      looks = search ∙ read.looks;
       now_is = clock ∙ read.now_is;
       carry = carries seen read.carry;
       results = subst (λ (ls : List Line). AreResults jail shows now ls new.results) grown
-          (are_more jail shows old.searcher now old.now (lines_of seen) lines old.results new.results read.rules read.now_is read.results adds);
+          (are_more jail shows old.search now old.now (lines_of seen) lines old.results new.results read.looks read.now_is read.results adds);
     }
 
 -- ---- the end of a log
@@ -129,7 +136,7 @@ carried carry seen is = ap length_of is ∙ length_of-carry_of (rest_of seen)
 
 -- a rest without LF is a line
 pub finish_rest : (test : LogTest) (line : Line) (results : Results) → 0 < length_of test.carry → ((rest : List ℕ) → test.carry ≡ carry_of rest → line ≡ line_of (rest ++ []))
-    → Adds test.searcher test.now test.results (line ∷ []) results
+    → Adds test.search test.now test.results (line ∷ []) results
     → (jail : JailDef) (shows : Shows) (now : ℕ) (seen : List ℕ) → HasRead jail shows now test seen → AreResults jail shows now (log_lines seen) results
 finish_rest test line results some made adds jail shows now seen read =
     let rest = rest_of seen in
@@ -137,7 +144,7 @@ finish_rest test line results some made adds jail shows now seen read =
     let is : line ≡ line_of rest = made rest read.carry ∙ ap line_of (append-nil rest) in
     let all : lines_of seen ++ line ∷ [] ≡ log_lines seen = ap (λ (l : Line). lines_of seen ++ l ∷ []) is ∙ sym (log_lines-some seen left) in
     subst (λ (ls : List Line). AreResults jail shows now ls results) all
-    (are_more jail shows test.searcher now test.now (lines_of seen) (line ∷ []) test.results results read.rules read.now_is read.results adds)
+    (are_more jail shows test.search now test.now (lines_of seen) (line ∷ []) test.results results read.looks read.now_is read.results adds)
 
 -- where there is no rest all lines were taken
 pub finish_none : (test : LogTest) → length_of test.carry ≤ 0
@@ -147,12 +154,12 @@ finish_none test none jail shows now seen read =
     subst (λ (ls : List Line). AreResults jail shows now ls test.results) (sym (log_lines-none seen left)) read.results
 
 -- one line alone
-pub finish_one : (test : LogTest) (line last : Line) (results : Results) → line ≡ last → Adds test.searcher test.now test.results (line ∷ []) results
+pub finish_one : (test : LogTest) (line last : Line) (results : Results) → line ≡ last → Adds test.search test.now test.results (line ∷ []) results
     → (jail : JailDef) (shows : Shows) (now : ℕ) → HasRead jail shows now test [] → AreResults jail shows now (last ∷ []) results
 finish_one test line last results is adds jail shows now read =
     let all : lines_of [] ++ line ∷ [] ≡ last ∷ [] = ap (λ (ls : List Line). ls ++ line ∷ []) lines_of-none ∙ ap (λ (l : Line). l ∷ []) is in
     subst (λ (ls : List Line). AreResults jail shows now ls results) all
-    (are_more jail shows test.searcher now test.now (lines_of []) (line ∷ []) test.results results read.rules read.now_is read.results adds)
+    (are_more jail shows test.search now test.now (lines_of []) (line ∷ []) test.results results read.looks read.now_is read.results adds)
 
 -- ---- one of some lines
 
@@ -162,44 +169,47 @@ take_next (first ∷ lines) zero line within is = ap (λ (l : Line). l ∷ []) (
 take_next (first ∷ lines) (suc k) line within is = ap (λ (ls : List Line). first ∷ ls) (take_next lines k line (omega arith) is)
 
 -- no line of them
-pub adds_none_of : (rules : Rules) (now : ℕ) (results : Results) → Adds rules now results [] results
-adds_none_of rules now results = record {
-  counts = λ jail findings start. adds_none results.counts jail findings start ∙ ap (λ (more : List Finding). counts_of jail (findings ++ more)) (sym (findings_of-none rules now));
-  sections = sym (sections-none rules now results.sections);
+pub adds_none_of : (looks : Looks) (now : ℕ) (results : Results) → Adds looks now results [] results
+adds_none_of looks now results = record {
+  counts = λ jail findings start. adds_none results.counts jail findings start ∙ ap (λ (more : List Finding). counts_of jail (findings ++ more)) (sym (findings_of-none looks.rules now));
+  sections = sym (sections-none looks now results.sections);
+  notes = sym (notes-none looks now results.notes);
 }
 
 -- one line
-pub adds_line : (rules : Rules) (now : ℕ) (old new : Results) (line : Line) (finding : Finding) → finding ≡ finding_of rules now line → new.counts ≡ counted old.counts finding
-    → new.sections ≡ sections_after old.sections line finding → Adds rules now old (line ∷ []) new
-adds_line rules now old new line finding is counts sections =
-    let one : finding ∷ [] ≡ findings_of rules now (line ∷ []) = ap (λ (f : Finding). f ∷ []) is ∙ sym (findings_of-one rules now line) in
+pub adds_line : (looks : Looks) (now : ℕ) (old new : Results) (line : Line) (seen : Seen) → seen ≡ seen_of looks now line → new.counts ≡ counted old.counts seen.finding
+    → new.sections ≡ sections_after old.sections line seen → new.notes ≡ notes_after old.notes line seen → Adds looks now old (line ∷ []) new
+adds_line looks now old new line seen is counts sections notes =
+    let one : seen.finding ∷ [] ≡ findings_of looks.rules now (line ∷ []) = ap (λ (s : Seen). s.finding ∷ []) is ∙ sym (findings_of-one looks.rules now line) in
     record {
-      counts = λ jail findings start. adds_finding old.counts new.counts finding counts jail findings start ∙ ap (λ (more : List Finding). counts_of jail (findings ++ more)) one;
-      sections = sections ∙ (ap (sections_after old.sections line) is ∙ sections-one rules now old.sections line);
+      counts = λ jail findings start. adds_finding old.counts new.counts seen.finding counts jail findings start ∙ ap (λ (more : List Finding). counts_of jail (findings ++ more)) one;
+      sections = sections ∙ (ap (sections_after old.sections line) is ∙ sections-one looks now old.sections line);
+      notes = notes ∙ (ap (notes_after old.notes line) is ∙ notes-one looks now old.notes line);
     }
 
 -- some lines, and then others
-adds_both : (rules : Rules) (now : ℕ) (old mid new : Results) (first second : List Line) → Adds rules now old first mid → Adds rules now mid second new → Adds rules now old (first ++ second) new
-adds_both rules now old mid new first second one other = record {
+adds_both : (looks : Looks) (now : ℕ) (old mid new : Results) (first second : List Line) → Adds looks now old first mid → Adds looks now mid second new → Adds looks now old (first ++ second) new
+adds_both looks now old mid new first second one other = record {
   counts = λ jail findings start.
-      adds_both_findings old.counts mid.counts new.counts (findings_of rules now first) (findings_of rules now second) one.counts other.counts jail findings start
-      ∙ ap (λ (more : List Finding). counts_of jail (findings ++ more)) (sym (findings_of-append rules now first second));
-  sections = other.sections ∙ (ap (λ (s : Sections). sections_with s rules now second) one.sections ∙ sections-both rules now old.sections first second);
+      adds_both_findings old.counts mid.counts new.counts (findings_of looks.rules now first) (findings_of looks.rules now second) one.counts other.counts jail findings start
+      ∙ ap (λ (more : List Finding). counts_of jail (findings ++ more)) (sym (findings_of-append looks.rules now first second));
+  sections = other.sections ∙ (ap (λ (s : Sections). sections_with s looks now second) one.sections ∙ sections-both looks now old.sections first second);
+  notes = other.notes ∙ (ap (λ (n : DateNotes). notes_with n looks now second) one.notes ∙ notes-both looks now old.notes first second);
 }
 
 -- the next of them
-pub adds_next : (rules : Rules) (now : ℕ) (old mid new : Results) (lines : List Line) (k : ℕ) (line : Line) → k < length lines → line ≡ slice_index_or lines k line
-    → Adds rules now old (take k lines) mid → Adds rules now mid (line ∷ []) new → Adds rules now old (take (k + 1) lines) new
-adds_next rules now old mid new lines k line within is before step =
+pub adds_next : (looks : Looks) (now : ℕ) (old mid new : Results) (lines : List Line) (k : ℕ) (line : Line) → k < length lines → line ≡ slice_index_or lines k line
+    → Adds looks now old (take k lines) mid → Adds looks now mid (line ∷ []) new → Adds looks now old (take (k + 1) lines) new
+adds_next looks now old mid new lines k line within is before step =
     let next : k + 1 ≡ suc k = omega arith in
     let more : take (k + 1) lines ≡ take k lines ++ line ∷ [] = ap (λ n. take n lines) next ∙ take_next lines k line within is in
-    subst (λ (ls : List Line). Adds rules now old ls new) (sym more) (adds_both rules now old mid new (take k lines) (line ∷ []) before step)
+    subst (λ (ls : List Line). Adds looks now old ls new) (sym more) (adds_both looks now old mid new (take k lines) (line ∷ []) before step)
 
 -- what a success says, said in other words
 pub on_ok_more : {T E : Type 0} (r : Result T E) (P Q : Type 0) → (P → Q) → OnOk r P → OnOk r Q
 on_ok_more (Ok x) P Q more h = more h
 on_ok_more (Err e) P Q more h = tt
 
-pub on_ok_both : {T E : Type 0} (r : Result T E) (P Q R : Type 0) → (P → Q → R) → OnOk r P → OnOk r Q → OnOk r R
-on_ok_both (Ok x) P Q R both p q = both p q
-on_ok_both (Err e) P Q R both p q = tt
+pub on_ok_all : {T E : Type 0} (r : Result T E) (P Q R S : Type 0) → (P → Q → R → S) → OnOk r P → OnOk r Q → OnOk r R → OnOk r S
+on_ok_all (Ok x) P Q R S all p q r = all p q r
+on_ok_all (Err e) P Q R S all p q r = tt

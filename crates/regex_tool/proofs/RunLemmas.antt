@@ -4,10 +4,9 @@ use Rattle.f2b_base.specs.declared.jail.JailDef.{JailDef}
 use Rattle.f2b_world.specs.Faults.{Fault, OfFiles, OfPatterns, Rose}
 use Rattle.f2b_world.specs.Shelves.{Shelf}
 use Rattle.f2b_world.specs.Told.{Standing}
-use Rattle.filter_regex.specs.declared.error.PatternPlace.{PatternPlace}
 use Rattle.f2b_base.specs.Limits.{latest_reading}
 use Rattle.regex_tool.specs.Asks.{Asks}
-use Rattle.regex_tool.specs.Builds.{HasBuildCause, IsBuilt, IsRefusedFor}
+use Rattle.regex_tool.specs.Builds.{HasBuildCause, IsBuilt}
 use Rattle.regex_tool.specs.Checks.{first_fault}
 use Rattle.regex_tool.specs.Counts.{by_fail, by_ignore}
 use Rattle.regex_tool.specs.Definitions.{IsDefined, target_for}
@@ -15,13 +14,10 @@ use Rattle.regex_tool.specs.Readings.{HasLogCause, IsOfLog, IsOpened}
 use Rattle.regex_tool.specs.Outputs.{output}
 use Rattle.regex_tool.specs.Runs.{HasCause, HasTreeCause, IsOutput}
 use Rattle.regex_tool.specs.declared.counts.Counts.{Counts}
-use Rattle.regex_tool.specs.declared.kind.ToolKind.{ToolKind}
 use Rattle.regex_tool.specs.declared.results.Results.{Results}
-use Rattle.filter_regex.specs.Builds.{IsCause}
-use Rattle.filter_regex.specs.declared.error.BuildKind.{BuildKind}
-use Rattle.filter_regex.specs.declared.error.BuildKind.TheVariants.{Syntax, TooBig}
 use Rattle.regex_tool.specs.declared.status.ToolStatus.{ToolStatus}
 use Rattle.regex_tool.specs.declared.status.ToolStatus.TheVariants.{Done, Usage, FileFault, ConfRefused, SinkFault, TooLarge, PatternRefused, NoMemory}
+use Rattle.regex_tool.proofs.BuildLemmas.{refused_since}
 use Rattle.regex_tool.proofs.CountsLemmas.{length-decided_from}
 use Rattle.regex_tool.proofs.FileLemmas.{rose_since}
 
@@ -52,20 +48,8 @@ tree_cause asks old new TooLarge cause = cause
 tree_cause asks old new (PatternRefused place kind) cause = absurd cause
 tree_cause asks old new NoMemory cause = tt
 
-cause_since : (build : BuildKind) (text : List ℕ) (old mid new : Standing) → IsOpened old mid → IsCause build text mid new → IsCause build text old new
-cause_since Syntax text old mid new opened cause = cause
-cause_since TooBig text old mid new opened cause = subst (λ n. Rose n (new.faults OfPatterns)) (opened.still OfPatterns patterns_are_no_files) cause
-
-refused_since : (jail : JailDef) (old mid new : Standing) (place : PatternPlace) (kind : ToolKind) → IsOpened old mid → IsRefusedFor jail mid new place kind → IsRefusedFor jail old new place kind
-refused_since jail old mid new place kind opened (inl fault) = inl fault
-refused_since jail old mid new place kind opened (inr unbuilt) = inr (record {
-  none = unbuilt.none;
-  text = unbuilt.text;
-  stands = unbuilt.stands;
-  build = unbuilt.build;
-  kind_is = unbuilt.kind_is;
-  cause = cause_since unbuilt.build unbuilt.text old mid new opened unbuilt.cause;
-})
+patterns_later : (old mid : Standing) → IsOpened old mid → old.faults OfPatterns ≤ mid.faults OfPatterns
+patterns_later old mid opened = let same = opened.still OfPatterns patterns_are_no_files in omega (arith, same)
 
 -- no filter is built
 pub build_cause : (asks : Asks) (jail : JailDef) (old mid new : Standing) (status : ToolStatus) → IsOpened old mid → IsDefined old.shelf asks jail → HasBuildCause jail mid new status → HasCause asks old new status
@@ -75,7 +59,7 @@ build_cause asks jail old mid new FileFault opened defined cause = absurd cause
 build_cause asks jail old mid new (ConfRefused error) opened defined cause = absurd cause
 build_cause asks jail old mid new SinkFault opened defined cause = absurd cause
 build_cause asks jail old mid new TooLarge opened defined cause = absurd cause
-build_cause asks jail old mid new (PatternRefused place kind) opened defined cause = record { jail = jail; defined = defined; cause = refused_since jail old mid new place kind opened cause }
+build_cause asks jail old mid new (PatternRefused place kind) opened defined cause = record { jail = jail; defined = defined; cause = refused_since jail old mid new place kind (patterns_later old mid opened) cause }
 build_cause asks jail old mid new NoMemory opened defined cause = tt
 
 files_later : (old mid built : Standing) → IsOpened old mid → IsBuilt mid built → old.faults OfFiles ≤ built.faults OfFiles

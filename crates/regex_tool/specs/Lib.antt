@@ -4,7 +4,9 @@ pub mod Checks
 pub mod Counts
 pub mod Definitions
 pub mod Logs
+pub mod Notes
 pub mod Outputs
+pub mod Patterns
 pub mod Readings
 pub mod Refusals
 pub mod Report

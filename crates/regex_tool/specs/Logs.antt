@@ -1,12 +1,20 @@
--- The lines of a log, and what a filter finds in them.
-use Rattle.std.specs.Prelude.{ℕ, List, [], ◌∷◌, ◌++◌, map}
+-- The lines of a log, what a filter finds in them, and what is seen of their dates.
+use Rattle.std.specs.Prelude.{ℕ, ℤ, Bool, List, [], ◌∷◌, ◌++◌, map, Option, None, Some, option_and_then, if◌then◌else◌}
+use Rattle.date_detect.specs.Dates.{date_in}
+use Rattle.date_detect.specs.Forms.{Rule, rule_of}
+use Rattle.date_detect.specs.declared.search.Found.{Found}
+use Rattle.f2b_base.specs.declared.jail.DateSpec.{DateSpec}
+use Rattle.f2b_base.specs.declared.jail.JailDef.{JailDef}
 use Rattle.filter_regex.specs.Findings.{finding}
-use Rattle.filter_regex.specs.Rules.{Rules}
+use Rattle.filter_regex.specs.Rules.{Rules, rules_of}
 use Rattle.filter_regex.specs.declared.finding.Finding.{Finding}
 use Rattle.filter_regex.specs.declared.finding.Finding.TheVariants.{Missed}
 use Rattle.log_follow.specs.Lines.{line_of, lines_of, rest_of}
 use Rattle.log_follow.specs.declared.line.Line.{Line}
 use Rattle.log_follow.specs.declared.line.Line.TheVariants.{Whole, Long}
+use Rattle.regex_tool.specs.Zones.{other_zone}
+use Rattle.regex_tool.specs.declared.seen.Seen.{Seen}
+use Rattle.regex_tool.specs.declared.shows.Shows.{Shows}
 
 -- how many seconds back a failure counts: a hundred years
 abbrev pub tested_time : ℕ
@@ -19,6 +27,44 @@ finding_of rules now (Whole text) = finding rules [] now tested_time text
 
 unfoldable pub findings_of : Rules → ℕ → List Line → List Finding
 findings_of rules now lines = map (finding_of rules now) lines
+
+-- what is looked for in lines: what these rules find, and once more the dates where they are to be shown
+pub record Looks : Type 0 where
+  pub rules : Rules
+  pub dates : Option Rule
+  -- how many seconds a date without a zone is ahead of UTC
+  pub zone : ℤ
+
+abbrev pub dates_if : (wanted : Bool) → DateSpec → Option Rule
+dates_if wanted date = if wanted then Some (rule_of date) else None
+
+-- in a test of a jail dates are shown where the words want details
+abbrev pub looks_of : JailDef → Shows → Looks
+looks_of jail shows = record { rules = rules_of jail; dates = dates_if shows.detail jail.date; zone = shows.zone }
+
+-- the date of a line; one that is too long has none
+abbrev pub date_of : Rule → ℕ → (zone : ℤ) → Line → Option Found
+date_of dates now zone Long = None
+date_of dates now zone (Whole text) = date_in dates now zone text
+
+-- the date of a line, where dates are looked for
+abbrev pub date_by : Option Rule → ℕ → (zone : ℤ) → Line → Option Found
+date_by None now zone line = None
+date_by (Some dates) now zone line = date_of dates now zone line
+
+abbrev pub date_if : Looks → ℕ → Line → Option Found
+date_if looks now line = date_by looks.dates now looks.zone line
+
+-- the other zone in which a date would be of the last minute
+abbrev pub other_if : ℕ → (zone : ℤ) → Option Found → Option ℤ
+other_if now zone = option_and_then (λ (date : Found). other_zone now zone date.secs)
+
+abbrev pub seen_of : Looks → ℕ → Line → Seen
+seen_of looks now line = record {
+  finding = finding_of looks.rules now line;
+  date = date_if looks now line;
+  other = other_if now looks.zone (date_if looks now line);
+}
 
 -- the line of a rest, if there is one
 abbrev pub last_line : List ℕ → List Line

@@ -28,4 +28,4 @@ shown_lines shows sections =
 
 -- what is said of a test, by what the words want to be shown
 unfoldable pub output : Shows → JailDef → Results → List ℕ
-output shows jail results = first_part shows.form jail results ++ shown_lines shows results.sections ++ warnings shows.detail jail
+output shows jail results = first_part shows.form jail results ++ shown_lines shows results.sections ++ warnings shows.detail jail results.notes

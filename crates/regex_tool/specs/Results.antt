@@ -1,13 +1,14 @@
 -- What came of the lines of a log.
 use Rattle.std.specs.Prelude.{◌≡◌, ℕ, List, ◌++◌}
 use Rattle.f2b_base.specs.declared.jail.JailDef.{JailDef}
-use Rattle.filter_regex.specs.Rules.{Rules, rules_of}
+use Rattle.filter_regex.specs.Rules.{rules_of}
 use Rattle.filter_regex.specs.declared.finding.Finding.{Finding}
 use Rattle.log_follow.specs.Carried.{Carries}
 use Rattle.log_follow.specs.Lines.{lines_of}
 use Rattle.log_follow.specs.declared.line.Line.{Line}
 use Rattle.regex_tool.specs.Counts.{counts_of}
-use Rattle.regex_tool.specs.Logs.{findings_of}
+use Rattle.regex_tool.specs.Logs.{Looks, findings_of, looks_of}
+use Rattle.regex_tool.specs.Notes.{no_notes, notes_with}
 use Rattle.regex_tool.specs.Sections.{no_sections, sections_with}
 use Rattle.regex_tool.specs.declared.counts.Counts.{Counts}
 use Rattle.regex_tool.specs.declared.log_test.LogTest.{LogTest}
@@ -17,11 +18,12 @@ use Rattle.regex_tool.specs.declared.shows.Shows.{Shows}
 -- these come of some lines
 pub record AreResults (jail : JailDef) (shows : Shows) (now : ℕ) (lines : List Line) (results : Results) : Type 0 where
   pub counts : results.counts ≡ counts_of jail (findings_of (rules_of jail) now lines)
-  pub sections : results.sections ≡ sections_with (no_sections shows) (rules_of jail) now lines
+  pub sections : results.sections ≡ sections_with (no_sections shows) (looks_of jail shows) now lines
+  pub notes : results.notes ≡ notes_with no_notes (looks_of jail shows) now lines
 
 -- what was read of a log is these bytes
 pub record HasRead (jail : JailDef) (shows : Shows) (now : ℕ) (test : LogTest) (seen : List ℕ) : Type 0 where
-  pub rules : test.searcher ≡ rules_of jail
+  pub looks : test.search ≡ looks_of jail shows
   pub now_is : test.now ≡ now
   pub carry : Carries test.carry seen
   pub results : AreResults jail shows now (lines_of seen) test.results
@@ -30,7 +32,8 @@ pub record HasRead (jail : JailDef) (shows : Shows) (now : ℕ) (test : LogTest)
 abbrev pub AddsFindings : Counts → List Finding → Counts → Type 0
 AddsFindings old more new = (jail : JailDef) (findings : List Finding) → old ≡ counts_of jail findings → new ≡ counts_of jail (findings ++ more)
 
--- lines were counted and shown behind others
-pub record Adds (rules : Rules) (now : ℕ) (old : Results) (lines : List Line) (new : Results) : Type 0 where
-  pub counts : AddsFindings old.counts (findings_of rules now lines) new.counts
-  pub sections : new.sections ≡ sections_with old.sections rules now lines
+-- lines were counted, shown and noted behind others
+pub record Adds (looks : Looks) (now : ℕ) (old : Results) (lines : List Line) (new : Results) : Type 0 where
+  pub counts : AddsFindings old.counts (findings_of looks.rules now lines) new.counts
+  pub sections : new.sections ≡ sections_with old.sections looks now lines
+  pub notes : new.notes ≡ notes_with old.notes looks now lines

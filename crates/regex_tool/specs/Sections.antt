@@ -1,19 +1,20 @@
 -- The lines that are shown of a log, and how.
-use Rattle.std.specs.Prelude.{ℕ, ℤ, ◌++◌, Bool, List, [], ◌∷◌, Option, None, Some, is_some, codes, if◌then◌else◌}
+use Rattle.std.specs.Prelude.{ℕ, ◌+◌, ℤ, ◌++◌, Bool, List, [], ◌∷◌, Option, None, Some, is_some, codes, if◌then◌else◌}
 use Rattle.std.specs.Fmt.{decimal}
 use Rattle.f2b_base.specs.Addresses.{printed}
 use Rattle.iso_moment.specs.Moments.{moment_text}
-use Rattle.filter_regex.specs.Rules.{Rules}
+use Rattle.date_detect.specs.declared.search.Found.{Found}
 use Rattle.filter_regex.specs.declared.finding.Finding.{Finding}
 use Rattle.filter_regex.specs.declared.finding.Finding.TheVariants.{Failure}
 use Rattle.log_follow.specs.declared.line.Line.{Line}
 use Rattle.log_follow.specs.declared.line.Line.TheVariants.{Whole, Long}
 use Rattle.regex_tool.specs.Counts.{by_fail, by_ignore, is_missed}
-use Rattle.regex_tool.specs.Logs.{finding_of}
+use Rattle.regex_tool.specs.Logs.{Looks, seen_of}
 use Rattle.regex_tool.specs.declared.section.Kind.{Kind}
 use Rattle.regex_tool.specs.declared.section.Kind.TheVariants.{Nothing, Matched, Detail, Ignored, Missed, Address, Row}
 use Rattle.regex_tool.specs.declared.section.Section.{Section}
 use Rattle.regex_tool.specs.declared.sections.Sections.{Sections}
+use Rattle.regex_tool.specs.declared.seen.Seen.{Seen}
 use Rattle.regex_tool.specs.declared.shows.Form.{Form}
 use Rattle.regex_tool.specs.declared.shows.Form.TheVariants.{Report, Rows, Addresses}
 use Rattle.regex_tool.specs.declared.shows.Shows.{Shows}
@@ -37,10 +38,19 @@ abbrev pub who_of : (zone : ℤ) → Finding → List ℕ
 who_of zone (Failure addr time number) = printed addr ++ codes " " ++ decimal time ++ codes " " ++ moment_text zone time
 who_of zone _ = codes "- - -"
 
--- `   NUMBER) ADDRESS SECONDS MOMENT LINE`, with the number of the pattern that matched the line
-abbrev pub detail_of : (zone : ℤ) → Option ℕ → Line → Finding → List ℕ
-detail_of zone None line finding = []
-detail_of zone (Some number) line finding = codes "   " ++ decimal number ++ codes ") " ++ who_of zone finding ++ codes " " ++ line_text line ++ codes "\n"
+-- `FIRST-LAST`, where the date's bytes stand in the line, counted from 1
+abbrev pub place_of : Option Found → List ℕ
+place_of None = codes "-"
+place_of (Some date) = decimal (date.start + 1) ++ codes "-" ++ decimal date.end
+
+-- `ADDRESS SECONDS MOMENT FIRST-LAST`
+abbrev pub seen_text : (zone : ℤ) → Seen → List ℕ
+seen_text zone seen = who_of zone seen.finding ++ codes " " ++ place_of seen.date
+
+-- `   NUMBER) ADDRESS SECONDS MOMENT FIRST-LAST LINE`, with the number of the pattern that matched the line
+abbrev pub detail_of : (zone : ℤ) → Option ℕ → Line → Seen → List ℕ
+detail_of zone None line seen = []
+detail_of zone (Some number) line seen = codes "   " ++ decimal number ++ codes ") " ++ seen_text zone seen ++ codes " " ++ line_text line ++ codes "\n"
 
 -- `ADDRESS`, of a failure
 abbrev pub address_of : Finding → List ℕ
@@ -52,33 +62,33 @@ abbrev pub row_of : Line → Finding → List ℕ
 row_of line (Failure addr time number) = printed addr ++ codes "\t" ++ decimal time ++ codes "\t" ++ line_text line ++ codes "\n"
 row_of line _ = []
 
--- what is shown of a line in which that was found
-abbrev pub piece : Kind → Line → Finding → List ℕ
-piece Nothing line finding = []
-piece Matched line finding = shown_if (is_some (by_fail finding)) line
-piece (Detail zone) line finding = detail_of zone (by_fail finding) line finding
-piece Ignored line finding = shown_if (is_some (by_ignore finding)) line
-piece Missed line finding = shown_if (is_missed finding) line
-piece Address line finding = address_of finding
-piece Row line finding = row_of line finding
+-- what is shown of a line in which that was seen
+abbrev pub piece : Kind → Line → Seen → List ℕ
+piece Nothing line seen = []
+piece Matched line seen = shown_if (is_some (by_fail seen.finding)) line
+piece (Detail zone) line seen = detail_of zone (by_fail seen.finding) line seen
+piece Ignored line seen = shown_if (is_some (by_ignore seen.finding)) line
+piece Missed line seen = shown_if (is_missed seen.finding) line
+piece Address line seen = address_of seen.finding
+piece Row line seen = row_of line seen.finding
 
 -- ---- all lines
 
 -- what is shown of some lines
-abbrev pub pieces : Kind → Rules → ℕ → List Line → List ℕ
-pieces kind rules now [] = []
-pieces kind rules now (line ∷ lines) = piece kind line (finding_of rules now line) ++ pieces kind rules now lines
+abbrev pub pieces : Kind → Looks → ℕ → List Line → List ℕ
+pieces kind looks now [] = []
+pieces kind looks now (line ∷ lines) = piece kind line (seen_of looks now line) ++ pieces kind looks now lines
 
-abbrev pub section_with : Section → Rules → ℕ → List Line → Section
-section_with section rules now lines = record section { text = section.text ++ pieces section.kind rules now lines }
+abbrev pub section_with : Section → Looks → ℕ → List Line → Section
+section_with section looks now lines = record section { text = section.text ++ pieces section.kind looks now lines }
 
 -- these lines are shown behind others
-unfoldable pub sections_with : Sections → Rules → ℕ → List Line → Sections
-sections_with sections rules now lines = record {
-  first = section_with sections.first rules now lines;
-  matched = section_with sections.matched rules now lines;
-  ignored = section_with sections.ignored rules now lines;
-  missed = section_with sections.missed rules now lines;
+unfoldable pub sections_with : Sections → Looks → ℕ → List Line → Sections
+sections_with sections looks now lines = record {
+  first = section_with sections.first looks now lines;
+  matched = section_with sections.matched looks now lines;
+  ignored = section_with sections.ignored looks now lines;
+  missed = section_with sections.missed looks now lines;
 }
 
 abbrev pub empty_section : Kind → Section
@@ -107,13 +117,13 @@ no_sections shows = record {
 
 -- ---- one line more
 
-abbrev pub section_after : Section → Line → Finding → Section
-section_after section line finding = record section { text = section.text ++ piece section.kind line finding }
+abbrev pub section_after : Section → Line → Seen → Section
+section_after section line seen = record section { text = section.text ++ piece section.kind line seen }
 
-unfoldable pub sections_after : Sections → Line → Finding → Sections
-sections_after sections line finding = record {
-  first = section_after sections.first line finding;
-  matched = section_after sections.matched line finding;
-  ignored = section_after sections.ignored line finding;
-  missed = section_after sections.missed line finding;
+unfoldable pub sections_after : Sections → Line → Seen → Sections
+sections_after sections line seen = record {
+  first = section_after sections.first line seen;
+  matched = section_after sections.matched line seen;
+  ignored = section_after sections.ignored line seen;
+  missed = section_after sections.missed line seen;
 }

@@ -1,46 +1,25 @@
-//! What a filter finds in a log that comes in pieces.
+//! What is seen in a log that comes in pieces.
 ghost use Rattle.std.specs.Prelude.{◌≡◌, ◌<◌, ◌++◌, ◌∷◌, ◌^◌, ℕ, List, [], IfOk, OnOk};
 ghost use Rattle.f2b_base.specs.declared.jail.JailDef.{JailDef};
-ghost use Rattle.filter_regex.specs.Rules.{rules_of};
 ghost use Rattle.log_follow.specs.Lines.{line_of};
-ghost use Rattle.regex_tool.specs.Logs.{finding_of, log_lines};
+ghost use Rattle.regex_tool.specs.Logs.{log_lines, looks_of};
 ghost use Rattle.regex_tool.specs.Results.{Adds, AreResults, HasRead};
 ghost use Rattle.regex_tool.specs.declared.shows.Shows.{Shows};
 
 use crate::log_test::LogTest;
 use crate::results::Results;
+use crate::search::LineSearch;
 use crate::shows::Shows;
+use crate::trial::Trial;
 use f2b_base::{JailDef, NoMemory, Seq};
-use filter_regex::{Filter, Finding, Searcher};
 use ignore_set::IgnoreSet;
 use log_follow::{Carry, Line};
 use std::alloc::Global;
 
-/// Failures count for so many seconds: a hundred years.
-const TESTED_TIME: u64 = 3_153_600_000;
-
-/// What the filter finds in a line. A line that is too long is missed.
-fn found(
-    searcher: &mut Searcher<'_>,
-    nobody: &IgnoreSet,
-    line: &Line,
-    now: u64,
-) -> Result<Finding, NoMemory>
-    requires nobody { nobody.now ≡ [] }
-    requires now { now < 2 ^ 40 }
-    ensures found { IfOk result (λ found. found ≡ finding_of searcher.old now line.now) }
-    ensures same { searcher.new ≡ searcher.old }
-{
-    match line {
-        Line::Whole(text) => searcher.found(nobody, text.as_str(), now, TESTED_TIME),
-        Line::Long => Ok(Finding::Missed),
-    }
-}
-
-/// Counts and shows what the filter finds in some lines.
+/// Counts, shows and notes what is seen in some lines.
 fn take_lines(
     alloc: Global,
-    searcher: &mut Searcher<'_>,
+    search: &mut LineSearch<'_>,
     nobody: &IgnoreSet,
     lines: &[Line],
     now: u64,
@@ -48,12 +27,12 @@ fn take_lines(
 ) -> Result<(), NoMemory>
     requires nobody { nobody.now ≡ [] }
     requires now { now < 2 ^ 40 }
-    ensures results { OnOk result (Adds searcher.old now results.old lines.now results.new) }
-    ensures same { searcher.new ≡ searcher.old }
+    ensures results { OnOk result (Adds search.old now results.old lines.now results.new) }
+    ensures same { search.new ≡ search.old }
 {
     for line in lines {
-        let finding = found(searcher, nobody, line, now)?;
-        results.add(alloc, line, finding)?;
+        let seen = search.seen(nobody, line, now)?;
+        results.add(alloc, line, &seen)?;
     }
     Ok(())
 }
@@ -63,17 +42,17 @@ impl<'f> LogTest<'f> {
     pub(crate) fn new(
         alloc: Global,
         jail: &JailDef,
-        filter: &'f Filter,
+        trial: &'f Trial,
         shows: Shows,
         now: u64,
     ) -> Result<LogTest<'f>, NoMemory>
-        requires built { filter.now ≡ rules_of jail.now }
+        requires built { trial.now ≡ looks_of jail.now shows }
         requires now { now < 2 ^ 40 }
         ensures { IfOk result (λ test. HasRead jail.now shows now test []) }
     {
         Ok(LogTest {
             alloc,
-            searcher: filter.searcher(alloc)?,
+            search: trial.search(alloc)?,
             nobody: IgnoreSet::new(alloc, &Seq::new(alloc))?,
             now,
             carry: Carry::new(alloc),
@@ -92,7 +71,7 @@ impl<'f> LogTest<'f> {
         let lines = self.carry.take(self.alloc, bytes)?;
         take_lines(
             self.alloc,
-            &mut self.searcher,
+            &mut self.search,
             &self.nobody,
             lines.as_slice(),
             self.now,
@@ -100,12 +79,12 @@ impl<'f> LogTest<'f> {
         )
     }
 
-    /// Counts one line more, and shows it.
+    /// Counts, shows and notes one line more.
     fn add(&mut self, line: &Line) -> Result<(), NoMemory>
-        ensures { OnOk result (Adds self.old.searcher self.old.now self.old.results (line.now ∷ []) self.new.results) }
+        ensures { OnOk result (Adds self.old.search self.old.now self.old.results (line.now ∷ []) self.new.results) }
     {
-        let finding = found(&mut self.searcher, &self.nobody, line, self.now)?;
-        self.results.add(self.alloc, line, finding)
+        let seen = self.search.seen(&self.nobody, line, self.now)?;
+        self.results.add(self.alloc, line, &seen)
     }
 
     /// Counts the rest, if there is one: without LF it is a line all the same.

@@ -1,16 +1,16 @@
 //! The log that is tested, as a file.
 ghost use Rattle.std.specs.Prelude.{◌≡◌, ◌<◌, ◌+◌, ◌^◌, IfErr, IfOk};
-ghost use Rattle.filter_regex.specs.Rules.{rules_of};
 ghost use Rattle.regex_tool.specs.Asks.{shown};
+ghost use Rattle.regex_tool.specs.Logs.{looks_of};
 ghost use Rattle.regex_tool.specs.Readings.{HasLogCause, IsLogRead, IsOfLog, IsOpened};
 
 use crate::log_test::LogTest;
 use crate::results::Results;
 use crate::status::ToolStatus;
+use crate::trial::Trial;
 use crate::words::Asked;
 use f2b_base::{JailDef, LOOK_BYTES, NoMemory};
 use f2b_world::{FilePiece, Files};
-use filter_regex::Filter;
 use std::alloc::Global;
 
 /// The offset behind some bytes more. That there is none is want of memory: no file has so many.
@@ -49,17 +49,17 @@ pub(crate) fn results<F: Files>(
     alloc: Global,
     files: &mut F,
     jail: &JailDef,
-    filter: &Filter,
+    trial: &Trial,
     asked: &Asked<'_>,
     now: u64,
 ) -> Result<Results, ToolStatus>
-    requires built { filter.now ≡ rules_of jail.now }
+    requires built { trial.now ≡ looks_of jail.now asked.now.shows }
     requires now { now < 2 ^ 40 }
     ensures results { IfOk result (IsOfLog (F.stands files.old).shelf jail.now (shown asked.now) now) }
     ensures cause { IfErr result (HasLogCause (F.stands files.old) (F.stands files.new)) }
     ensures opened { IsOpened (F.stands files.old) (F.stands files.new) }
 {
-    let mut test = LogTest::new(alloc, jail, filter, asked.shows, now)?;
+    let mut test = LogTest::new(alloc, jail, trial, asked.shows, now)?;
     if read_log(files, asked.log, &mut test)? {
         let results = test.finish()?;
         return Ok(results);

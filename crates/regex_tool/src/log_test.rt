@@ -2,7 +2,7 @@
 ghost use Rattle.std.specs.Prelude.{◌≡◌, ◌<◌, ◌^◌, []};
 
 use crate::results::Results;
-use filter_regex::Searcher;
+use crate::search::LineSearch;
 use ignore_set::IgnoreSet;
 use log_follow::Carry;
 use std::alloc::Global;
@@ -11,7 +11,7 @@ use std::alloc::Global;
 #[derive(Drop)]
 pub(crate) struct LogTest<'f> {
     pub alloc: Global,
-    pub searcher: Searcher<'f>,
+    pub search: LineSearch<'f>,
     /// Nobody is left out.
     pub nobody: IgnoreSet,
     /// In seconds since 1970.

@@ -73,6 +73,6 @@ pub(crate) fn output(
 {
     let mut text = first_part(alloc, shows.form, jail, results)?;
     push_lines(&mut text, &shows, &results.sections)?;
-    push_warnings(alloc, &mut text, shows.detail, jail)?;
+    push_warnings(alloc, &mut text, shows.detail, jail, &results.notes)?;
     Ok(text)
 }

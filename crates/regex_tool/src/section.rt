@@ -2,11 +2,13 @@
 ghost use Rattle.std.specs.Prelude.{◌≡◌, ◌++◌, codes, OnOk};
 ghost use Rattle.std.specs.Fmt.{decimal};
 ghost use Rattle.f2b_base.specs.Addresses.{printed};
-ghost use Rattle.regex_tool.specs.Sections.{address_of, detail_of, empty_section, line_text, piece, row_of, section_after, shown_if, shown_line, who_of};
+ghost use Rattle.regex_tool.specs.Sections.{address_of, detail_of, empty_section, line_text, piece, place_of, row_of, section_after, seen_text, shown_if, shown_line, who_of};
 ghost use Rattle.regex_tool.specs.Counts.{by_fail};
 
-use crate::counts::{by_fail, by_ignore, is_missed};
+use crate::counts::{by_fail, by_ignore, is_missed, plus_if};
+use crate::seen::Seen;
 use crate::zone::Zone;
+use date_detect::Found;
 use f2b_base::{Addr, Bytes, NoMemory};
 use filter_regex::Finding;
 use iso_moment::push_moment;
@@ -19,7 +21,8 @@ pub(crate) enum Kind {
     Nothing,
     /// Each line that a pattern of failures matched.
     Matched,
-    /// The same, each with the number of the pattern, its address, and its time in seconds and as a clock of the zone shows it.
+    /// The same, each with the number of the pattern, its address, its time in seconds and as a clock of the zone shows it, and
+    /// the place of its date.
     Detail(Zone),
     Ignored,
     Missed,
@@ -37,7 +40,7 @@ pub(crate) struct Section {
 }
 
 /// A line as it is shown. One that is too long has no text of its own.
-fn line_text(line: &Line) -> &[u8]
+pub(crate) fn line_text(line: &Line) -> &[u8]
     ensures { result.now ≡ line_text line.now }
 {
     match line {
@@ -82,23 +85,44 @@ fn push_who(alloc: Global, text: &mut Bytes, zone: Zone, finding: Finding) -> Re
     push_moment(text, zone.seconds(), time)
 }
 
+/// Where a date stands in its line, if it has one.
+fn push_place(alloc: Global, text: &mut Bytes, date: Option<Found>) -> Result<(), NoMemory>
+    ensures { OnOk result (text.new ≡ text.old ++ place_of date) }
+{
+    let Some(date) = date else {
+        return text.push_slice(b"-");
+    };
+    push_number(alloc, text, plus_if(true, date.start)?)?;
+    text.push_slice(b"-")?;
+    push_number(alloc, text, date.end)
+}
+
+/// Whose failure it is, and when, and where the date stands.
+fn push_seen(alloc: Global, text: &mut Bytes, zone: Zone, seen: &Seen) -> Result<(), NoMemory>
+    ensures { OnOk result (text.new ≡ text.old ++ seen_text zone seen.now) }
+{
+    push_who(alloc, text, zone, seen.finding)?;
+    text.push_slice(b" ")?;
+    push_place(alloc, text, seen.date)
+}
+
 /// A line with the number of the pattern that matched it, if one did.
 fn push_detail(
     alloc: Global,
     text: &mut Bytes,
     zone: Zone,
     line: &Line,
-    finding: Finding,
+    seen: &Seen,
 ) -> Result<(), NoMemory>
-    ensures { OnOk result (text.new ≡ text.old ++ detail_of zone (by_fail finding) line.now finding) }
+    ensures { OnOk result (text.new ≡ text.old ++ detail_of zone (by_fail seen.now.finding) line.now seen.now) }
 {
-    let Some(number) = by_fail(finding) else {
+    let Some(number) = by_fail(seen.finding) else {
         return Ok(());
     };
     text.push_slice(b"   ")?;
     push_number(alloc, text, u64::from(number))?;
     text.push_slice(b") ")?;
-    push_who(alloc, text, zone, finding)?;
+    push_seen(alloc, text, zone, seen)?;
     text.push_slice(b" ")?;
     text.push_slice(line_text(line))?;
     text.push_slice(b"\n")
@@ -115,7 +139,7 @@ fn push_address(text: &mut Bytes, finding: Finding) -> Result<(), NoMemory>
 }
 
 /// A number behind what stands there.
-fn push_number(alloc: Global, text: &mut Bytes, number: u64) -> Result<(), NoMemory>
+pub(crate) fn push_number(alloc: Global, text: &mut Bytes, number: u64) -> Result<(), NoMemory>
     ensures { OnOk result (text.new ≡ text.old ++ decimal number) }
 {
     let digits = format!(in alloc; "{number}")?;
@@ -141,18 +165,18 @@ fn push_piece(
     kind: Kind,
     text: &mut Bytes,
     line: &Line,
-    finding: Finding,
+    seen: &Seen,
 ) -> Result<(), NoMemory>
-    ensures { OnOk result (text.new ≡ text.old ++ piece kind line.now finding) }
+    ensures { OnOk result (text.new ≡ text.old ++ piece kind line.now seen.now) }
 {
     match kind {
         Kind::Nothing => Ok(()),
-        Kind::Matched => push_if(text, by_fail(finding).is_some(), line),
-        Kind::Detail(zone) => push_detail(alloc, text, zone, line, finding),
-        Kind::Ignored => push_if(text, by_ignore(finding).is_some(), line),
-        Kind::Missed => push_if(text, is_missed(finding), line),
-        Kind::Address => push_address(text, finding),
-        Kind::Row => push_row(alloc, text, line, finding),
+        Kind::Matched => push_if(text, by_fail(seen.finding).is_some(), line),
+        Kind::Detail(zone) => push_detail(alloc, text, zone, line, seen),
+        Kind::Ignored => push_if(text, by_ignore(seen.finding).is_some(), line),
+        Kind::Missed => push_if(text, is_missed(seen.finding), line),
+        Kind::Address => push_address(text, seen.finding),
+        Kind::Row => push_row(alloc, text, line, seen.finding),
     }
 }
 
@@ -168,14 +192,9 @@ impl Section {
     }
 
     /// Shows a line, where it is of the kind. After an error nothing is told of the text.
-    pub(crate) fn add(
-        &mut self,
-        alloc: Global,
-        line: &Line,
-        finding: Finding,
-    ) -> Result<(), NoMemory>
-        ensures { OnOk result (self.new ≡ section_after self.old line.now finding) }
+    pub(crate) fn add(&mut self, alloc: Global, line: &Line, seen: &Seen) -> Result<(), NoMemory>
+        ensures { OnOk result (self.new ≡ section_after self.old line.now seen.now) }
     {
-        push_piece(alloc, self.kind, &mut self.text, line, finding)
+        push_piece(alloc, self.kind, &mut self.text, line, seen)
     }
 }

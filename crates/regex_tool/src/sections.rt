@@ -3,10 +3,10 @@ ghost use Rattle.std.specs.Prelude.{◌≡◌, OnOk};
 ghost use Rattle.regex_tool.specs.Sections.{kind_if, kind_of, matched_kind, no_sections, sections_after};
 
 use crate::section::{Kind, Section};
+use crate::seen::Seen;
 use crate::shows::{Form, Shows};
 use crate::zone::Zone;
 use f2b_base::NoMemory;
-use filter_regex::Finding;
 use log_follow::Line;
 use std::alloc::Global;
 
@@ -65,17 +65,12 @@ impl Sections {
 
     /// Shows a line, wherever it is of the kind. After an error nothing is told of the texts.
     #[tactic(auto, unfolding(crate::specs::Sections::sections_after))]
-    pub(crate) fn add(
-        &mut self,
-        alloc: Global,
-        line: &Line,
-        finding: Finding,
-    ) -> Result<(), NoMemory>
-        ensures { OnOk result (self.new ≡ sections_after self.old line.now finding) }
+    pub(crate) fn add(&mut self, alloc: Global, line: &Line, seen: &Seen) -> Result<(), NoMemory>
+        ensures { OnOk result (self.new ≡ sections_after self.old line.now seen.now) }
     {
-        self.first.add(alloc, line, finding)?;
-        self.matched.add(alloc, line, finding)?;
-        self.ignored.add(alloc, line, finding)?;
-        self.missed.add(alloc, line, finding)
+        self.first.add(alloc, line, seen)?;
+        self.matched.add(alloc, line, seen)?;
+        self.ignored.add(alloc, line, seen)?;
+        self.missed.add(alloc, line, seen)
     }
 }

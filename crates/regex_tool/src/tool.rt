@@ -27,10 +27,10 @@ fn tested<F: Files>(
     ensures cause { IfErr result (HasCause (shown asked.now) (F.stands files.old) (F.stands files.new)) }
 {
     let jail = definition(alloc, asked, files)?;
-    let filter = build(alloc, files, &jail)?;
+    let trial = build(alloc, files, &jail, asked.shows)?;
     // As the server takes its readings.
     let now = now.min(LATEST_READING);
-    let results = results(alloc, files, &jail, &filter, asked, now)?;
+    let results = results(alloc, files, &jail, &trial, asked, now)?;
     Ok(output(alloc, asked.shows, &jail, &results)?)
 }
 
@@ -79,8 +79,8 @@ fn test<F: Files, K: Sink>(
 /// `--timezone ZONE`, no address left out, and failures of the last hundred years.
 ///
 /// One text is said: the report, or with `-o ip` and `-o row` a line for each failure, and behind it the lines that `-v`,
-/// `--print-all-matched`, `--print-all-ignored` and `--print-all-missed` show, and with `-v` what may be wrong with the patterns; or
-/// why the test is refused.
+/// `--print-all-matched`, `--print-all-ignored` and `--print-all-missed` show, and with `-v` what may be wrong with the patterns and
+/// the dates; or why the test is refused.
 pub fn regex_tool<F: Files, K: Sink>(
     alloc: Global,
     words: &[String],

@@ -1,13 +1,17 @@
 //! What may be wrong with a filter that is taken.
 ghost use Rattle.std.specs.Prelude.{◌≡◌, ◌<◌, ◌%◌, ◌==◌, ◌++◌, ◌^◌, length, OnOk};
 ghost use Rattle.std.specs.List.{suffix_len};
-ghost use Rattle.regex_tool.specs.Warnings.{has_front, has_end, is_backslash, warning, front_warning, end_warning, pattern_warnings, pref_warnings, fail_warnings, warnings};
+ghost use Rattle.regex_tool.specs.Warnings.{counted, date_warnings, elsewhere_warning, end_warning, fail_warnings, front_warning, has_end, has_front, is_backslash, jail_warnings, pattern_warnings, pref_warnings, run_warning, warning, warnings, zone_advice, zone_warning};
 ghost use Rattle.regex_tool.specs.Checks.{IsFew};
 
+use crate::notes::DateNotes;
 use crate::refusal::place_text;
+use crate::section::push_number;
 use crate::target::before_ending;
+use crate::zone::Zone;
 use f2b_base::{Bytes, JailDef, NoMemory, Text};
 use filter_regex::PatternPlace;
+use iso_moment::push_offset;
 use std::alloc::Global;
 
 /// Whether a pattern is written with `^` at its front.
@@ -111,20 +115,98 @@ fn push_fail(alloc: Global, text: &mut Bytes, patterns: &[Text]) -> Result<(), N
     Ok(())
 }
 
-/// What may be wrong with the filter of a jail, where that is asked for.
+/// What may be wrong with the patterns of a jail.
+fn push_jail(alloc: Global, text: &mut Bytes, jail: &JailDef) -> Result<(), NoMemory>
+    requires { IsFew jail.now }
+    ensures { OnOk result (text.new ≡ text.old ++ jail_warnings jail.now) }
+{
+    push_pref(alloc, text, &jail.pref)?;
+    push_fail(alloc, text, jail.fail.as_slice())
+}
+
+/// A number between two texts.
+#[tactic(auto, unfolding(crate::specs::Warnings::counted))]
+fn push_counted(
+    alloc: Global,
+    text: &mut Bytes,
+    before: &str,
+    count: u64,
+    behind: &str,
+) -> Result<(), NoMemory>
+    ensures { OnOk result (text.new ≡ text.old ++ counted before.now count behind.now) }
+{
+    text.push_slice(before.as_bytes())?;
+    push_number(alloc, text, count)?;
+    text.push_slice(behind.as_bytes())
+}
+
+/// Tells in how many lines dates stand elsewhere than at the beginning.
+fn push_elsewhere(alloc: Global, text: &mut Bytes, lines: u64) -> Result<(), NoMemory>
+    ensures { OnOk result (text.new ≡ text.old ++ elsewhere_warning lines) }
+{
+    if lines == 0 {
+        return Ok(());
+    }
+    let before = "WARNING datepattern finds a date elsewhere than at the beginning of ";
+    let behind =
+        " lines: where lines begin with their dates, write {^LN-BEG} before it, or alone\n";
+    push_counted(alloc, text, before, lines, behind)
+}
+
+/// The zone, for `--timezone` and for `logtimezone`.
+#[tactic(auto, unfolding(crate::specs::Warnings::zone_advice))]
+fn push_advice(text: &mut Bytes, other: Zone) -> Result<(), NoMemory>
+    ensures { OnOk result (text.new ≡ text.old ++ zone_advice other) }
+{
+    push_offset(text, other.seconds())?;
+    text.push_slice(b", and logtimezone = UTC")?;
+    push_offset(text, other.seconds())?;
+    text.push_slice(b"\n")
+}
+
+/// Tells how many of the last dates are of another zone.
+fn push_run(alloc: Global, text: &mut Bytes, run: u64, other: Zone) -> Result<(), NoMemory>
+    ensures { OnOk result (text.new ≡ text.old ++ run_warning run other) }
+{
+    let behind =
+        " dates are too old, or to come, by whole half hours: where they name no zone, write --timezone UTC";
+    push_counted(alloc, text, "WARNING the last ", run, behind)?;
+    push_advice(text, other)
+}
+
+/// The same where they are.
+fn push_zone(alloc: Global, text: &mut Bytes, run: u64, other: Option<Zone>) -> Result<(), NoMemory>
+    ensures { OnOk result (text.new ≡ text.old ++ zone_warning run other) }
+{
+    match other {
+        Some(other) => push_run(alloc, text, run, other),
+        None => Ok(()),
+    }
+}
+
+/// What may be wrong with the dates of lines.
+fn push_dates(alloc: Global, text: &mut Bytes, notes: &DateNotes) -> Result<(), NoMemory>
+    ensures { OnOk result (text.new ≡ text.old ++ date_warnings notes.now) }
+{
+    push_elsewhere(alloc, text, notes.elsewhere)?;
+    push_zone(alloc, text, notes.run, notes.other)
+}
+
+/// What may be wrong with the filter of a jail, by its patterns and by the dates of the lines that were tested, where that is asked for.
 #[tactic(auto, unfolding(crate::specs::Warnings::warnings))]
 pub(crate) fn push_warnings(
     alloc: Global,
     text: &mut Bytes,
     asked: bool,
     jail: &JailDef,
+    notes: &DateNotes,
 ) -> Result<(), NoMemory>
     requires { IsFew jail.now }
-    ensures { OnOk result (text.new ≡ text.old ++ warnings asked jail.now) }
+    ensures { OnOk result (text.new ≡ text.old ++ warnings asked jail.now notes.now) }
 {
     if !asked {
         return Ok(());
     }
-    push_pref(alloc, text, &jail.pref)?;
-    push_fail(alloc, text, jail.fail.as_slice())
+    push_jail(alloc, text, jail)?;
+    push_dates(alloc, text, notes)
 }

@@ -3,7 +3,7 @@ ghost use Rattle.std.specs.Prelude.{◌≡◌, ◌<◌, ◌≤◌, pos, neg_ℤ,
 ghost use Rattle.jail_conf.specs.Words.{number, if_between};
 ghost use Rattle.jail_conf.specs.Zones.{offset, behind_name, zone_of};
 ghost use Rattle.jiff_core.specs.Calendar.{IsWithin};
-ghost use Rattle.regex_tool.specs.Zones.{IsNear, zone_if};
+ghost use Rattle.regex_tool.specs.Zones.{IsNear, used_zone, zone_if};
 
 use std::marker::Model;
 
@@ -35,6 +35,17 @@ impl Zone {
         ensures within { IsWithin 86_399 result }
     {
         self.seconds
+    }
+
+    /// The zone so many seconds ahead of UTC, where places may have it: from 12 hours behind to 14 hours ahead.
+    pub(crate) fn used(seconds: i64) -> Option<Zone>
+        ensures { result ≡ used_zone seconds }
+    {
+        if -43_200 <= seconds && seconds <= 50_400 {
+            Some(Zone { seconds })
+        } else {
+            None
+        }
     }
 }
 

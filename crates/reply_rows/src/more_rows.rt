@@ -19,7 +19,7 @@ const EMPTY: [(&str, &str); 4] = [
 ];
 
 /// Of two jails in which nothing happened.
-const QUIET: [(&str, &str); 8] = [
+const QUIET: [(&str, &str); 12] = [
     (
         "status --all",
         "Status for the jail: sshd\n|- Filter\n|  |- Currently failed:\t0\n|  |- Total failed:\t0\n\
@@ -37,6 +37,22 @@ const QUIET: [(&str, &str); 8] = [
     ("get sshd actions", ""),
     (
         "get nojail actions",
+        "! Sorry but the jail 'nojail' does not exist",
+    ),
+    (
+        "get nojail ignoreregex",
+        "! Sorry but the jail 'nojail' does not exist",
+    ),
+    (
+        "get nojail datepattern",
+        "! Sorry but the jail 'nojail' does not exist",
+    ),
+    (
+        "get nojail maxmatches",
+        "! Sorry but the jail 'nojail' does not exist",
+    ),
+    (
+        "get nojail bantime.increment",
         "! Sorry but the jail 'nojail' does not exist",
     ),
 ];

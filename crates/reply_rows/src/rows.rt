@@ -17,7 +17,7 @@ const EMPTY: [(&str, &str); 6] = [
 ];
 
 /// Of two jails in which nothing happened.
-const QUIET: [(&str, &str); 20] = [
+const QUIET: [(&str, &str); 32] = [
     (
         "status",
         "Status\n|- Number of jail:\t2\n`- Jail list:\tsshd, web",
@@ -61,10 +61,58 @@ const QUIET: [(&str, &str); 20] = [
         "set nojail banip 192.0.2.7",
         "! Sorry but the jail 'nojail' does not exist",
     ),
+    (
+        "set nojail unbanip 192.0.2.7",
+        "! Sorry but the jail 'nojail' does not exist",
+    ),
+    (
+        "set nojail attempt 192.0.2.7",
+        "! Sorry but the jail 'nojail' does not exist",
+    ),
+    (
+        "set nojail findtime 10m",
+        "! Sorry but the jail 'nojail' does not exist",
+    ),
+    (
+        "set nojail bantime -1",
+        "! Sorry but the jail 'nojail' does not exist",
+    ),
+    (
+        "set nojail maxretry 3",
+        "! Sorry but the jail 'nojail' does not exist",
+    ),
+    (
+        "get nojail banip",
+        "! Sorry but the jail 'nojail' does not exist",
+    ),
+    (
+        "get nojail ignoreip",
+        "! Sorry but the jail 'nojail' does not exist",
+    ),
+    (
+        "get nojail logpath",
+        "! Sorry but the jail 'nojail' does not exist",
+    ),
+    (
+        "get nojail failregex",
+        "! Sorry but the jail 'nojail' does not exist",
+    ),
+    (
+        "get nojail findtime",
+        "! Sorry but the jail 'nojail' does not exist",
+    ),
+    (
+        "get nojail bantime",
+        "! Sorry but the jail 'nojail' does not exist",
+    ),
+    (
+        "get nojail maxretry",
+        "! Sorry but the jail 'nojail' does not exist",
+    ),
 ];
 
 /// Of masks and of whether a jail is idle.
-const SET: [(&str, &str); 8] = [
+const SET: [(&str, &str); 10] = [
     (
         "set sshd addignoreip 10.0.0.0/8",
         "10.0.0.0/8 192.0.2.7 2001:db8::1",
@@ -88,6 +136,14 @@ const SET: [(&str, &str); 8] = [
         "5 > Maxretry { jail: \"web\", number: 5 }",
     ),
     ("set web bantime 600", "600"),
+    (
+        "set nojail addignoreip 10.0.0.0/8",
+        "! Sorry but the jail 'nojail' does not exist",
+    ),
+    (
+        "set nojail delignoreip 192.0.2.7",
+        "! Sorry but the jail 'nojail' does not exist",
+    ),
 ];
 
 /// Of two jails with bans and failures.
@@ -121,13 +177,21 @@ const BUSY: [(&str, &str); 12] = [
 ];
 
 /// The same once a stop was asked for.
-const STOPPING: [(&str, &str); 10] = [
+const STOPPING: [(&str, &str); 18] = [
     ("ping", "pong"),
     ("stop", "Shutdown begun"),
     ("reload", "! Server is stopping"),
     ("unban --all", "! Server is stopping"),
     ("unban 192.0.2.8", "! Server is stopping"),
     ("set sshd findtime 10m", "! Server is stopping"),
+    ("set sshd banip 192.0.2.9", "! Server is stopping"),
+    ("set sshd unbanip 192.0.2.7", "! Server is stopping"),
+    ("set sshd attempt 192.0.2.9", "! Server is stopping"),
+    ("set sshd addignoreip 10.0.0.0/9", "! Server is stopping"),
+    ("set sshd delignoreip 10.0.0.0/8", "! Server is stopping"),
+    ("set sshd bantime -1", "! Server is stopping"),
+    ("set web maxretry 5", "! Server is stopping"),
+    ("set web idle on", "! Server is stopping"),
     (
         "set mail idle on",
         "! Sorry but the jail 'mail' does not exist",

@@ -2,6 +2,7 @@ mod OnceLemmas
 mod OneLaneLemmas
 mod LedgerLemmas
 mod StepLemmas
+mod HeadLemmas
 mod Rows
 mod LoadedLemmas
 mod ServerLemmas

@@ -1,10 +1,9 @@
 -- From the law alone: whatever comes, what a run starts is the first job of its lane, and what ends was started.
-use Rattle.std.proofs.Common.{ℕ, zero, suc, ◌≡◌, ◌+◌, ◌-◌, inl, inr, Bool, true, false, cond, nat_lt, ◌&&◌, List, [], ◌∷◌, ◌++◌, length, take, Option, Some, None, Result, Ok, Err, refl, sym, ap, ◌∙◌, append-nil, subst}
-use Rattle.std.specs.Prelude.{slice_get, ◌==◌, nat_le, find, not}
+use Rattle.std.proofs.Common.{ℕ, zero, suc, ◌≡◌, ◌+◌, ◌-◌, Bool, true, false, cond, nat_lt, ◌&&◌, List, [], ◌∷◌, ◌++◌, length, take, Option, Some, None, Result, Ok, Err, refl, sym, ap, ◌∙◌, append-nil, subst}
+use Rattle.std.specs.Prelude.{slice_get, ◌==◌, nat_le, not}
 use Rattle.std.specs.List.{list_any}
-use Rattle.std.proofs.lemmas.Bool.{and_parts, cases_Bool, or_left}
+use Rattle.std.proofs.lemmas.Bool.{and_parts, or_left}
 use Rattle.std.proofs.lemmas.List.{flat_map_more}
-use Rattle.std.proofs.lemmas.Option.{same_Some}
 use Rattle.f2b_base.specs.declared.ban.Failure.{Failure}
 use Rattle.f2b_base.specs.declared.input.What.TheVariants.{Tick}
 use Rattle.f2b_base.specs.declared.jail.Defs.{Defs}
@@ -81,9 +80,10 @@ use Rattle.run_jobs.specs.Runs.{HoldBytes, TriesJobsInOrder, start_of, starts_in
 use Rattle.run_jobs.proofs.OnceLemmas.{has_append, has_last}
 use Rattle.run_jobs.proofs.LoadedLemmas.{loaded_fine}
 use Rattle.run_jobs.proofs.ServedLemmas.{lets_in_fine, reads_fine}
+use Rattle.run_jobs.proofs.HeadLemmas.{Heads, found_passes, heads_lead}
 use Rattle.run_jobs.proofs.StepLemmas.{IsStarted, StandsInOrder}
 use Rattle.run_jobs.proofs.LedgerLemmas.{fine_in_order, started_fine}
-use Rattle.run_jobs.proofs.ServerLemmas.{BringsStarted, IsServerInOrder, after_right, begun_right, gone_right, has_at, passed_right, with_right, without_right}
+use Rattle.run_jobs.proofs.ServerLemmas.{BringsStarted, HeadsSome, IsNew, IsServerInOrder, after_right, begun_right, gone_absent, gone_right, has_at, passed_right, with_right, without_right}
 
 -- ---- points
 
@@ -145,40 +145,41 @@ module _ (started : List ℕ) where
 
   right_turned : (n : ℕ) (s : Server) → IsServerInOrder started s → IsPointInOrder (turned n s)
   right_turned zero s right = tt
-  right_turned (suc n) s right = record { lanes = right.lanes; children = right.children }
+  right_turned (suc n) s right = record { lanes = right.lanes; children = right.children; once = right.once; heads = right.heads }
 
   right_makes : (settings : Settings) (left : List Pattern) → started ≡ [] → IsPointInOrder (to_makes settings left)
   right_makes settings [] none = none
   right_makes settings (p ∷ ps) none = none
 
   right_first : (s : Server) → IsServerInOrder started s → IsPointInOrder (first_turn s)
-  right_first s right = record { lanes = right.lanes; children = right.children }
+  right_first s right = record { lanes = right.lanes; children = right.children; once = right.once; heads = right.heads }
 
   -- ---- what an event brings
 
   module _ (news : News) (next : Server → Point) (leads : (t : Server) → IsServerInOrder started t → IsPointInOrder (next t)) (s : Server) (r : Run) (right : IsServerInOrder started s) where
-    right_brings : BringsStarted started news.what → IsPointInOrder (brings news next s r).point
+    right_brings : BringsStarted started (jobs_of s.children.running) news.what → IsPointInOrder (brings news next s r).point
     right_brings is = brings_point IsPointInOrder (λ need limit. tt) tt news next s r (leads (after_news news s) (after_right started news.what s is right))
 
-  ticks : (b : Bool) → BringsStarted started (cond b (only Tick) nothing).what
-  ticks true = tt
-  ticks false = tt
+  module _ (running : List ℕ) where
+    ticks : (b : Bool) → BringsStarted started running (cond b (only Tick) nothing).what
+    ticks true = tt
+    ticks false = tt
 
-  configures : (b : Bool) (before : List (List ℕ)) (defs : Defs) (behind : List (List ℕ)) → BringsStarted started (config_news b before defs behind).what
-  configures true before defs behind = tt
-  configures false before defs behind = tt
+    configures : (b : Bool) (before : List (List ℕ)) (defs : Defs) (behind : List (List ℕ)) → BringsStarted started running (config_news b before defs behind).what
+    configures true before defs behind = tt
+    configures false before defs behind = tt
 
-  reads_to : (search : List Line → List Failure) (jail path : List ℕ) (step : Step) (o : Option LogPlace) → BringsStarted started (read_to search jail path step o)
-  reads_to search jail path step None = tt
-  reads_to search jail path step (Some place) = tt
+    reads_to : (search : List Line → List Failure) (jail path : List ℕ) (step : Step) (o : Option LogPlace) → BringsStarted started running (read_to search jail path step o)
+    reads_to search jail path step None = tt
+    reads_to search jail path step (Some place) = tt
 
-  reads : (o : Option (List Line → List Failure)) (jail path : List ℕ) (l : Looked) → BringsStarted started (read_of o jail path l)
-  reads None jail path l = tt
-  reads (Some search) jail path l = reads_to search jail path l.step l.moved
+    reads : (o : Option (List Line → List Failure)) (jail path : List ℕ) (l : Looked) → BringsStarted started running (read_of o jail path l)
+    reads None jail path l = tt
+    reads (Some search) jail path l = reads_to search jail path l.step l.moved
 
-  ends : (task : Task) (job : ℕ) (outcome : Outcome) → has job started ≡ true → IsStarted started (end_of task job outcome)
-  ends Command job outcome is = is
-  ends Check job outcome is = tt
+    ends : (task : Task) (job : ℕ) (outcome : Outcome) → has job started ≡ true → has job running ≡ false → IsStarted started running (end_of task job outcome)
+    ends Command job outcome is absent = (is, absent)
+    ends Check job outcome is absent = absent
 
   -- ---- the start of a run
 
@@ -212,19 +213,19 @@ module _ (started : List ℕ) where
   right_names : (before : List (List ℕ)) (settings : Settings) (naming : Naming) (left : List Path) (s : Server) (r : Run) → IsServerInOrder started s → IsPointInOrder (to_names before settings naming left s r).point
   right_names before settings naming [] s r right =
       let defs : Defs = with_paths settings.defs naming.found in
-      right_brings (start_news before defs s) first_turn right_first s r right (configures (config_changes s.state defs) before defs (ready_line s.now ∷ []))
+      right_brings (start_news before defs s) first_turn right_first s r right (configures (jobs_of s.children.running) (config_changes s.state defs) before defs (ready_line s.now ∷ []))
   right_names before settings naming (p ∷ ps) s r right =
       right_brings (record { before = before; what = None; behind = [] }) (AtNames settings naming) (λ t is. is) s r right tt
 
   -- ---- a turn
 
-  look_reads : (s : Server) (l : Watching) (file : FileLook) → BringsStarted started (look_taken s l file).read
+  look_reads : (s : Server) (l : Watching) (file : FileLook) → BringsStarted started (jobs_of s.children.running) (look_taken s l file).read
   unfolding look_taken
-  look_reads s l file = reads (finds_of l.jail s.now (log_jails s)) l.jail l.path (looked_of l.watch file)
+  look_reads s l file = reads (jobs_of s.children.running) (finds_of l.jail s.now (log_jails s)) l.jail l.path (looked_of l.watch file)
 
   right_looked : (answer : Look) (l : Watching) (i : ℕ) (s : Server) (r : Run) → IsServerInOrder started s → IsPointInOrder r.point → IsPointInOrder (looked answer l i s r).point
   right_looked (File file) l i s r right same =
-      right_brings (look_news s.now l (look_taken s l file)) (to_looks (i + 1)) (right_looks (i + 1)) (now_is i l file s) r (record { lanes = right.lanes; children = right.children }) (look_reads s l file)
+      right_brings (look_news s.now l (look_taken s l file)) (to_looks (i + 1)) (right_looks (i + 1)) (now_is i l file s) r (record { lanes = right.lanes; children = right.children; once = right.once; heads = right.heads }) (look_reads s l file)
   right_looked Absent l i s r right same = right_looks (i + 1) s right
   right_looked LookFailed l i s r right same = right_brings (unread_news s l) (to_looks (i + 1)) (right_looks (i + 1)) s r right tt
   right_looked LookNoMemory l i s r right same = same
@@ -233,44 +234,44 @@ module _ (started : List ℕ) where
   right_looked_at None answer i s r right same = same
   right_looked_at (Some l) answer i s r right same = right_looked answer l i s r right same
 
-  right_ended : (passed : Bool) (outcome : Outcome) (c : Child) (i : ℕ) (s : Server) (r : Run) → has c.job started ≡ true → IsServerInOrder started s → IsPointInOrder (ended_as passed outcome c i s r).point
-  right_ended true outcome c i s r is right = right_polls i (gone_passed c.job i s) (passed_right started c.job i s right)
-  right_ended false outcome c i s r is right = right_brings (end_news c outcome) (to_polls i) (right_polls i) (gone i s) r (gone_right started i s right) (ends c.task c.job outcome is)
+  right_ended : (passed : Bool) (outcome : Outcome) (c : Child) (i : ℕ) (s : Server) (r : Run) → slice_get s.children.running i ≡ Some c → IsServerInOrder started s → IsPointInOrder (ended_as passed outcome c i s r).point
+  right_ended true outcome c i s r at right = right_polls i (gone_passed c.job i s) (passed_right started c.job i s right)
+  right_ended false outcome c i s r at right =
+      right_brings (end_news c outcome) (to_polls i) (right_polls i) (gone i s) r (gone_right started i s right)
+      (ends (jobs_of (gone i s).children.running) c.task c.job outcome (right.children c.job (has_at s.children.running i c at)) (gone_absent s.children.running i c at right.once))
 
   right_polled : (o : Option Child) (answer : PollAnswer) (i : ℕ) (s : Server) (r : Run) → slice_get s.children.running i ≡ o → IsServerInOrder started s → IsPointInOrder r.point → IsPointInOrder (polled_at o answer i s r).point
   right_polled None answer i s r at right same = same
-  right_polled (Some c) (PollEnded status) i s r at right same =
-      right_ended (has_succeeded c.task (EndedWith status)) (EndedWith status) c i s r (right.children c.job (has_at s.children.running i c at)) right
+  right_polled (Some c) (PollEnded status) i s r at right same = right_ended (has_succeeded c.task (EndedWith status)) (EndedWith status) c i s r at right
   right_polled (Some c) Running i s r at right same = right_still (is_late s.now c) i s right
   right_polled (Some c) PollFailed i s r at right same = right_still (is_late s.now c) i s right
 
   right_killed : (o : Option Child) (i : ℕ) (s : Server) (r : Run) → slice_get s.children.running i ≡ o → IsServerInOrder started s → IsPointInOrder r.point → IsPointInOrder (killed_at o i s r).point
   right_killed None i s r at right same = same
-  right_killed (Some c) i s r at right same =
-      right_ended (has_succeeded c.task TimedOut) TimedOut c i s r (right.children c.job (has_at s.children.running i c at)) right
+  right_killed (Some c) i s r at right same = right_ended (has_succeeded c.task TimedOut) TimedOut c i s r at right
 
-  right_child : (answer : StartAnswer) (c : Child) (s : Server) (r : Run) → has c.job started ≡ true → IsServerInOrder started s → IsPointInOrder r.point → IsPointInOrder (child_started answer c s r).point
-  right_child Started c s r is right same = right_starts (with_child c s) (with_right started c s is right)
-  right_child StartFailed c s r is right same =
-      right_brings (end_news c NotStarted) to_starts right_starts (without_child c s) r (without_right started c s right) (ends c.task c.job NotStarted is)
-  right_child StartNoMemory c s r is right same = same
+  right_child : (answer : StartAnswer) (c : Child) (s : Server) (r : Run) → IsNew started c s → IsServerInOrder started s → IsPointInOrder r.point → IsPointInOrder (child_started answer c s r).point
+  right_child Started c s r new right same = right_starts (with_child c s) (with_right started c s new right)
+  right_child StartFailed c s r new right same =
+      right_brings (end_news c NotStarted) to_starts right_starts (without_child c s) r (without_right started c s right) (ends (jobs_of s.children.running) c.task c.job NotStarted new.counts new.absent)
+  right_child StartNoMemory c s r new right same = same
 
   -- a call on a client
-  right_serves : (x : Service) (s : Server) (r : Run) → BringsStarted started x.news.what → IsServerInOrder started s → IsPointInOrder (serves x s r).point
+  right_serves : (x : Service) (s : Server) (r : Run) → BringsStarted started (jobs_of s.children.running) x.news.what → IsServerInOrder started s → IsPointInOrder (serves x s r).point
   right_serves x s r is right =
-      right_brings x.news (point_on x.onward) (right_onward x.onward) (with_clients x.clients s) r (record { lanes = right.lanes; children = right.children }) is
+      right_brings x.news (point_on x.onward) (right_onward x.onward) (with_clients x.clients s) r (record { lanes = right.lanes; children = right.children; once = right.once; heads = right.heads }) is
 
   -- ---- a reload
 
   right_followed : (i : ℕ) (s : Server) → IsServerInOrder started s → IsPointInOrder (reloaded i s)
-  right_followed i s right = right_behind i (following s) (record { lanes = right.lanes; children = right.children })
+  right_followed i s right = right_behind i (following s) (record { lanes = right.lanes; children = right.children; once = right.once; heads = right.heads })
 
   right_renames : (before : List (List ℕ)) (settings : Settings) (naming : Naming) (left : List Path) (i : ℕ) (s : Server) (r : Run) → IsServerInOrder started s
       → IsPointInOrder (names_next (names_for i) (taken_for i) before settings naming left s r).point
   right_renames before settings naming left i s r right = names_by (λ (x : Run). IsPointInOrder x.point) (names_for i) (taken_for i) s r
       (λ lines defined at. right_brings (record { before = lines; what = None; behind = [] }) (names_for i defined at) (λ t is. is) s r right tt)
-      (λ lines defs. right_brings (reload_news lines defs s) (reloaded i) (right_followed i) (tells_taken i s) r (record { lanes = right.lanes; children = right.children })
-      (configures (config_changes s.state defs) lines defs (reloaded_line s.now ∷ []))) before settings naming left
+      (λ lines defs. right_brings (reload_news lines defs s) (reloaded i) (right_followed i) (tells_taken i s) r (record { lanes = right.lanes; children = right.children; once = right.once; heads = right.heads })
+      (configures (jobs_of s.children.running) (config_changes s.state defs) lines defs (reloaded_line s.now ∷ []))) before settings naming left
 
   right_left : (i : ℕ) (s : Server) (r : Run) → IsServerInOrder started s → (settings : Settings) (ps : List Pattern) → IsPointInOrder (left_for i s settings ps r).point
   right_left i s r right settings [] = right_renames [] settings (first_naming settings.defs) (first_naming settings.defs).left i s r right
@@ -296,12 +297,12 @@ module _ (started : List ℕ) where
 
   right_turns : (place : Place) (event : Event) (s : Server) (r : Run) → IsNoStart event → IsServerInOrder started s → IsPointInOrder r.point → IsPointInOrder (turns place event s r).point
   right_turns AtClock (Clock answer) s r none right same =
-      right_brings (tick_news (read_at answer s)) to_logs right_logs (read_at answer s) r (record { lanes = right.lanes; children = right.children }) (ticks (is_ban_due moves (read_at answer s).now s.state.jails))
+      right_brings (tick_news (read_at answer s)) to_logs right_logs (read_at answer s) r (record { lanes = right.lanes; children = right.children; once = right.once; heads = right.heads }) (ticks (jobs_of s.children.running) (is_ban_due moves (read_at answer s).now s.state.jails))
   right_turns (AtLook i) (LookAt path head from max answer) s r none right same = right_looked_at (slice_get s.logs i) answer i s r right same
   right_turns (AtPoll i) (ChildPoll job answer) s r none right same = right_polled (slice_get s.children.running i) answer i s r refl right same
   right_turns (AtKill i) (ChildKill job) s r none right same = right_killed (slice_get s.children.running i) i s r refl right same
-  right_turns AtAccept (GateAccept answer) s r none right same = right_serves (lets_in answer s) s r (lets_in_fine started answer s) right
-  right_turns (AtClient i) (GateRead conn max answer) s r none right same = right_serves (reads_client answer i s) s r (reads_fine started answer i s) right
+  right_turns AtAccept (GateAccept answer) s r none right same = right_serves (lets_in answer s) s r (lets_in_fine started (jobs_of s.children.running) answer s) right
+  right_turns (AtClient i) (GateRead conn max answer) s r none right same = right_serves (reads_client answer i s) s r (reads_fine started (jobs_of s.children.running) answer i s) right
   right_turns (AtClient i) (GateWrite conn bytes answer) s r none right same = right_serves (writes answer i s) s r tt right
   right_turns (AtClose i) (GateClose conn) s r none right same = right_serves (closes i s) s r tt right
   right_turns (AtReload reading i) event s r none right same = right_reloads reading event i s r right same
@@ -332,28 +333,20 @@ module _ (started : List ℕ) where
   right_feed r (DiskSync slot answer) held none same = synced_point IsPointInOrder tt r same answer
   right_feed r event held none same = right_moved r.point event r held none same same
 
-  -- ---- a start, once it counts
-
-  right_begins : (id : ℕ) (command : List ℕ) (answer : StartAnswer) (point : Point) (r : Run) → StartsAt point id command → has id started ≡ true → IsPointInOrder point → IsPointInOrder r.point
-      → IsPointInOrder (moved point (ChildStart id command answer) r).point
-  right_begins id command answer (AtTurn (AtStart c text) s) r starts is right same = right_child answer c s r (subst (λ (j : ℕ). has j started ≡ true) starts.2 is) right same
-  right_begins id command answer _ r starts is right same = absurd starts
-
 -- ---- a start is of the first job of its lane
 
-found_passes : {X : Type 0} (p : X → Bool) (xs : List X) (x : X) → find p xs ≡ Some x → p x ≡ true
-found_passes p [] x is = absurd (let e : None ≡ Some x = is in cc)
-found_passes p (y ∷ ys) x is = elim (cases_Bool (p y)) [
-  | inl h ↦ subst (λ z. p z ≡ true) (same_Some y x (rw h at is)) h
-  | inr h ↦ found_passes p ys x (rw h at is)
-]
-
-due_leads : (now : ℕ) (running : List ℕ) (all : List Job) (job : Job) → next_due now running all ≡ Some job → has_id job.id (head job.lane all) ≡ true
+due_leads : (now : ℕ) (running : List ℕ) (all : List Job) (job : Job) → next_due now running all ≡ Some job → (has_id job.id (head job.lane all) ≡ true) × (has job.id running ≡ false)
 due_leads now running all job is =
     let p : Job → Bool = λ (j : Job). is_head all j && (nat_le j.due now && not (list_any (λ id. id == j.id) running)) in
-    (and_parts (is_head all job) _ (found_passes p all job is)).0
+    let parts = and_parts (is_head all job) (nat_le job.due now && not (has job.id running)) (found_passes p all job is) in
+    (parts.0, absent_of (has job.id running) (and_parts (nat_le job.due now) (not (has job.id running)) parts.1).1)
+  where
+    absent_of : (b : Bool) → not b ≡ true → b ≡ false
+    absent_of true un = absurd (let e : false ≡ true = un in cc)
+    absent_of false un = refl
 
-startable_leads : (room : Bool) (now : ℕ) (running : List ℕ) (all : List Job) (job : Job) → cond room (next_due now running all) None ≡ Some job → has_id job.id (head job.lane all) ≡ true
+startable_leads : (room : Bool) (now : ℕ) (running : List ℕ) (all : List Job) (job : Job) → cond room (next_due now running all) None ≡ Some job
+    → (has_id job.id (head job.lane all) ≡ true) × (has job.id running ≡ false)
 startable_leads true now running all job is = due_leads now running all job is
 startable_leads false now running all job is = absurd (let e : None ≡ Some job = is in cc)
 
@@ -365,21 +358,52 @@ start_job : (now : ℕ) (job : Job) (o : Option UpLane) → job_at (start_place 
 start_job now job None = refl
 start_job now job (Some lane) = refl
 
-right_start_of : (started : List ℕ) (c : Child) (text : List ℕ) (s : Server) (job : Job) → IsStartFor s c text job → IsServerInOrder started s → IsServerInOrder (started ++ c.job ∷ []) s
-right_start_of started c text s job is right =
-    let same : c.job ≡ job.id = ap job_at is.child ∙ start_job s.now job (checked_first s.children (lanes_up s) (jobs s) job.id) in
-    let leads : has_id job.id (head job.lane (jobs s)) ≡ true = startable_leads (nat_lt (length s.children.running) most_children) s.now (jobs_of s.children.running) (jobs s) job is.next in
-    let P : ℕ → Type 0 = λ id. IsServerInOrder (started ++ id ∷ []) s in
-    subst P (sym same) record {
-      lanes = started_fine started s.state.lanes.jobs s.state.lanes.next_job job.id job.lane right.lanes leads;
-      children = λ other there. has_append other started (job.id ∷ []) ∙ or_left (has other started) _ (right.children other there);
+-- which job is started, of a lane that it leads, while nothing runs for it
+record IsOfHead (c : Child) (s : Server) : Type 0 where
+  pub job : Job
+  pub same : c.job ≡ job.id
+  pub leads : Heads job.id job.lane s.state.lanes
+  pub absent : has job.id (jobs_of s.children.running) ≡ false
+
+start_of_head : (c : Child) (text : List ℕ) (s : Server) (job : Job) → IsStartFor s c text job → IsOfHead c s
+start_of_head c text s job is =
+    let facts = startable_leads (nat_lt (length s.children.running) most_children) s.now (jobs_of s.children.running) (jobs s) job is.next in
+    record {
+      job = job;
+      same = ap job_at is.child ∙ start_job s.now job (checked_first s.children (lanes_up s) (jobs s) job.id);
+      leads = facts.0;
+      absent = facts.1;
     }
+
+right_start_of : (started : List ℕ) (c : Child) (s : Server) → IsOfHead c s → IsServerInOrder started s → IsServerInOrder (started ++ c.job ∷ []) s
+right_start_of started c s of right =
+    let P : ℕ → Type 0 = λ id. IsServerInOrder (started ++ id ∷ []) s in
+    subst P (sym of.same) record {
+      lanes = started_fine started s.state.lanes.jobs s.state.lanes.next_job of.job.id of.job.lane right.lanes of.leads;
+      children = λ other there. has_append other started (of.job.id ∷ []) ∙ or_left (has other started) _ (right.children other there);
+      once = right.once;
+      heads = right.heads;
+    }
+
+new_of : (started : List ℕ) (c : Child) (s : Server) → IsOfHead c s → has c.job started ≡ true → IsNew started c s
+new_of started c s of counts =
+    let P : ℕ → Type 0 = λ id. (has id (jobs_of s.children.running) ≡ false) × HeadsSome id s.state.lanes in
+    let there : P c.job = subst P (sym of.same) (of.absent, (of.job.lane, of.leads)) in
+    record { counts = counts; absent = there.0; heads = there.1 }
 
 right_before : (started : List ℕ) (id : ℕ) (command : List ℕ) (point : Point) → StartsAt point id command → IsPointInOrder started point → IsPointInOrder (started ++ id ∷ []) point
 right_before started id command (AtTurn (AtStart c text) s) starts right =
     let P : ℕ → Type 0 = λ j. IsServerInOrder (started ++ j ∷ []) s in
-    subst P (sym starts.2) (right_start_of started c text s starts.0 starts.1 right)
+    subst P (sym starts.2) (right_start_of started c s (start_of_head c text s starts.0 starts.1) right)
 right_before started id command _ starts right = absurd starts
+
+-- ---- a start, once it counts
+
+right_begins : (started : List ℕ) (id : ℕ) (command : List ℕ) (answer : StartAnswer) (point : Point) (r : Run) → StartsAt point id command → has id started ≡ true → IsPointInOrder started point
+    → IsPointInOrder started r.point → IsPointInOrder started (moved point (ChildStart id command answer) r).point
+right_begins started id command answer (AtTurn (AtStart c text) s) r starts is right same =
+    right_child started answer c s r (new_of started c s (start_of_head c text s starts.0 starts.1) (subst (λ (j : ℕ). has j started ≡ true) starts.2 is)) right same
+right_begins started id command answer _ r starts is right same = absurd starts
 
 -- ---- one event
 
@@ -462,6 +486,13 @@ module _ (words : List (List ℕ)) (slots : ℕ → List ℕ) (bytes : HoldBytes
         let P : Point → Type 0 = λ p. IsPointInOrder (starts_in (take (suc k) es)) p in
         let right : IsServerInOrder (starts_in (take (suc k) es)) s = subst P is (right_next k (slice_get es k) refl (right_at k)).0 in
         fine_in_order (starts_in (take (suc k) es)) s.state.lanes.jobs s.state.lanes.next_job right.lanes;
+    alone = λ k place s is.
+        let started : List ℕ = starts_in (take k es) in
+        let right : IsServerInOrder started s = subst (IsPointInOrder started) is (right_at k) in
+        record {
+          first = λ job there. let of = right.heads job there in heads_lead started job of.0 s.state.lanes right.lanes of.1;
+          once = right.once;
+        };
   }
 
 -- a run that obeys the law tries the jobs of each lane in their order

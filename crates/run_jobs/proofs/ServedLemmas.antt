@@ -26,11 +26,11 @@ use Rattle.run_law.specs.Serving.{lets_in, news_in, reads}
 use Rattle.run_jobs.proofs.ServerLemmas.{BringsStarted}
 use Rattle.run_jobs.proofs.StepLemmas.{IsStarted}
 
-module _ (started : List ℕ) where
+module _ (started running : List ℕ) where
   abbrev IsFine : Option What → Type 0
-  IsFine o = BringsStarted started o
+  IsFine o = BringsStarted started running o
 
-  unless_fine : (already : Bool) (happens : What) → IsStarted started happens → IsFine (cond already None (Some happens))
+  unless_fine : (already : Bool) (happens : What) → IsStarted started running happens → IsFine (cond already None (Some happens))
   unless_fine true happens is = tt
   unless_fine false happens is = is
 
@@ -87,10 +87,10 @@ module _ (started : List ℕ) where
   heard_fine now s Empty = tt
   heard_fine now s (BadWord at) = tt
 
-  pub reads_fine : (answer : GateRead) (i : ℕ) (s : Server) → BringsStarted started (reads answer i s).news.what
+  pub reads_fine : (answer : GateRead) (i : ℕ) (s : Server) → BringsStarted started running (reads answer i s).news.what
   reads_fine answer i s = heard_fine s.now s.state (heard_at answer i s.clients)
 
-  pub lets_in_fine : (answer : Accept) (s : Server) → BringsStarted started (lets_in answer s).news.what
+  pub lets_in_fine : (answer : Accept) (s : Server) → BringsStarted started running (lets_in answer s).news.what
   lets_in_fine (Conn conn) s = tt
   lets_in_fine Quiet s = tt
   lets_in_fine Failed s = tt

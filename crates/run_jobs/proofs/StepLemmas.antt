@@ -21,13 +21,14 @@ use Rattle.run_jobs.proofs.LedgerLemmas.{AreLanesInOrder, more_fine, tried_fine,
 abbrev pub StandsInOrder : List ℕ → Lanes Ledger → Type 0
 StandsInOrder started l = AreLanesInOrder started l.jobs l.next_job
 
--- what ends was started
-abbrev pub IsStarted : List ℕ → What → Type 0
-IsStarted started (Ended job outcome) = has job started ≡ true
-IsStarted started _ = Unit {0}
+-- what ends was started and runs no longer, and no check fails that still runs
+abbrev pub IsStarted : List ℕ → List ℕ → What → Type 0
+IsStarted started running (Ended job outcome) = (has job started ≡ true) × (has job running ≡ false)
+IsStarted started running (CheckFailed job outcome) = has job running ≡ false
+IsStarted started running _ = Unit {0}
 
 module _ (started : List ℕ) (at : ℕ) where
-  issued_fine : (os : List Order) (l : Lanes Ledger) → StandsInOrder started l → StandsInOrder started (issue books at os l)
+  pub issued_fine : (os : List Order) (l : Lanes Ledger) → StandsInOrder started l → StandsInOrder started (issue books at os l)
   issued_fine os l fine = more_fine started l.jobs l.next_job at os fine
 
   downs_fine : (held : List Held) (ls : List UpLane) (l : Lanes Ledger) → StandsInOrder started l → StandsInOrder started (all_down books at held ls l)
@@ -69,12 +70,12 @@ module _ (started : List ℕ) (at : ℕ) where
         | inr n ↦ rw n (restart_fine held (lane_of lane l.up) (void_all books at ids l) left)
       ]
 
-  done_fine : (what : What) (mid after : List Held) (l : Lanes Ledger) → IsStarted started what → StandsInOrder started l → StandsInOrder started (lanes_done books at what mid after l)
-  done_fine (Ended job outcome) mid after l is fine = try_fine job outcome l is fine
-  done_fine Stop mid after l is fine = downs_fine mid l.up l fine
-  done_fine (Config defs) mid after l is fine = configured_fine mid after (lanes_of defs) l fine
-  done_fine (CheckFailed job outcome) mid after l is fine = failed_fine after (checked_lane job (pending l.jobs)) l fine
-  done_fine _ mid after l is fine = fine
+  done_fine : (running : List ℕ) (what : What) (mid after : List Held) (l : Lanes Ledger) → IsStarted started running what → StandsInOrder started l → StandsInOrder started (lanes_done books at what mid after l)
+  done_fine running (Ended job outcome) mid after l is fine = try_fine job outcome l is.0 fine
+  done_fine running Stop mid after l is fine = downs_fine mid l.up l fine
+  done_fine running (Config defs) mid after l is fine = configured_fine mid after (lanes_of defs) l fine
+  done_fine running (CheckFailed job outcome) mid after l is fine = failed_fine after (checked_lane job (pending l.jobs)) l fine
+  done_fine running _ mid after l is fine = fine
 
-  pub step_fine : (what : What) (mid after : List Held) (told : List Happening) (l : Lanes Ledger) → IsStarted started what → StandsInOrder started l → StandsInOrder started (lanes_step books at what mid after told l)
-  step_fine what mid after told l is fine = done_fine what mid after (issue books at (told_orders l.up told) l) is (issued_fine (told_orders l.up told) l fine)
+  pub step_fine : (running : List ℕ) (what : What) (mid after : List Held) (told : List Happening) (l : Lanes Ledger) → IsStarted started running what → StandsInOrder started l → StandsInOrder started (lanes_step books at what mid after told l)
+  step_fine running what mid after told l is fine = done_fine running what mid after (issue books at (told_orders l.up told) l) is (issued_fine (told_orders l.up told) l fine)

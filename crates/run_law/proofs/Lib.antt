@@ -19,6 +19,7 @@ pub mod CauseLemmas
 pub mod TurnLemmas
 pub mod WordLemmas
 pub mod StopLemmas
+pub mod EndedLemmas
 pub mod ServeLemmas
 pub mod JailLemmas
 pub mod ChangeLemmas

@@ -5,6 +5,7 @@ use Rattle.f2b_world.specs.Told.{History, Standing, Adds}
 use Rattle.f2b_world.specs.Walks.{after, Along}
 use Rattle.f2b_world.specs.declared.event.Event.{Event}
 use Rattle.f2b_world.proofs.AddsLemmas.{adds_weaker}
+use Rattle.run_law.specs.Ended.{IsEndedBy}
 use Rattle.run_law.specs.Law.{Ends, Free, Halts, MayCome, begin, begin_with, feed, opening}
 use Rattle.run_law.specs.Points.{Run}
 use Rattle.run_law.specs.Served.{CountsTurns, IsCaused, IsRun, KeepsInputs, PollsEachOnce, SaysInOrder, StartsInTurn}
@@ -14,6 +15,7 @@ use Rattle.run_law.specs.Words.{plan_of}
 use Rattle.run_law.specs.declared.plan.Plan.{Plan}
 use Rattle.run_law.specs.declared.status.Status.{Status}
 use Rattle.run_law.specs.declared.status.Status.TheVariants.{Stopped, TurnsSpent, WorkloadDone, Usage, ConfFault, ConfRefused, DiskFault, NotAJournal, JournalFull, GateFault, SinkFault, ConfTooLarge, PatternRefused, NumbersSpent, NoMemory}
+use Rattle.run_law.proofs.EndedLemmas.{ended_by}
 use Rattle.run_law.proofs.LongLemmas.{Any, goes_none}
 use Rattle.run_law.proofs.PointLemmas.{halts_here}
 use Rattle.run_law.proofs.PolledLemmas.{polls_each_once}
@@ -60,6 +62,7 @@ run_is old new words status on halts =
     let law = obeyed old new words status on halts in
     record {
       law = law;
+      ended = adds_weaker P (λ g es. IsEndedBy words (held_in g) status es) old new law (λ g es o. ended_by words (held_in g) status es o.1);
       turns = adds_weaker P (λ g es. (plan : Plan) → plan_of words ≡ Some plan → CountsTurns plan.turns status es) old new law (λ g es o plan is. turns_counted words plan status g es is o);
       lines = adds_weaker P (λ g es. SaysInOrder words (held_in g) status es) old new law (λ g es o. says_in_order words (held_in g) status g es o.0 o.1);
       commands = adds_weaker P (λ g es. StartsInTurn words (held_in g) es) old new law (λ g es o. starts_in_turn words (held_in g) g es o.0);

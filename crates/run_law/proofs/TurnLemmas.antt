@@ -71,23 +71,23 @@ use Rattle.run_law.specs.declared.plan.Plan.{Plan}
 use Rattle.run_law.specs.declared.status.Status.{Status}
 use Rattle.run_law.specs.declared.status.Status.TheVariants.{Stopped, TurnsSpent, WorkloadDone, Usage, ConfFault, ConfRefused, DiskFault, NotAJournal, JournalFull, GateFault, SinkFault, ConfTooLarge, PatternRefused, NumbersSpent, NoMemory}
 
--- ---- where the entries of a turn lead: to a place of it, with the same server, or to the end of an orderly stop
+-- ---- where the entries of a turn lead: to a place of it, with the same server, or to the end of an orderly stop, where it is drained
 
 pub record IsOfTurn (point : Point) (s : Server) : Type 0 where
   pub place : Place
-  pub is : (point ≡ AtTurn place s) ⊎ (point ≡ Over Stopped)
+  pub is : (point ≡ AtTurn place s) ⊎ ((point ≡ Over Stopped) × (is_drained s ≡ true))
 
 -- what holds at each place of the turn and at that end holds at the point
 pub turn_by : (P : Point → Type 0) (point : Point) (s : Server) → IsOfTurn point s → ((place : Place) → P (AtTurn place s)) → P (Over Stopped) → P point
-turn_by P point s turn each stopped = elim turn.is [ inl at ↦ subst P (sym at) (each turn.place) | inr over ↦ subst P (sym over) stopped ]
+turn_by P point s turn each stopped = elim turn.is [ inl at ↦ subst P (sym at) (each turn.place) | inr over ↦ subst P (sym over.0) stopped ]
 
 end_of_turn : (s : Server) → IsOfTurn (to_end s) s
 unfolding to_end
-end_of_turn s = by_drained (is_drained s)
+end_of_turn s = by_drained (is_drained s) refl
   where
-    by_drained : (drained : Bool) → IsOfTurn (cond drained (Over Stopped) (at_pause s)) s
-    by_drained true = record { place = AtPause; is = inr refl }
-    by_drained false = record { place = AtPause; is = inl refl }
+    by_drained : (drained : Bool) → is_drained s ≡ drained → IsOfTurn (cond drained (Over Stopped) (at_pause s)) s
+    by_drained true is = record { place = AtPause; is = inr (refl, is) }
+    by_drained false is = record { place = AtPause; is = inl refl }
 
 start_of_turn : (o : Option Job) (s : Server) → IsOfTurn (start_point o s) s
 start_of_turn (Some job) s = record { place = start_place s.now job (checked_first s.children (lanes_up s) (jobs s) job.id); is = inl refl }

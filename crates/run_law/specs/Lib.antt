@@ -27,4 +27,5 @@ pub mod Law
 pub mod Stages
 pub mod Readers
 pub mod Stops
+pub mod Ended
 pub mod Served

@@ -12,6 +12,7 @@ use Rattle.child_table.specs.Children.{jobs_of}
 use Rattle.child_table.specs.declared.child.Child.{Child}
 use Rattle.run_law.specs.Children.{checked_first, startable}
 use Rattle.f2b_world.specs.Told.{Standing}
+use Rattle.run_law.specs.Ended.{IsEndedBy}
 use Rattle.run_law.specs.Law.{MayCome, Free, Ends, feed, begin}
 use Rattle.run_law.specs.Points.{AtClock, AtStart, AtPause, Point, AtTurn, Run}
 use Rattle.run_law.specs.Said.{joined}
@@ -123,11 +124,12 @@ pub record KeepsInputs (words : List (List ℕ)) (status : Status) (v : View) (g
 
 -- ---- the whole run
 
--- The run's events obey the law from the first to the last, the run ends with this status where no call is left, it made as many turns as were asked
--- for, its lines were said in their order, its commands were started in their turn, each of them was polled once a turn, and its inputs are kept,
--- whatever view it began on.
+-- The run's events obey the law from the first to the last, the run ends with this status where no call is left, and by an event that ends a run so
+-- or by its words, it made as many turns as were asked for, its lines were said in their order, its commands were started in their turn, each of them
+-- was polled once a turn, and its inputs are kept, whatever view it began on.
 pub record IsRun (old new : Option History) (words : List (List ℕ)) (status : Status) : Type 0 where
   pub law : Adds old new (λ g es. Obeys (begin words (held_in g)) g es × Ends status (run_after words (held_in g) es))
+  pub ended : Adds old new (λ g es. IsEndedBy words (held_in g) status es)
   pub turns : Adds old new (λ g es. (plan : Plan) → plan_of words ≡ Some plan → CountsTurns plan.turns status es)
   pub lines : Adds old new (λ g es. SaysInOrder words (held_in g) status es)
   pub commands : Adds old new (λ g es. StartsInTurn words (held_in g) es)

@@ -20,10 +20,10 @@ use Rattle.run_law.proofs.StageLemmas.{brings_same, fails_same}
 use Rattle.run_start.specs.Configured.{HasJails, IsConfiguring, TellsInput, configuring, input_if}
 use Rattle.run_start.specs.Followed.{ArePlaces}
 use Rattle.run_start.specs.declared.named.Named.{Named}
+use Rattle.run_start.proofs.ChangeLemmas.{change_told}
 use Rattle.run_start.proofs.JailLemmas.{places_stored, step_has, unchanged_has}
 use Rattle.run_steps.proofs.BringLemmas.{unbrought_cause}
-use Rattle.run_steps.proofs.ConfigLemmas.{change_told}
-use Rattle.run_steps.specs.Keeping.{KeepsClocked, Makes, TellsChange, input_of, news_of}
+use Rattle.run_steps.specs.Keeping.{KeepsClocked, Makes, input_of, news_of}
 use Rattle.run_steps.specs.declared.clocked.Clocked.{Clocked}
 
 config_news_is : (changes : Bool) (before : List (List ℕ)) (defs : Defs) (behind : List (List ℕ)) → config_news changes before defs behind ≡ record { before = before; what = input_if changes defs; behind = behind }
@@ -72,7 +72,7 @@ fit_defs defs s = (stored_fits (record { secs = 0; word = 0; what = Config defs 
 
 module _ (kept : Clocked) (core : Now) (defs : Defs) (changes : Bool) (same : core ≡ kept.engine.core) (storable : AreStorableDefs defs) (watched : AreWatched core.jails)
     (is : IsTrue changes ↔ (configured_now defs core ≢ core)) where
-  told : TellsChange kept defs changes
+  told : (s : Server) → KeepsClocked s kept → changes ≡ config_changes s.state defs
   told =
       let P : Now → Type 0 = λ n. AreWatched n.jails in
       let Q : Now → Type 0 = λ n. IsTrue changes ↔ (configured_now defs n ≢ n) in

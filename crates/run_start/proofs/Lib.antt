@@ -6,6 +6,7 @@ pub mod ListingLemmas
 pub mod JailLemmas
 pub mod WalkLemmas
 pub mod NamesLemmas
+pub mod ChangeLemmas
 pub mod ConfigureLemmas
 pub mod BeginLemmas
 pub mod FollowLemmas

@@ -2,6 +2,5 @@ pub mod ToldLemmas
 pub mod StoredLemmas
 pub mod WriteLemmas
 pub mod BringLemmas
-pub mod ConfigLemmas
 pub mod StartLemmas
 pub mod RunningLemmas

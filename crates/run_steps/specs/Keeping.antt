@@ -1,8 +1,7 @@
 -- What the code keeps of a server to take inputs.
-use Rattle.std.specs.Prelude.{ℕ, ◌≡◌, Bool, true, false, List, Option, Some, None}
+use Rattle.std.specs.Prelude.{ℕ, ◌≡◌, false, List, Option, Some, None}
 use Rattle.f2b_base.specs.declared.input.Input.{Input}
 use Rattle.f2b_base.specs.declared.input.What.{What}
-use Rattle.f2b_base.specs.declared.jail.Defs.{Defs}
 use Rattle.f2b_model.specs.Lanes.{books_now}
 use Rattle.f2b_model.specs.Sound.{IsSound}
 use Rattle.f2b_model.specs.Steps.{moves_now}
@@ -15,7 +14,6 @@ use Rattle.ban_journal.specs.Places.{IsPlaced}
 use Rattle.slot_writes.specs.Entries.{Entry, Full, Spent}
 use Rattle.reconcile.specs.Answers.{entry_for}
 use Rattle.log_set.specs.Logs.{IsSetOf}
-use Rattle.run_law.specs.Changes.{config_changes}
 use Rattle.run_law.specs.News.{News}
 use Rattle.run_law.specs.Server.{Server, log_jails}
 use Rattle.run_law.specs.Stages.{IsUnsaid}
@@ -80,7 +78,3 @@ IsUnbrought kept (Some what) old new NumbersSpent = entry_at kept what ≡ Spent
 IsUnbrought kept (Some what) old new (JournalFull need limit) = (bytes : ℕ) × (entry_at kept what ≡ Full bytes) × (need ≡ said bytes) × (limit ≡ kept.engine.journal.limit)
 IsUnbrought kept (Some what) old new DiskFault = Rose (old.faults OfDisk) (new.faults OfDisk)
 IsUnbrought kept what old new status = IsUnsaid old new status
-
--- a configuration is told to change the state of any server that is kept so exactly where it does
-abbrev pub TellsChange : Clocked → Defs → Bool → Type 0
-TellsChange kept defs changes = (s : Server) → KeepsClocked s kept → changes ≡ config_changes s.state defs

@@ -36,9 +36,10 @@ use Rattle.run_law.specs.declared.status.Status.TheVariants.{PatternRefused, NoM
 use Rattle.run_law.proofs.LongLemmas.{goes_on}
 use Rattle.run_law.proofs.PointLemmas.{next_at}
 use Rattle.run_steps.specs.Starting.{LeavesSlots}
-use Rattle.run_trees.specs.Reads.{BuildFails, Builds, BuildsShort, not_taken, with_left}
+use Rattle.run_trees.specs.Reads.{BuildFails, Builds, BuildsShort, IsUnrefused, RefusesNothing, not_taken, with_left}
 use Rattle.run_law.specs.Reading.{IsUntaken}
 use Rattle.run_trees.specs.Trees.{IsCaused, IsOfTree}
+use Rattle.run_trees.proofs.ReadsLemmas.{reads_short_here, unrefused_none}
 
 abbrev Placed : Type 0
 Placed = PatternPlace × List ℕ
@@ -202,20 +203,27 @@ jail_refused old new d jail place kind builds name =
       runs = λ plan settings left. record { runs = λ k r is still. goes_away k d settings left r still old.told new.told (patterns (rules_of d)) place kind builds.told };
     })
 
--- memory ran out before it was told
-pub jail_untold : (old new : Standing) (d : JailDef) (place : PatternPlace) (kind : BuildKind) → filter.Builds (rules_of d) (Err (Refused place kind)) old new → BuildsShort old new d
-jail_untold old new d place kind builds = record {
-  runs = λ plan settings left. record {
-    runs = λ k r is still. record {
-      last = not_taken (PatternRefused d.name place kind) k r;
-      goes = goes_away k d settings left r still old.told new.told (patterns (rules_of d)) place kind builds.told;
-      ends = tt;
-    };
-  };
-}
+-- memory ran out before anything happened
+pub jail_none : (a : Standing) (d : JailDef) → BuildsShort a a d
+jail_none a d = record { runs = λ plan settings left. reads_short_here a plan (with_left settings (patterns_of_jail d ++ left)) }
 
 pub jail_why : (jail : List ℕ) (place : PatternPlace) (kind : BuildKind) → IsUntaken (PatternRefused jail place kind)
 jail_why jail place kind = tt
+
+-- ---- answers that refuse nothing
+
+all_built : (ps : List Placed) → AllOf RefusesNothing (built ps)
+all_built [] = tt
+all_built (p ∷ ps) = (tt, all_built ps)
+
+pub jail_given : (old new : Standing) (d : JailDef) (rules : Rules) → filter.Builds (rules_of d) (Ok rules) old new → IsUnrefused old new
+jail_given old new d rules builds =
+    adds_weaker (λ g es. es ≡ built (patterns (rules_of d))) (λ g es. AllOf RefusesNothing es) old.told new.told builds.told (λ g es is. subst (AllOf RefusesNothing) (sym is) (all_built (patterns (rules_of d))))
+
+pub jail_unrefused : (old new : Standing) (d : JailDef) → filter.Builds (rules_of d) (Err MemoryError) old new → IsUnrefused old new
+jail_unrefused old new d builds =
+    adds_weaker (λ g es. (n : ℕ) × (es ≡ built (take n (patterns (rules_of d))))) (λ g es. AllOf RefusesNothing es) old.told new.told builds.told
+    (λ g es is. subst (AllOf RefusesNothing) (sym is.1) (all_built (take is.0 (patterns (rules_of d)))))
 
 -- ---- slots, and how long they are
 
@@ -271,4 +279,4 @@ jail_caused old new d jail place kind builds name =
     let P : List ℕ → Type 0 = λ n. IsCaused old new d (PatternRefused n place kind) in
     subst P (sym name) (record { cause = λ settings is stands. refusal_cause old new d place kind builds settings is stands })
 
-pub ruleset building = (jail_built, jail_still, jail_unbuilt, jail_refused, jail_untold, jail_caused, jail_steady)
+pub ruleset building = (jail_built, jail_still, jail_unbuilt, jail_refused, jail_none, jail_caused, jail_steady, unrefused_none)

@@ -1,6 +1,10 @@
 -- Parts of a reading, one behind the other, and the reading that a run starts with.
-use Rattle.std.proofs.Common.{◌≡◌, [], ◌∷◌, refl, sym, ap, subst}
-use Rattle.f2b_world.specs.Told.{Standing}
+use Rattle.std.proofs.Common.{◌≡◌, List, [], ◌∷◌, refl, sym, ap, subst}
+use Rattle.f2b_model.specs.Lists.{AllOf}
+use Rattle.f2b_model.proofs.StorableLaneLemmas.{all_both}
+use Rattle.f2b_world.specs.Told.{Called, History, IsHonest, Standing}
+use Rattle.f2b_world.specs.declared.event.Event.{Event}
+use Rattle.f2b_world.proofs.AddsLemmas.{adds_none, adds_then, adds_weaker}
 use Rattle.jail_conf.specs.declared.settings.Settings.{Settings}
 use Rattle.run_law.specs.Law.{Goes, Halts}
 use Rattle.run_law.specs.News.{goes_to, refused}
@@ -14,7 +18,7 @@ use Rattle.run_law.specs.declared.status.Status.TheVariants.{ConfFault, ConfRefu
 use Rattle.run_law.proofs.CauseLemmas.{refused_cause}
 use Rattle.run_law.proofs.PointLemmas.{goes_refl, goes_trans, halts_after, halts_here}
 use Rattle.run_steps.specs.Starting.{StartFails, Starts}
-use Rattle.run_trees.specs.Reads.{Reads, ReadsShort, at_tree, not_taken, with_left}
+use Rattle.run_trees.specs.Reads.{IsUnrefused, Reads, ReadsShort, RefusesNothing, at_tree, not_taken, with_left}
 use Rattle.run_law.specs.Reading.{IsUntaken}
 
 -- a part that does nothing
@@ -37,7 +41,24 @@ reads_short_on a b c plan from mid p q = record {
 pub reads_short_here : (a : Standing) (plan : Plan) (from : Reader → Run → Run) → ReadsShort a a plan from
 reads_short_here a plan from = record { runs = λ k r is still. halts_here a.told (from k r) }
 
-pub ruleset reading = (reads_trans, reads_short_on, reads_short_here)
+-- ---- answers that refuse nothing
+
+-- there is none
+pub unrefused_none : (a : Standing) → IsUnrefused a a
+unrefused_none a = adds_weaker (λ g es. es ≡ []) (λ g es. AllOf RefusesNothing es) a.told a.told (adds_none a.told) (λ g es is. subst (AllOf RefusesNothing) (sym is) tt)
+
+-- there is one
+pub unrefused_call : (a b : Standing) (event : Event) → RefusesNothing event → Called a event b → IsUnrefused a b
+unrefused_call a b event none call =
+    adds_weaker (λ g es. (es ≡ event ∷ []) × IsHonest g event) (λ g es. AllOf RefusesNothing es) a.told b.told call.adds (λ g es is. subst (AllOf RefusesNothing) (sym is.0) (none, tt))
+
+-- they come one behind the other
+pub unrefused_trans : (a b c : Standing) → IsUnrefused a b → IsUnrefused b c → IsUnrefused a c
+unrefused_trans a b c p q =
+    let P : History → List Event → Type 0 = λ g es. AllOf RefusesNothing es in
+    adds_then P P P a.told b.told c.told p q (λ g h xs ys before behind. all_both RefusesNothing xs ys before behind)
+
+pub ruleset reading = (reads_trans, reads_short_on, reads_short_here, unrefused_trans)
 
 pub ruleset beginning = (reads_none, reads_short_here)
 

@@ -1,4 +1,5 @@
 -- The configuration of a plan is read, whoever reads it, or why it is not taken.
+use Rattle.std.specs.Prelude.{IfOk}
 use Rattle.std.proofs.Common.{ℕ, ◌≡◌, List, Option, Some, None, Result, Ok, Err, refl, sym, ap, ◌∙◌, subst}
 use Rattle.f2b_base.specs.declared.outside.Tree.{Tree}
 use Rattle.f2b_base.specs.declared.outside.TreeAnswer.{TreeAnswer}
@@ -9,6 +10,9 @@ use Rattle.f2b_world.specs.declared.event.Event.TheVariants.{Config}
 use Rattle.f2b_model.specs.Storable.{AreStorableDefs}
 use Rattle.jail_conf.specs.Conf.{conf}
 use Rattle.jail_conf.specs.declared.conf_error.ConfError.{ConfError}
+use Rattle.jail_conf.specs.Then.{Gives}
+use Rattle.jail_conf.specs.declared.fail.Fail.{Fail}
+use Rattle.jail_conf.specs.declared.fail.Fail.TheVariants.{Refused, NoMemory as FailNoMemory}
 use Rattle.jail_conf.specs.declared.settings.Settings.{Settings}
 use Rattle.run_law.specs.Calls.{Call, IsNext}
 use Rattle.run_law.specs.Law.{Goes}
@@ -24,16 +28,23 @@ use Rattle.run_law.proofs.CauseLemmas.{steady_call, steady_refl}
 use Rattle.run_law.proofs.PointLemmas.{halts_after, halts_here, point_goes}
 use Rattle.run_steps.specs.Starting.{LeavesSlots}
 use Rattle.run_steps.proofs.StartLemmas.{leaves_call}
-use Rattle.run_trees.specs.Reads.{Reads, ReadsShort, at_tree, not_taken, with_left}
+use Rattle.run_trees.specs.Reads.{IsUnrefused, Reads, ReadsShort, at_tree, not_taken, with_left}
 use Rattle.run_law.specs.Reading.{IsUntaken}
-use Rattle.run_trees.specs.Trees.{IsDecided, IsOfTree, IsRead}
+use Rattle.run_trees.specs.Trees.{IsDecided, IsOfTree, IsOutcome, IsRead, MayWantMemory}
+use Rattle.run_trees.proofs.ReadsLemmas.{unrefused_call, unrefused_none}
 
 -- ---- what a tree comes to
 
-pub tree_read_so : (tree : Tree) (settings : Settings) → conf tree ≡ Ok settings → AreStorableDefs settings.defs → IsRead tree settings
-tree_read_so tree settings is stored = record { defined = is; storable = stored }
+pub tree_decided : {E : Type 0} (tree : Tree) (made : Result Settings (Fail ConfError)) (outcome : Result (Result Settings Status) E) → Gives (conf tree) made
+    → IfOk made (λ settings. AreStorableDefs settings.defs) → IsOutcome made outcome → IfOk outcome (IsDecided (TreeGiven tree))
+tree_decided tree (Ok settings) (Ok (Ok same)) gives stored is = subst (IsRead tree) (sym is) (record { defined = gives; storable = stored })
+tree_decided tree (Err (Refused error)) (Ok (Err (ConfRefused same))) gives stored is =
+    let P : ConfError → Type 0 = λ e. conf tree ≡ Err e in
+    subst P (sym is) gives
+tree_decided tree (Err FailNoMemory) (Err lost) gives stored is = tt
+tree_decided tree _ _ gives stored is = absurd is
 
-pub ruleset deciding = (tree_read_so)
+pub ruleset deciding = (tree_decided)
 
 -- ---- where an answer leads
 
@@ -102,6 +113,19 @@ module _ (a b : Standing) (plan : Plan) where
   tree_lost TreeFailed asked = tree_short TreeFailed asked
   tree_lost TreeTooLarge asked = tree_short TreeTooLarge asked
 
+  -- no answer refuses the configuration where memory runs out over it
+  pub tree_unrefused : (answer : TreeAnswer) → Asked a (config_event plan.root answer) b → MayWantMemory answer → IsUnrefused a b
+  tree_unrefused (TreeGiven tree) asked may = unrefused_call a b (Config plan.root (TreeGiven tree)) tt asked
+  tree_unrefused TreeNoMemory asked may =
+      let P : Standing → Type 0 = λ s. IsUnrefused a s in
+      subst P (sym asked) (unrefused_none a)
+  tree_unrefused _ asked may = absurd may
+
+  -- nor where it is read
+  pub tree_given : (answer : TreeAnswer) (settings : Settings) → Asked a (config_event plan.root answer) b → IsDecided answer (Ok settings) → IsUnrefused a b
+  tree_given (TreeGiven tree) settings asked is = tree_unrefused (TreeGiven tree) asked tt
+  tree_given _ settings asked is = absurd is
+
 pub asked_steady : (a b : Standing) (event : Option Event) → Asked a event b → IsSteady a b
 asked_steady a b None asked = let P : Standing → Type 0 = λ s. IsSteady a s in subst P (sym asked) (steady_refl a)
 asked_steady a b (Some event) asked = steady_call a b event asked
@@ -141,4 +165,4 @@ tree_stored TreeFailed settings is = absurd is
 tree_stored TreeTooLarge settings is = absurd is
 tree_stored TreeNoMemory settings is = absurd is
 
-pub ruleset reading = (tree_taken, tree_untaken, tree_lost, tree_still, asked_steady, tree_why, tree_cause, tree_is, tree_stored)
+pub ruleset reading = (tree_taken, tree_untaken, tree_lost, tree_unrefused, tree_given, tree_still, asked_steady, tree_why, tree_cause, tree_is, tree_stored)

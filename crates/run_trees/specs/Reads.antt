@@ -1,7 +1,12 @@
 -- What a part of the reading of a configuration does, whoever reads it: the start of a run, or a client that asked for it.
 use Rattle.std.specs.Prelude.{◌≡◌, ◌++◌, List, Result, IfErr, IfOk}
 use Rattle.f2b_base.specs.declared.jail.JailDef.{JailDef}
-use Rattle.f2b_world.specs.Told.{Standing}
+use Rattle.f2b_base.specs.declared.outside.TreeAnswer.TheVariants.{Failed as TreeFailed, TooLarge as TreeTooLarge}
+use Rattle.f2b_model.specs.Lists.{AllOf}
+use Rattle.f2b_world.specs.Told.{Adds, Standing}
+use Rattle.f2b_world.specs.declared.answer.MakeAnswer.TheVariants.{Syntax as WasSyntax, TooBig as WasTooBig}
+use Rattle.f2b_world.specs.declared.event.Event.{Event}
+use Rattle.f2b_world.specs.declared.event.Event.TheVariants.{Config, Make}
 use Rattle.jail_conf.specs.declared.settings.Settings.{Settings}
 use Rattle.run_law.specs.Law.{Goes, Halts}
 use Rattle.run_law.specs.News.{goes_to}
@@ -35,6 +40,20 @@ pub record Reads (old new : Standing) (plan : Plan) (from there : Reader → Run
 -- memory ran out on the way
 pub record ReadsShort (old new : Standing) (plan : Plan) (from : Reader → Run → Run) : Type 0 where
   pub runs : (k : Reader) (r : Run) → r.plan ≡ plan → IsStill r → Halts old.told new.told (from k r) NoMemory
+
+-- ---- what is answered on the way
+
+-- the tree is read, and the pattern is built
+abbrev pub RefusesNothing : Event → Type 0
+RefusesNothing (Config root TreeFailed) = ⊥
+RefusesNothing (Config root TreeTooLarge) = ⊥
+RefusesNothing (Make text WasSyntax) = ⊥
+RefusesNothing (Make text WasTooBig) = ⊥
+RefusesNothing _ = Unit {0}
+
+-- no answer refuses the configuration
+abbrev pub IsUnrefused : Standing → Standing → Type 0
+IsUnrefused old new = Adds old.told new.told (λ g events. AllOf RefusesNothing events)
 
 -- ---- the patterns of one jail, whatever comes behind them
 

@@ -5,7 +5,7 @@ ghost use Rattle.filter_regex.specs.Rules.{IsSupported, rules_of};
 ghost use Rattle.run_law.specs.Patterns.{patterns_of};
 ghost use Rattle.run_law.specs.Stages.{HasCause, IsSteady};
 ghost use Rattle.run_steps.specs.Starting.{LeavesSlots};
-ghost use Rattle.run_trees.specs.Reads.{BuildFails, Builds, BuildsShort, IfTaken, IfUntaken, Reads, ReadsShort, not_taken, with_left};
+ghost use Rattle.run_trees.specs.Reads.{BuildFails, Builds, BuildsShort, IfTaken, IfUntaken, IsUnrefused, Reads, ReadsShort, not_taken, with_left};
 ghost use Rattle.run_law.specs.Reading.{IsUntaken};
 ghost use Rattle.run_trees.specs.Trees.{IsCaused, IsOfTree};
 
@@ -28,22 +28,23 @@ fn build_filter<W: World>(
     ensures taken { IfTaken result (λ filter. Builds (W.stands world.old) (W.stands world.new) jail.now) }
     ensures untaken { IfUntaken result (BuildFails (W.stands world.old) (W.stands world.new) jail.now) }
     ensures lost { OnErr result (BuildsShort (W.stands world.old) (W.stands world.new) jail.now) }
+    ensures given { IfTaken result (λ filter. IsUnrefused (W.stands world.old) (W.stands world.new)) }
+    ensures unrefused { OnErr result (IsUnrefused (W.stands world.old) (W.stands world.new)) }
     ensures still { IfTaken result (λ filter. LeavesSlots (W.stands world.old) (W.stands world.new)) }
     ensures why { IfUntaken result IsUntaken }
     ensures cause { IfUntaken result (IsCaused (W.stands world.old) (W.stands world.new) jail.now) }
     ensures steady { IsSteady (W.stands world.old) (W.stands world.new) }
 {
+    // A copy for a refusal, which needs no memory then.
+    let name = jail.name.copy()?;
     match Filter::build(alloc, world, jail) {
         Ok(filter) => Ok(Ok(filter)),
         Err(PatternError::NoMemory) => Err(NoMemory),
-        Err(PatternError::Refused { place, kind }) => {
-            let name = jail.name.copy()?;
-            Ok(Err(Status::PatternRefused {
-                jail: name,
-                place,
-                kind,
-            }))
-        }
+        Err(PatternError::Refused { place, kind }) => Ok(Err(Status::PatternRefused {
+            jail: name,
+            place,
+            kind,
+        })),
     }
 }
 
@@ -71,6 +72,9 @@ pub fn build_filters<W: World>(
     ensures taken { IfTaken result (λ filters. Reads (W.stands world.old) (W.stands world.new) plan.now (with_left settings.now (patterns_of settings.now.defs)) (with_left settings.now [])) }
     ensures untaken { IfUntaken result (λ status. Reads (W.stands world.old) (W.stands world.new) plan.now (with_left settings.now (patterns_of settings.now.defs)) (not_taken status)) }
     ensures lost { OnErr result (ReadsShort (W.stands world.old) (W.stands world.new) plan.now (with_left settings.now (patterns_of settings.now.defs))) }
+
+    // Memory runs out only where no answer refuses it.
+    ensures unrefused { OnErr result (IsUnrefused (W.stands world.old) (W.stands world.new)) }
 
     ensures still { IfTaken result (λ filters. LeavesSlots (W.stands world.old) (W.stands world.new)) }
     ensures why { IfUntaken result IsUntaken }

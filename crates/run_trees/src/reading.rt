@@ -8,7 +8,7 @@ ghost use Rattle.filter_regex.specs.Rules.{IsSupported, rules_of};
 ghost use Rattle.run_law.specs.Points.{AtStore, AtTree};
 ghost use Rattle.run_law.specs.Stages.{HasCause, IsSteady};
 ghost use Rattle.run_steps.specs.Starting.{LeavesSlots, Starts, StartFails};
-ghost use Rattle.run_trees.specs.Reads.{IfTaken, IfUntaken, Reads, ReadsShort, at_tree, not_taken, with_left};
+ghost use Rattle.run_trees.specs.Reads.{IfTaken, IfUntaken, IsUnrefused, Reads, ReadsShort, at_tree, not_taken, with_left};
 ghost use Rattle.run_law.specs.Reading.{IsUntaken};
 ghost use Rattle.run_trees.specs.Trees.{IsOfTree};
 
@@ -33,6 +33,9 @@ pub fn try_configuration<W: World>(
     ensures taken { IfTaken result (λ read. Reads (W.stands world.old) (W.stands world.new) plan.now at_tree (with_left read.settings [])) }
     ensures untaken { IfUntaken result (λ status. Reads (W.stands world.old) (W.stands world.new) plan.now at_tree (not_taken status)) }
     ensures lost { OnErr result (ReadsShort (W.stands world.old) (W.stands world.new) plan.now at_tree) }
+
+    // Memory runs out only where no answer refuses it.
+    ensures unrefused { OnErr result (IsUnrefused (W.stands world.old) (W.stands world.new)) }
 
     ensures defined { IfTaken result (λ read. IsOfTree read.settings) }
     ensures fit { IfTaken result (λ read. AreFitDefs read.settings.defs) }

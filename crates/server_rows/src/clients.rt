@@ -1,6 +1,6 @@
 //! Runs with clients, as transcripts of what is said and replied, of the clients that come and leave, and of commands.
 use crate::callers::{Caller, plans};
-use crate::play::{File, Given, nothing, one, play_over, tree};
+use crate::play::{File, Given, log, nothing, one, play_over, tree};
 use crate::transcript::transcript;
 use f2b_base::{Seq, TreeAnswer};
 use f2b_mem::ChildPlan;
@@ -12,8 +12,10 @@ struct Row {
     words: &'static str,
     /// The files of the configuration, in byte order of their paths.
     conf: &'static [File<'static>],
-    /// Those of its second reading and those behind, where they are others.
-    again: Option<&'static [File<'static>]>,
+    /// Those of its readings behind the first, in order; the last stay.
+    again: &'static [&'static [File<'static>]],
+    /// What is written to the log before the first turn, before the second, and so on.
+    log: &'static [&'static str],
     /// At the start, and then turn by turn.
     readings: &'static [u64],
     callers: &'static [Caller],
@@ -57,7 +59,8 @@ const REQUESTS: [Row; 3] = [
     Row {
         words: "--conf /c --turns 6",
         conf: PLAIN,
-        again: None,
+        again: &[],
+        log: &[],
         readings: &[1700001000],
         callers: &[Caller {
             pauses: 0,
@@ -72,7 +75,8 @@ const REQUESTS: [Row; 3] = [
     Row {
         words: "--conf /c --turns 6",
         conf: NOTED,
-        again: None,
+        again: &[],
+        log: &[],
         readings: &[1700001000],
         callers: &[Caller {
             pauses: 0,
@@ -87,7 +91,8 @@ const REQUESTS: [Row; 3] = [
     Row {
         words: "--conf /c --turns 12",
         conf: PLAIN,
-        again: None,
+        again: &[],
+        log: &[],
         readings: &[1700001000],
         callers: &[Caller {
             pauses: 0,
@@ -112,7 +117,8 @@ const LEAVES: [Row; 4] = [
     Row {
         words: "--conf /c --turns 4",
         conf: PLAIN,
-        again: None,
+        again: &[],
+        log: &[],
         readings: &[1700001000, 1700001000, 1700001000, 1700001029, 1700001030],
         callers: &[Caller {
             pauses: 0,
@@ -127,7 +133,8 @@ const LEAVES: [Row; 4] = [
     Row {
         words: "--conf /c --turns 7",
         conf: PLAIN,
-        again: None,
+        again: &[],
+        log: &[],
         readings: &[1700001000],
         callers: &[
             Caller {
@@ -154,7 +161,8 @@ const LEAVES: [Row; 4] = [
     Row {
         words: "--conf /c --turns 2",
         conf: PLAIN,
-        again: None,
+        again: &[],
+        log: &[],
         readings: &[1700001000],
         callers: &[Caller {
             pauses: 0,
@@ -169,7 +177,8 @@ const LEAVES: [Row; 4] = [
     Row {
         words: "--conf /c --turns 19",
         conf: PLAIN,
-        again: None,
+        again: &[],
+        log: &[],
         readings: &[
             1700001000, 1700001000, 1700001001, 1700001002, 1700001003, 1700001004, 1700001005,
             1700001006, 1700001007, 1700001008, 1700001009, 1700001010, 1700001011, 1700001012,
@@ -190,7 +199,8 @@ const STOPS: [Row; 2] = [
     Row {
         words: "--conf /c --turns 20",
         conf: NOTED,
-        again: None,
+        again: &[],
+        log: &[],
         readings: &[1700001000],
         callers: &[Caller {
             pauses: 0,
@@ -205,7 +215,8 @@ const STOPS: [Row; 2] = [
     Row {
         words: "--conf /c --turns 20",
         conf: NOTED,
-        again: None,
+        again: &[],
+        log: &[],
         readings: &[1700001000],
         callers: &[Caller {
             pauses: 0,
@@ -243,12 +254,22 @@ const REFUSED: &[File] = &[
     ),
 ];
 
-const RELOADS: [Row; 4] = [
+/// One that is too large: a world in memory takes a file with such a path for that.
+const TOO_LARGE: &[File] = &[("none", "")];
+
+/// One with a pattern that is none.
+const OPEN: &[File] = &[(
+    "jail.conf",
+    "[web]\nenabled = true\nlogpath = /log\nfailregex = (<IP4>\n",
+)];
+
+const RELOADS: [Row; 6] = [
     // One that changes nothing is said, and replied to in the next turn.
     Row {
         words: "--conf /c --turns 3",
         conf: PLAIN,
-        again: None,
+        again: &[],
+        log: &[],
         readings: &[1700001000],
         callers: &[Caller {
             pauses: 0,
@@ -263,7 +284,8 @@ const RELOADS: [Row; 4] = [
     Row {
         words: "--conf /c --turns 6",
         conf: PLAIN,
-        again: Some(REFUSED),
+        again: &[REFUSED],
+        log: &[],
         readings: &[1700001000],
         callers: &[Caller {
             pauses: 0,
@@ -274,11 +296,48 @@ const RELOADS: [Row; 4] = [
         fails: &[],
         transcript: "1700001000 INFO Server ready\naccept 0\npause\n1700001000 ERROR Configuration refused: jail.conf [web] bantime: BadTime\npause\nreply 0 refused Configuration refused: jail.conf [web] bantime: BadTime\npause\npause\npause\nreply 0 accepted 60\npause\n",
     },
+    // One that cannot be read, one that is too large, and one with a pattern that is none: each changes nothing.
+    Row {
+        words: "--conf /c --turns 12",
+        conf: PLAIN,
+        again: &[PLAIN, TOO_LARGE, OPEN],
+        log: &[],
+        readings: &[1700001000],
+        callers: &[Caller {
+            pauses: 0,
+            asks: &["reload", "reload", "reload", "get web bantime"],
+            tail: &[],
+        }],
+        polls: &[],
+        fails: &[29],
+        transcript: "1700001000 INFO Server ready\naccept 0\npause\n1700001000 ERROR Configuration not read\npause\nreply 0 refused Configuration not read\npause\npause\n1700001000 ERROR Configuration too large\npause\nreply 0 refused Configuration too large\npause\npause\n1700001000 ERROR Pattern refused: web failregex 1 Syntax\npause\nreply 0 refused Pattern refused: web failregex 1 Syntax\npause\npause\npause\nreply 0 accepted 60\npause\n",
+    },
+    // A log goes on behind what was read of it, in the middle of a line too.
+    Row {
+        words: "--conf /c --turns 3",
+        conf: PLAIN,
+        again: &[],
+        log: &[
+            "1700000990 fail from 192.0.2.7\n1700000991 fail fr",
+            "",
+            "om 192.0.2.8\n1700000992 fail from 192.0.2.9\n",
+        ],
+        readings: &[1700001000],
+        callers: &[Caller {
+            pauses: 0,
+            asks: &["reload"],
+            tail: &[],
+        }],
+        polls: &[],
+        fails: &[],
+        transcript: "1700001000 INFO Server ready\n1700001000 INFO [web] Found 192.0.2.7\n1700001000 NOTICE [web] Ban 192.0.2.7\naccept 0\npause\n1700001000 INFO Reloaded\npause\n1700001000 INFO [web] Found 192.0.2.8\n1700001000 NOTICE [web] Ban 192.0.2.8\n1700001000 INFO [web] Found 192.0.2.9\n1700001000 NOTICE [web] Ban 192.0.2.9\nreply 0 accepted OK\npause\n",
+    },
     // A jail that is gone lets its bans go, and its action is stopped. A client that is behind the one that asked is served in the same turn.
     Row {
         words: "--conf /c --turns 7",
         conf: NOTED,
-        again: Some(NOTHING),
+        again: &[NOTHING],
+        log: &[],
         readings: &[1700001000],
         callers: &[
             Caller {
@@ -300,7 +359,8 @@ const RELOADS: [Row; 4] = [
     Row {
         words: "--conf /c --turns 9",
         conf: NOTED,
-        again: Some(LONGER),
+        again: &[LONGER],
+        log: &[],
         readings: &[1700001000],
         callers: &[Caller {
             pauses: 0,
@@ -327,7 +387,7 @@ fn children(alloc: Global, polls: &[u32]) -> Result<Seq<ChildPlan>, Fail> {
 
 fn trees(alloc: Global, row: &Row) -> Result<Seq<TreeAnswer>, Fail> {
     let mut trees = one(alloc, tree(alloc, row.conf)?)?;
-    if let Some(conf) = row.again {
+    for conf in row.again {
         trees.push(tree(alloc, conf)?)?;
     }
     Ok(trees)
@@ -338,7 +398,7 @@ fn given(alloc: Global, row: &Row) -> Result<Given<'static>, Fail> {
         words: row.words,
         trees: trees(alloc, row)?,
         readings: row.readings,
-        changes: Seq::new(alloc),
+        changes: log(alloc, row.log, false)?,
         children: children(alloc, row.polls)?,
         clients: plans(alloc, row.callers)?,
         fails: row.fails,

@@ -42,7 +42,10 @@ const NOTE: &str =
 const CHECKED: &str =
     "[Definition]\nactionstart = up\nactionstop = down\nactionban = add <ip>\nactionunban = del <ip>\nactioncheck = look\ntimeout = 5\n";
 
-const ROWS: [Row; 7] = [
+/// The command of its start is empty.
+const UNBEGUN: &str = "[Definition]\nactionban = add <ip>\nactionunban = del <ip>\ntimeout = 5\n";
+
+const ROWS: [Row; 8] = [
     // The command of a ban runs behind that of the start, and is taken back when the ban ends.
     Row {
         words: "--conf /c --turns 4",
@@ -52,6 +55,16 @@ const ROWS: [Row; 7] = [
         children: &[],
         fails: &[],
         transcript: "1700001000 INFO Server ready\n1700001000 INFO [web] Found 192.0.2.7\n1700001000 NOTICE [web] Ban 192.0.2.7\nstart 0 up\npause\npoll 0\nstart 1 add 192.0.2.7\npause\n1700001060 NOTICE [web] Unban 192.0.2.7\npoll 1\nstart 2 del 192.0.2.7\npause\npoll 2\npause\n",
+    },
+    // An empty command is run like any other, and the ban waits for it.
+    Row {
+        words: "--conf /c --turns 3",
+        jails: HOUR,
+        action: UNBEGUN,
+        readings: &[1700001000],
+        children: &[],
+        fails: &[],
+        transcript: "1700001000 INFO Server ready\n1700001000 INFO [web] Found 192.0.2.7\n1700001000 NOTICE [web] Ban 192.0.2.7\nstart 0 \npause\npoll 0\nstart 1 add 192.0.2.7\npause\npoll 1\npause\n",
     },
     // A command that fails is tried again after 2 seconds and after 4 more, and then given up.
     Row {

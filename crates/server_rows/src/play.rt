@@ -64,6 +64,24 @@ pub(crate) fn change(
     })
 }
 
+/// That the log at `/log` grows by a part before each turn, or becomes it.
+pub(crate) fn log(alloc: Global, parts: &[&str], rotated: bool) -> Result<Seq<FileChange>, Fail> {
+    let mut changes = Seq::new(alloc);
+    let mut content = Bytes::new(alloc);
+    for (pauses, part) in parts.iter().enumerate() {
+        if rotated {
+            content.clear();
+        }
+        content.push_slice(part.as_bytes())?;
+        changes.push(FileChange {
+            pauses: pauses as u64,
+            path: Text::from_str(alloc, "/log")?,
+            content: Some(Bytes::from_slice(alloc, content.as_slice())?),
+        })?;
+    }
+    Ok(changes)
+}
+
 fn readings(alloc: Global, secs: &[u64]) -> Result<Seq<Reading>, Fail> {
     let mut readings = Seq::new(alloc);
     for secs in secs {

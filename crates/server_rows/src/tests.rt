@@ -1,8 +1,7 @@
 //! Runs of one jail with one log.
 use crate::play;
-use crate::play::{File, Given, one, tree};
-use f2b_base::{Bytes, Seq, Text};
-use f2b_mem::FileChange;
+use crate::play::{File, Given, log, one, tree};
+use f2b_base::Seq;
 use std::alloc::Global;
 use std::test::Fail;
 
@@ -270,30 +269,12 @@ const ROTATIONS: [Row; 2] = [
     },
 ];
 
-/// The log grows by a part before each turn, or becomes it.
-fn changes(alloc: Global, log: &[&str], rotated: bool) -> Result<Seq<FileChange>, Fail> {
-    let mut changes = Seq::new(alloc);
-    let mut content = Bytes::new(alloc);
-    for (pauses, part) in log.iter().enumerate() {
-        if rotated {
-            content.clear();
-        }
-        content.push_slice(part.as_bytes())?;
-        changes.push(FileChange {
-            pauses: pauses as u64,
-            path: Text::from_str(alloc, "/log")?,
-            content: Some(Bytes::from_slice(alloc, content.as_slice())?),
-        })?;
-    }
-    Ok(changes)
-}
-
 fn is_as_wanted(alloc: Global, row: &Row, rotated: bool) -> Result<bool, Fail> {
     let given = Given {
         words: row.words,
         trees: one(alloc, tree(alloc, row.conf)?)?,
         readings: row.readings,
-        changes: changes(alloc, row.log, rotated)?,
+        changes: log(alloc, row.log, rotated)?,
         children: Seq::new(alloc),
         clients: Seq::new(alloc),
         fails: row.fails,

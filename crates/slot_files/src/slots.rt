@@ -27,13 +27,48 @@ const WAIT_MS: u64 = 10;
 #[derive(Drop)]
 pub struct Slots {
     dir: String,
-    /// A handle for each slot, once it was needed.
-    first: Option<File>,
-    second: Option<File>,
+    first: Slot,
+    second: Slot,
     /// Whether a file was made whose entry in the directory may not be over a stop yet.
     is_entry_new: bool,
     /// The lock goes with this handle.
     lock: File,
+}
+
+/// One slot. Its path stands here, so that no call on it wants memory but for what it reads.
+#[derive(Drop)]
+struct Slot {
+    path: String,
+    /// A handle, once it was needed.
+    file: Option<File>,
+}
+
+impl Slot {
+    /// The slot of a name, whose file was not looked for yet.
+    fn in_directory(alloc: Global, dir: &str, name: &str) -> Result<Slot, Fault> {
+        Ok(Slot {
+            path: path_in(alloc, dir, name)?,
+            file: None,
+        })
+    }
+
+    /// The handle, where the file is there. `is_made`: else it is made, and `is_new` set.
+    fn handle<R: Files<File = File>>(
+        &mut self,
+        rt: &R,
+        is_new: &mut bool,
+        is_made: bool,
+    ) -> Result<Option<&mut File>, Fault> {
+        if self.file.is_none() {
+            let mut found = open_file(rt, self.path.as_str(), false)?;
+            if found.is_none() && is_made {
+                found = open_file(rt, self.path.as_str(), true)?;
+                *is_new = true;
+            }
+            self.file = found;
+        }
+        Ok(self.file.as_mut())
+    }
 }
 
 /// Opens a file for reading and writing, if it is there. `is_made`: else it is made.
@@ -52,27 +87,6 @@ fn open_file<R: Files<File = File>>(
         Err(error) if error.kind() == ErrorKind::NotFound && !is_made => Ok(None),
         Err(error) => Err(Fault::from(error)),
     }
-}
-
-/// The handle of a slot, where its file is there. `is_made`: else it is made.
-fn handle<'s, R: Files<File = File> + AllocGlobal>(
-    rt: &R,
-    dir: &str,
-    name: &str,
-    kept: &'s mut Option<File>,
-    is_new: &mut bool,
-    is_made: bool,
-) -> Result<Option<&'s mut File>, Fault> {
-    if kept.is_none() {
-        let path = path_in(rt.alloc(), dir, name)?;
-        let mut found = open_file(rt, path.as_str(), false)?;
-        if found.is_none() && is_made {
-            found = open_file(rt, path.as_str(), true)?;
-            *is_new = true;
-        }
-        *kept = found;
-    }
-    Ok(kept.as_mut())
 }
 
 /// Takes the lock, as soon as nobody has it within a second.
@@ -137,10 +151,10 @@ impl Slots {
         };
         take_lock(rt, &lock)?;
         let mut slots = Slots {
+            first: Slot::in_directory(rt.alloc(), dir.as_str(), "journal.0")?,
+            second: Slot::in_directory(rt.alloc(), dir.as_str(), "journal.1")?,
             dir,
             lock,
-            first: None,
-            second: None,
             // A server that was killed may have made a file, and not have come to this.
             is_entry_new: true,
         };
@@ -150,26 +164,21 @@ impl Slots {
     }
 
     /// The handle of slot 0, or of slot 1.
-    fn handle<R: Files<File = File> + AllocGlobal>(
+    fn handle<R: Files<File = File>>(
         &mut self,
         rt: &R,
         slot: u8,
         is_made: bool,
     ) -> Result<Option<&mut File>, Fault> {
-        let dir = self.dir.as_str();
         let is_new = &mut self.is_entry_new;
         if slot == 0 {
-            return handle(rt, dir, "journal.0", &mut self.first, is_new, is_made);
+            return self.first.handle(rt, is_new, is_made);
         }
-        handle(rt, dir, "journal.1", &mut self.second, is_new, is_made)
+        self.second.handle(rt, is_new, is_made)
     }
 
     /// How long a slot is, in bytes: 0 where its file is not there. What is there and is no file is `Failed`.
-    pub fn len<R: Files<File = File> + AllocGlobal>(
-        &mut self,
-        rt: &R,
-        slot: u8,
-    ) -> Result<u64, Fault> {
+    pub fn len<R: Files<File = File>>(&mut self, rt: &R, slot: u8) -> Result<u64, Fault> {
         match self.handle(rt, slot, false)? {
             Some(file) => file_len(file),
             None => Ok(0),
@@ -195,7 +204,7 @@ impl Slots {
     }
 
     /// Writes bytes into a slot from an offset on. Its file is made where it is not there.
-    pub fn write<R: Files<File = File> + AllocGlobal>(
+    pub fn write<R: Files<File = File>>(
         &mut self,
         rt: &R,
         slot: u8,
@@ -211,11 +220,7 @@ impl Slots {
     }
 
     /// Makes what was written to a slot last over a stop, and that its file is there.
-    pub fn sync<R: Files<File = File> + AllocGlobal>(
-        &mut self,
-        rt: &R,
-        slot: u8,
-    ) -> Result<(), Fault> {
+    pub fn sync<R: Files<File = File>>(&mut self, rt: &R, slot: u8) -> Result<(), Fault> {
         if let Some(file) = self.handle(rt, slot, false)? {
             file.sync_data()?;
         }

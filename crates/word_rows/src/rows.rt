@@ -154,7 +154,7 @@ const UNKNOWN: [&str; 12] = [
 ];
 
 /// Commands of too few words or too many, whatever else is wrong with them.
-const WRONG_COUNT: [&str; 24] = [
+const WRONG_COUNT: [&str; 33] = [
     "ping ping",
     "status sshd sshd",
     "status ! !",
@@ -179,16 +179,43 @@ const WRONG_COUNT: [&str; 24] = [
     "get",
     "get sshd",
     "get sshd banip 192.0.2.7",
+    "get sshd findtime 10m",
+    "get sshd bantime bantime",
+    "get sshd maxretry 3",
+    "get sshd logpath /var/log/auth.log",
+    "get sshd failregex ^x",
+    "get sshd ignoreregex ^x",
+    "get sshd datepattern %Y",
+    "get ! maxmatches 5",
+    "get ! bantime.increment true",
 ];
 
 /// Names that no jail can have, whatever is wrong with a value behind them.
-const BAD_NAMES: [&str; 6] = [
+const BAD_NAMES: [&str; 24] = [
     "status ",
     "status ssh/d",
     "status 0123456789-123456789_123456789.123456789-123456789_123456789.1234",
     "get sshd! banip",
     "set sshd! banip 1.2.3",
     "set \u{e9} findtime 5q",
+    "set sshd! unbanip 1.2.3",
+    "set ssh/d attempt 1.2.3",
+    "set  addignoreip 10.0.0.0/33",
+    "set sshd! delignoreip 10.0.0.0/08",
+    "set ssh/d bantime 5q",
+    "set sshd! maxretry 0",
+    "set  idle on",
+    "get sshd! findtime",
+    "get ssh/d bantime",
+    "get sshd! maxretry",
+    "get  ignoreip",
+    "get sshd! logpath",
+    "get ssh/d failregex",
+    "get sshd! ignoreregex",
+    "get \u{e9} datepattern",
+    "get sshd! maxmatches",
+    "get ssh/d bantime.increment",
+    "get  actions",
 ];
 
 /// Words that are no value, and what is told of them.

@@ -85,33 +85,40 @@ const REFUSED: [(Parts<'static>, PatternPlace, BuildKind, u64); 8] = [
     ),
 ];
 
-fn is_refused(
+/// Why a filter is not built, if it is not.
+fn error_of(built: &Result<Filter, PatternError>) -> Option<PatternError> {
+    match built {
+        Ok(_) => None,
+        Err(error) => Some(*error),
+    }
+}
+
+/// Why no filter of a jail is built, and for how many patterns the library was asked.
+fn refusal(
     rt: &impl Abort,
     alloc: Global,
-    row: &(Parts<'_>, PatternPlace, BuildKind, u64),
-) -> Result<(), Fail> {
-    let (parts, place, kind, asked) = *row;
+    parts: &Parts<'_>,
+) -> Result<(Option<PatternError>, u64), NoMemory> {
     let mut library = Library { alloc, asked: 0 };
-    let error = Filter::build(alloc, &mut library, &jail(alloc, parts)?)
-        .err()
-        .ok_or("not refused")?;
-    assert_eq!(rt; error, PatternError::Refused { place, kind });
-    assert_eq!(rt; library.asked, asked);
-    Ok(())
+    let jail = jail(rt, alloc, parts)?;
+    let built = Filter::build(alloc, &mut library, &jail);
+    Ok((error_of(&built), library.asked))
 }
 
 fn are_refused(
     rt: &impl Abort,
     alloc: Global,
     rows: &[(Parts<'_>, PatternPlace, BuildKind, u64)],
-) -> Result<(), Fail> {
-    for row in rows {
-        is_refused(rt, alloc, row)?;
+) -> Result<(), NoMemory> {
+    for &(parts, place, kind, asked) in rows {
+        let error = PatternError::Refused { place, kind };
+        let saw = refusal(rt, alloc, &parts)?;
+        same(rt, parts.fail, saw, (Some(error), asked));
     }
     Ok(())
 }
 
 #[test]
-fn refused_patterns(rt: HostRuntime) -> Result<(), Fail> {
+fn refused_patterns(rt: HostRuntime) -> Result<(), NoMemory> {
     are_refused(&rt, rt.alloc(), &REFUSED)
 }

@@ -10,29 +10,27 @@ const TEN: u64 = 1_709_287_200;
 /// 2024-03-01T09:00:00Z.
 const NINE: u64 = 1_709_283_600;
 
-/// What a line says where failures count for two hours. Each pattern begins with what is left of the line before the host.
-fn found(alloc: Global, dated: Dated<'_>, line: &str) -> Result<Finding, Fail> {
-    let parts = Parts {
-        dated,
-        fail: "^ a fail from <HOST>$
+/// Each pattern begins with what is left of the line before the host.
+const FAIL: &str = "^ a fail from <HOST>$
 ^\\[\\] a fail from <HOST>$
 ^<HOST> - - \\[\\] \"GET
- a fail for \\S* from <HOST>$",
-        ..NONE
-    };
-    let filter = filter(alloc, parts)?;
-    let none = ignoring(alloc, "")?;
-    Ok(filter.found(alloc, &none, line, NOW, 7200)?)
-}
+ a fail for \\S* from <HOST>$";
 
+/// What a line says where failures count for two hours.
 fn is_found(
     rt: &impl Abort,
     alloc: Global,
     dated: Dated<'_>,
     line: &str,
     finding: Finding,
-) -> Result<(), Fail> {
-    assert_eq!(rt; found(alloc, dated, line)?, finding, "{line}");
+) -> Result<(), NoMemory> {
+    let parts = Parts {
+        dated,
+        fail: FAIL,
+        ..NONE
+    };
+    let found = found_in(rt, alloc, &parts, line, NOW, 7200)?;
+    same(rt, line, found, finding);
     Ok(())
 }
 
@@ -42,9 +40,9 @@ fn are_found(
     alloc: Global,
     dated: Dated<'_>,
     rows: &[(&str, Finding)],
-) -> Result<(), Fail> {
-    for (line, finding) in rows {
-        is_found(rt, alloc, dated, line, *finding)?;
+) -> Result<(), NoMemory> {
+    for &(line, finding) in rows {
+        is_found(rt, alloc, dated, line, finding)?;
     }
     Ok(())
 }
@@ -54,9 +52,9 @@ fn are_found_as_dated(
     rt: &impl Abort,
     alloc: Global,
     rows: &[(Dated<'_>, &str, Finding)],
-) -> Result<(), Fail> {
-    for (dated, line, finding) in rows {
-        is_found(rt, alloc, *dated, line, *finding)?;
+) -> Result<(), NoMemory> {
+    for &(dated, line, finding) in rows {
+        is_found(rt, alloc, dated, line, finding)?;
     }
     Ok(())
 }
@@ -149,7 +147,7 @@ const USUAL_DATES: [(&str, Finding); 12] = [
 ];
 
 #[test]
-fn usual_dates(rt: HostRuntime) -> Result<(), Fail> {
+fn usual_dates(rt: HostRuntime) -> Result<(), NoMemory> {
     are_found(&rt, rt.alloc(), Dated::Usual, &USUAL_DATES)
 }
 
@@ -177,7 +175,7 @@ const DATES_AT_THE_BEGINNING: [(&str, Finding); 3] = [
 ];
 
 #[test]
-fn dates_at_the_beginning(rt: HostRuntime) -> Result<(), Fail> {
+fn dates_at_the_beginning(rt: HostRuntime) -> Result<(), NoMemory> {
     are_found(&rt, rt.alloc(), Dated::Anchored, &DATES_AT_THE_BEGINNING)
 }
 
@@ -232,6 +230,6 @@ const OTHER_DATES: [(Dated<'static>, &str, Finding); 6] = [
 ];
 
 #[test]
-fn other_dates(rt: HostRuntime) -> Result<(), Fail> {
+fn other_dates(rt: HostRuntime) -> Result<(), NoMemory> {
     are_found_as_dated(&rt, rt.alloc(), &OTHER_DATES)
 }

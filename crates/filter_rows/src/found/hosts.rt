@@ -1,39 +1,27 @@
 //! Lines against the tags of hosts.
 use super::*;
 
-fn found(alloc: Global, pattern: &str, line: &str) -> Result<Finding, Fail> {
-    let filter = filter(
-        alloc,
-        Parts {
-            dated: Dated::NoDate,
-            fail: pattern,
-            ..NONE
-        },
-    )?;
-    let none = ignoring(alloc, "")?;
-    Ok(filter.found(alloc, &none, line, 1_700_000_000, 600)?)
-}
+const NOW: u64 = 1_700_000_000;
 
 /// An address, `name` for a name alone, `nothing` for no match.
-fn wanted(text: &str) -> Result<Finding, Fail> {
-    if text == "name" {
-        return Ok(Finding::NameOnly(1));
+fn wanted(text: &str) -> Option<Finding> {
+    match text {
+        "name" => Some(Finding::NameOnly(1)),
+        "nothing" => Some(Finding::Missed),
+        _ => Some(failure(Addr::read(text.as_bytes())?, NOW, 1)),
     }
-    if text == "nothing" {
-        return Ok(Finding::Missed);
-    }
-    let addr = Addr::read(text.as_bytes()).ok_or("no address")?;
-    Ok(failure(addr, 1_700_000_000, 1))
 }
 
 /// Rows of a pattern, a line, and what is found.
-fn are_found(rt: &impl Abort, alloc: Global, rows: &[(&str, &str, &str)]) -> Result<(), Fail> {
+fn are_found(rt: &impl Abort, alloc: Global, rows: &[(&str, &str, &str)]) -> Result<(), NoMemory> {
     for &(pattern, line, want) in rows {
-        assert_eq!(rt;
-            found(alloc, pattern, line)?,
-            wanted(want)?,
-            "{pattern} at {line}"
-        );
+        let parts = Parts {
+            dated: Dated::NoDate,
+            fail: pattern,
+            ..NONE
+        };
+        let found = found_in(rt, alloc, &parts, line, NOW, 600)?;
+        same(rt, (pattern, line), Some(found), wanted(want));
     }
     Ok(())
 }
@@ -56,7 +44,7 @@ const QUADS_AND_NAMES: [(&str, &str, &str); 14] = [
 ];
 
 #[test]
-fn quads_and_names(rt: HostRuntime) -> Result<(), Fail> {
+fn quads_and_names(rt: HostRuntime) -> Result<(), NoMemory> {
     are_found(&rt, rt.alloc(), &QUADS_AND_NAMES)
 }
 
@@ -77,7 +65,7 @@ const IPV6: [(&str, &str, &str); 13] = [
 ];
 
 #[test]
-fn ipv6(rt: HostRuntime) -> Result<(), Fail> {
+fn ipv6(rt: HostRuntime) -> Result<(), NoMemory> {
     are_found(&rt, rt.alloc(), &IPV6)
 }
 
@@ -101,7 +89,7 @@ const MAPPED_ADDRESSES_AND_PORTS: [(&str, &str, &str); 12] = [
 ];
 
 #[test]
-fn mapped_addresses_and_ports(rt: HostRuntime) -> Result<(), Fail> {
+fn mapped_addresses_and_ports(rt: HostRuntime) -> Result<(), NoMemory> {
     are_found(&rt, rt.alloc(), &MAPPED_ADDRESSES_AND_PORTS)
 }
 
@@ -132,6 +120,6 @@ const TAGS_APART_AND_SEVERAL_ADDRESSES: [(&str, &str, &str); 15] = [
 ];
 
 #[test]
-fn tags_apart_and_several_addresses(rt: HostRuntime) -> Result<(), Fail> {
+fn tags_apart_and_several_addresses(rt: HostRuntime) -> Result<(), NoMemory> {
     are_found(&rt, rt.alloc(), &TAGS_APART_AND_SEVERAL_ADDRESSES)
 }

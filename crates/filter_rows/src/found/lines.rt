@@ -91,30 +91,31 @@ fn are_found(
     searcher: &mut Searcher<'_>,
     ignore: &IgnoreSet,
     rows: &[(&str, Finding)],
-) -> Result<(), Fail> {
-    for (line, finding) in rows {
-        assert_eq!(rt; searcher.found(ignore, line, NOW, 600)?, *finding, "{line}");
+) -> Result<(), NoMemory> {
+    for &(line, finding) in rows {
+        same(rt, line, searcher.found(ignore, line, NOW, 600)?, finding);
     }
     Ok(())
 }
 
-/// The same, of a searcher of a jail and the masks of hosts that are never banned.
-fn jail_finds(
+/// The same, of a filter and the masks of hosts that are never banned.
+fn filter_finds(
     rt: &impl Abort,
     alloc: Global,
-    parts: Parts<'_>,
+    filter: &Filter,
     masks: &str,
     rows: &[(&str, Finding)],
-) -> Result<(), Fail> {
-    let filter = filter(alloc, parts)?;
+) -> Result<(), NoMemory> {
+    let ignore = ignoring(rt, alloc, masks)?;
     let mut searcher = filter.searcher(alloc)?;
-    let ignore = ignoring(alloc, masks)?;
     are_found(rt, &mut searcher, &ignore, rows)
 }
 
 #[test]
-fn lines_of_sshd(rt: HostRuntime) -> Result<(), Fail> {
-    jail_finds(&rt, rt.alloc(), SSHD, "10.0.0.0/8\n::1", &LINES_OF_SSHD)
+fn lines_of_sshd(rt: HostRuntime) -> Result<(), NoMemory> {
+    let filter = filter(&rt, rt.alloc(), &SSHD)?;
+    let masks = "10.0.0.0/8\n::1";
+    filter_finds(&rt, rt.alloc(), &filter, masks, &LINES_OF_SSHD)
 }
 
 const LINE: &str = "1700000100 fail from 192.0.2.7";
@@ -183,37 +184,36 @@ fn are_found_then(
     searcher: &mut Searcher<'_>,
     ignore: &IgnoreSet,
     rows: &[(&str, u64, u64, Finding)],
-) -> Result<(), Fail> {
-    for (line, now, findtime, finding) in rows {
-        assert!(rt; *now <= LAST_MOMENT);
-        assert_eq!(rt;
-            searcher.found(ignore, line, *now, *findtime)?,
-            *finding,
-            "{line} at {now}"
-        );
+) -> Result<(), NoMemory> {
+    for &(line, now, findtime, finding) in rows {
+        is_so(rt, line, now <= LAST_MOMENT);
+        let found = searcher.found(ignore, line, now, findtime)?;
+        same(rt, (line, now), found, finding);
     }
     Ok(())
 }
 
-/// The same, of a jail with one pattern.
+/// The same, of a filter.
 fn times_are(
     rt: &impl Abort,
     alloc: Global,
+    filter: &Filter,
     rows: &[(&str, u64, u64, Finding)],
-) -> Result<(), Fail> {
-    let parts = Parts {
-        fail: "^ fail from <IP4>$",
-        ..NONE
-    };
-    let filter = filter(alloc, parts)?;
+) -> Result<(), NoMemory> {
+    let none = ignoring(rt, alloc, "")?;
     let mut searcher = filter.searcher(alloc)?;
-    let none = ignoring(alloc, "")?;
     are_found_then(rt, &mut searcher, &none, rows)
 }
 
+const FROM_IPV4: Parts<'static> = Parts {
+    fail: "^ fail from <IP4>$",
+    ..NONE
+};
+
 #[test]
-fn times(rt: HostRuntime) -> Result<(), Fail> {
-    times_are(&rt, rt.alloc(), &TIMES)
+fn times(rt: HostRuntime) -> Result<(), NoMemory> {
+    let filter = filter(&rt, rt.alloc(), &FROM_IPV4)?;
+    times_are(&rt, rt.alloc(), &filter, &TIMES)
 }
 
 const IGNORED_ADDRESSES: [(&str, Finding); 6] = [
@@ -258,30 +258,12 @@ const FROM_A_HOST: Parts<'static> = Parts {
 };
 
 #[test]
-fn ignored_addresses(rt: HostRuntime) -> Result<(), Fail> {
-    let alloc = rt.alloc();
-    jail_finds(&rt, alloc, FROM_A_HOST, "10.0.0.0/8", &IGNORED_ADDRESSES)?;
-    jail_finds(
-        &rt,
-        alloc,
-        FROM_A_HOST,
-        "11.0.0.0/8",
-        &IGNORED_BY_ANOTHER_LIST,
-    )
-}
-
-fn found(alloc: Global, pref: &str, line: &str) -> Result<Finding, Fail> {
-    let filter = filter(
-        alloc,
-        Parts {
-            dated: Dated::NoDate,
-            pref,
-            fail: "^from <HOST>$",
-            ..NONE
-        },
-    )?;
-    let none = ignoring(alloc, "")?;
-    Ok(filter.found(alloc, &none, line, NOW, 600)?)
+fn ignored_addresses(rt: HostRuntime) -> Result<(), NoMemory> {
+    let filter = filter(&rt, rt.alloc(), &FROM_A_HOST)?;
+    let of_ten = &IGNORED_ADDRESSES;
+    filter_finds(&rt, rt.alloc(), &filter, "10.0.0.0/8", of_ten)?;
+    let of_eleven = &IGNORED_BY_ANOTHER_LIST;
+    filter_finds(&rt, rt.alloc(), &filter, "11.0.0.0/8", of_eleven)
 }
 
 const PREFIXES: [(&str, &str, Finding); 4] = [
@@ -322,14 +304,21 @@ fn are_found_behind(
     rt: &impl Abort,
     alloc: Global,
     rows: &[(&str, &str, Finding)],
-) -> Result<(), Fail> {
-    for (pref, line, finding) in rows {
-        assert_eq!(rt; found(alloc, pref, line)?, *finding, "{pref} at {line}");
+) -> Result<(), NoMemory> {
+    for &(pref, line, finding) in rows {
+        let parts = Parts {
+            dated: Dated::NoDate,
+            pref,
+            fail: "^from <HOST>$",
+            ..NONE
+        };
+        let found = found_in(rt, alloc, &parts, line, NOW, 600)?;
+        same(rt, (pref, line), found, finding);
     }
     Ok(())
 }
 
 #[test]
-fn prefixes(rt: HostRuntime) -> Result<(), Fail> {
+fn prefixes(rt: HostRuntime) -> Result<(), NoMemory> {
     are_found_behind(&rt, rt.alloc(), &PREFIXES)
 }

@@ -6,10 +6,10 @@ use Rattle.run_law.specs.Patterns.{patterns_of}
 use Rattle.run_law.proofs.CauseLemmas.{steady_on}
 use Rattle.run_steps.proofs.StartLemmas.{leaves_trans}
 use Rattle.run_steps.proofs.ToldLemmas.{map_take_more}
-use Rattle.run_trees.specs.Reads.{BuildFails, Builds, with_left}
+use Rattle.run_trees.specs.Reads.{BuildFails, Builds, IsUnrefused, with_left}
 use Rattle.run_trees.specs.Trees.{IsCaused}
 use Rattle.run_trees.proofs.JailLemmas.{jails_left, next_built, next_caused, next_fails, next_short}
-use Rattle.run_trees.proofs.ReadsLemmas.{reads_short_here, reads_short_on}
+use Rattle.run_trees.proofs.ReadsLemmas.{reads_short_here, reads_short_on, unrefused_trans}
 use Rattle.run_trees.proofs.filters.build_filters.Goals as goal
 
 pub returns-in_err-filter-clause-lost : goal.returns-in_err-filter-clause-lost
@@ -22,6 +22,19 @@ returns-in_err-filter-clause-lost g c =
     rw p.1
     (next_short c.args.settings.now i c.jail-item.result less is (g.W.Outside.stands c.args.world.now) (g.W.Outside.stands c.loop-jail.world) (g.W.Outside.stands c.build_filter.new.world)
     c.args.plan.now (with_left c.args.settings.now (patterns_of c.args.settings.now.defs)) c.loop-jail.invariant.reads c.in_err-filter.ensures.lost)
+
+pub returns-in_err-filter-clause-unrefused : goal.returns-in_err-filter-clause-unrefused
+returns-in_err-filter-clause-unrefused g c =
+    let p = err_from_is_err_and c.from_residual.result c.from_residual.ensures.1 in
+    rw p.1
+    (unrefused_trans (g.W.Outside.stands c.args.world.now) (g.W.Outside.stands c.loop-jail.world) (g.W.Outside.stands c.build_filter.new.world) c.loop-jail.invariant.unrefused c.in_err-filter.ensures.unrefused)
+
+pub returns-in_err-push_filter-in-Ok-clause-unrefused : goal.returns-in_err-push_filter-in-Ok-clause-unrefused
+returns-in_err-push_filter-in-Ok-clause-unrefused g c =
+    let p = err_from_is_err_and c.from_residual-in_err-push_filter-in-Ok.result c.from_residual-in_err-push_filter-in-Ok.ensures.1 in
+    let given : IsUnrefused (g.W.Outside.stands c.loop-jail.world) (g.W.Outside.stands c.build_filter.new.world) = rw c.in-Ok.is at c.in_ok-filter.ensures.given in
+    rw p.1
+    (unrefused_trans (g.W.Outside.stands c.args.world.now) (g.W.Outside.stands c.loop-jail.world) (g.W.Outside.stands c.build_filter.new.world) c.loop-jail.invariant.unrefused given)
 
 pub returns-in_err-push_filter-in-Ok-clause-lost : goal.returns-in_err-push_filter-in-Ok-clause-lost
 returns-in_err-push_filter-in-Ok-clause-lost g c =
@@ -76,10 +89,12 @@ loop-jail-preserved g c =
     let own : c.in-Ok.filter ≡ rules_of c.jail-item.result = rw c.in-Ok.is at c.in_ok-filter.ensures.value in
     let built : Builds b d c.jail-item.result = rw c.in-Ok.is at c.in_ok-filter.ensures.taken in
     let leaves = rw c.in-Ok.is at c.in_ok-filter.ensures.still in
+    let given : IsUnrefused b d = rw c.in-Ok.is at c.in_ok-filter.ensures.given in
     record {
       value = cc (c.in_ok-push_filter-in-Ok.ensures, own, c.loop-jail.invariant.value, more);
       reads = next_built c.args.settings.now i c.jail-item.result less is a b d c.args.plan.now (with_left c.args.settings.now (patterns_of c.args.settings.now.defs))
           c.loop-jail.invariant.reads built;
+      unrefused = unrefused_trans a b d c.loop-jail.invariant.unrefused given;
       still = leaves_trans a b d c.loop-jail.invariant.still leaves;
       steady = steady_on a b d c.loop-jail.invariant.steady c.build_filter.ensures.steady;
     }

@@ -18,7 +18,7 @@ use Rattle.jail_rooms.specs.Shown.{defs_of as shown_defs}
 use Rattle.jail_rooms.proofs.SameLemmas.{same_defs_law}
 use Rattle.run_law.specs.Changes.{config_changes, defs_of, is_any_idle}
 use Rattle.run_law.specs.Server.{Server}
-use Rattle.run_steps.specs.Keeping.{KeepsClocked, TellsChange}
+use Rattle.run_steps.specs.Keeping.{KeepsClocked}
 use Rattle.run_steps.specs.declared.clocked.Clocked.{Clocked}
 
 -- a middle state has the definitions of the jails
@@ -47,7 +47,7 @@ changes_of s defs fit watched =
     subst (λ (ds : Defs). Test ds (is_any_idle s.jails.jails)) (defs_now_are s) (subst (λ (b : Bool). Test own b) (idle_now s.jails.jails) now)
 
 pub change_told : (kept : Clocked) (defs : Defs) (changes : Bool) → AreFitDefs defs → AreWatched kept.engine.core.jails → IsTrue changes ↔ (configured_now defs kept.engine.core ≢ kept.engine.core)
-    → TellsChange kept defs changes
+    → (s : Server) → KeepsClocked s kept → changes ≡ config_changes s.state defs
 change_told kept defs changes fit watched is s keeps =
     let Told : Now → Type 0 = λ n. IsTrue changes ↔ (configured_now defs n ≢ n) in
     let watched_now : AreWatched (now_of s.state).jails = subst (λ (n : Now). AreWatched n.jails) keeps.core watched in

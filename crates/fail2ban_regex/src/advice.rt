@@ -1,0 +1,51 @@
+//! What helps whoever sits at the terminal, beside what the test says.
+
+use crate::terminal::Terminal;
+use f2b_base::Text;
+use f2b_world::Files;
+use filter_regex::PatternPlace;
+use pattern_fault::fault_line;
+use regex_tool::{ToolKind, ToolStatus, pattern_at};
+use std::alloc::Global;
+
+/// The line on the pattern at a place of the jail that was tested, where it is no pattern.
+fn line_at<F: Files>(
+    alloc: Global,
+    words: &[String],
+    place: PatternPlace,
+    files: &mut F,
+) -> Option<Text> {
+    let Ok(Some(pattern)) = pattern_at(alloc, words, place, files) else {
+        return None;
+    };
+    match fault_line(alloc, pattern.as_str()) {
+        Ok(line) => line,
+        Err(_) => None,
+    }
+}
+
+/// Tells a terminal what can be mended where a test ended so. Nothing is told where memory is wanted for it.
+pub fn advise<F: Files>(
+    alloc: Global,
+    words: &[String],
+    status: &ToolStatus,
+    files: &mut F,
+    terminal: &Terminal,
+) {
+    match status {
+        ToolStatus::Usage => terminal.write("fail2ban-regex --help lists the words\n"),
+        ToolStatus::ConfRefused(error) => {
+            terminal.write(error.kind.help());
+            terminal.write("\n");
+        }
+        ToolStatus::PatternRefused {
+            place,
+            kind: ToolKind::Syntax,
+        } => {
+            if let Some(line) = line_at(alloc, words, *place, files) {
+                terminal.write(line.as_str());
+            }
+        }
+        _ => (),
+    }
+}
