@@ -12,6 +12,9 @@ use std::time::Clock;
 /// How often logs are looked after, in microseconds.
 const STEP: u64 = 25_000;
 
+/// How much longer than asked for a nap is, in microseconds, by the slack that the system's timers have where none was set.
+const SLACK: u64 = 50;
+
 /// Waits for so many microseconds, and no longer than until a command has ended, a log has changed or a client asks for something. Those
 /// commands that were ended are forgotten.
 pub(crate) fn wait<R: Files + Clock + Processes + AllocGlobal>(
@@ -34,7 +37,7 @@ pub(crate) fn wait<R: Files + Clock + Processes + AllocGlobal>(
         if nap_at(rt, gate, micros) {
             return;
         }
-        slept = slept.saturating_add(micros);
+        slept = slept.saturating_add(micros).saturating_add(SLACK);
         if slept.saturating_sub(looked) >= step {
             looked = slept;
             if watched.has_changed(rt) {
@@ -55,14 +58,13 @@ fn nap_at<R: Clock>(rt: &R, gate: &mut Option<GateSocket>, micros: u64) -> bool 
     }
 }
 
-// How many microseconds to sleep at a time, by those that were slept. Most commands end within a few milliseconds, and their lane waits.
+// How many microseconds to sleep at a time, by those that were slept. Most commands end within some milliseconds, and their lane waits: so
+// long a nap is as short as the system has them.
 fn micros_behind(slept: u64, has_commands: bool) -> u64 {
     if !has_commands {
         STEP
-    } else if slept < 2_000 {
-        50
     } else if slept < 20_000 {
-        500
+        1
     } else {
         5_000
     }
