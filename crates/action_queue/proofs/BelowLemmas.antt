@@ -10,7 +10,7 @@ use Rattle.f2b_base.specs.declared.job.Settled.TheVariants.{Done, GivenUp, Again
 use Rattle.f2b_base.specs.declared.job.LaneId.{LaneId}
 use Rattle.f2b_model.specs.Checks.{is_stop, left_by_check}
 use Rattle.f2b_model.specs.Families.{same_lane}
-use Rattle.f2b_model.specs.Jobs.{Ending, settled_as, after_try, after_ending, settle_in, AllIdsBelow}
+use Rattle.f2b_model.specs.Jobs.{Ending, settled_as, after_try, after_ending, jobs_after_ending, AllIdsBelow}
 
 pub below_more : (next more : ℕ) (jobs : List Job) → next ≤ more → AllIdsBelow next jobs → AllIdsBelow more jobs
 below_more next more [] le below = tt
@@ -38,9 +38,9 @@ below_one next id None jobs same less below = below
 below_one next id (Some job) jobs same less below = let at : job.id ≡ id = same job refl in (omega (arith, at, less), below)
 
 -- an ending leaves them so
-pub below_settle : (next : ℕ) (e : Ending) (jobs : List Job) → AllIdsBelow next jobs → AllIdsBelow next (settle_in e jobs)
+pub below_settle : (next : ℕ) (e : Ending) (jobs : List Job) → AllIdsBelow next jobs → AllIdsBelow next (jobs_after_ending e jobs)
 below_settle next e [] below = tt
-below_settle next e (job ∷ jobs) below = below_one next job.id (after_ending e job) (settle_in e jobs) (ending_id e job) below.0 (below_settle next e jobs below.1)
+below_settle next e (job ∷ jobs) below = below_one next job.id (after_ending e job) (jobs_after_ending e jobs) (ending_id e job) below.0 (below_settle next e jobs below.1)
 
 -- so does a check that failed
 pub below_left : (next : ℕ) (lane : LaneId) (jobs : List Job) → AllIdsBelow next jobs → AllIdsBelow next (left_by_check lane jobs)

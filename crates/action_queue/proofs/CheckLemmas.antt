@@ -10,15 +10,15 @@ use Rattle.f2b_base.specs.declared.job.Job.{Job}
 use Rattle.f2b_base.specs.declared.job.JobKind.{JobKind}
 use Rattle.f2b_base.specs.declared.job.JobKind.TheVariants.{Start, Stop, Ban, Unban, Reban}
 use Rattle.f2b_base.specs.declared.job.LaneId.{LaneId}
-use Rattle.f2b_model.specs.Checks.{has_check, is_stop, is_closing, checked_lane, checked_lane_in, void_ids, left_by_check, voided_at}
+use Rattle.f2b_model.specs.Checks.{has_check, is_stop, is_closing, checked_lane, lane_if_checked, void_ids, left_by_check, voided_at}
 use Rattle.f2b_model.specs.Families.{same_lane}
-use Rattle.f2b_model.specs.Jobs.{head, has_id, settle_in, AreById}
-use Rattle.f2b_model.specs.Lanes.{Lanes, books_now, void_all}
+use Rattle.f2b_model.specs.Jobs.{head, has_id, jobs_after_ending, AreById}
+use Rattle.f2b_model.specs.Lanes.{Lanes, books_now, with_voided}
 use Rattle.f2b_model.proofs.CheckLemmas.{voids_leave}
 use Rattle.f2b_model.proofs.SameLemmas.{same_lane-true, same_lane-same}
 use Rattle.action_queue.specs.declared.checks.CheckEnd.TheVariants.{Unchecked}
 use Rattle.action_queue.specs.declared.queue.Queue.{Queue}
-use Rattle.action_queue.specs.Checks.{left_in, voided_in, end_in, void_each, IsVoided, IsChecked, goes, void_front, Voids}
+use Rattle.action_queue.specs.Checks.{left_in, voided_ids, end_in, jobs_voided, IsVoided, IsChecked, goes, void_front, Voids}
 use Rattle.action_queue.specs.Index.{jobs_of, job_at, with_job, IsKeyed, IsIndex}
 use Rattle.action_queue.specs.Queues.{is_number, ids_of, stop_of, AreQueues, Dropped}
 use Rattle.action_queue.proofs.EndLemmas.{index_gone}
@@ -43,11 +43,11 @@ pub checked_is : (id : ℕ) (job : Job) (es : List (ℕ × Job)) (qs : List Queu
     → checked_lane id v ≡ cond (is_number id (slice_get (ids_of job.lane qs) 0) && has_check job.kind) (Some job.lane) None
 checked_is id job es qs v index view is =
     let found = key_found id 0 es job index.keyed is in
-    ap (checked_lane id) (sym view) ∙ ap (checked_lane_in (jobs_of es)) found.1
+    ap (checked_lane id) (sym view) ∙ ap (lane_if_checked (jobs_of es)) found.1
     ∙ ap (λ (b : Bool). cond (b && has_check job.kind) (Some job.lane) None) (ap (λ n. has_id n (head job.lane (jobs_of es))) found.0 ∙ sym (front_test id job.lane es qs index))
 
 pub checked_none : (id : ℕ) (es : List (ℕ × Job)) (v : List Job) → IsKeyed 0 es → jobs_of es ≡ v → job_at id es ≡ None → checked_lane id v ≡ None
-checked_none id es v keyed view is = ap (checked_lane id) (sym view) ∙ ap (checked_lane_in (jobs_of es)) (key_missing id 0 es keyed is)
+checked_none id es v keyed view is = ap (checked_lane id) (sym view) ∙ ap (lane_if_checked (jobs_of es)) (key_missing id 0 es keyed is)
 
 -- a job that is checked, over the map
 pub checked_each : (id : ℕ) (job : Job) (es : List (ℕ × Job)) (qs : List Queue) → IsIndex es qs → job_at id es ≡ Some job → (is_number id (slice_get (ids_of job.lane qs) 0) && has_check job.kind) ≡ true
@@ -243,15 +243,15 @@ rising from (x ∷ es) keyed =
     (omega (arith, keyed.0, keyed.1), subst (λ n. AreById (n + 1) (jobs_of es) (top_of (x.0 + 1) es)) (sym keyed.1) (rising (x.0 + 1) es keyed.2))
 
 -- jobs are voided among pending jobs as among those of lanes
-pub void_all-each : (at : ℕ) (ids : List ℕ) (n : Lanes (List Job)) → void_all books_now at ids n ≡ record n { jobs = void_each at ids n.jobs }
-void_all-each at [] n = refl
-void_all-each at (id ∷ ids) n = void_all-each at ids (record n { jobs = settle_in (voided_at id at) n.jobs })
+pub with_voided-each : (at : ℕ) (ids : List ℕ) (n : Lanes (List Job)) → with_voided books_now at ids n ≡ record n { jobs = jobs_voided at ids n.jobs }
+with_voided-each at [] n = refl
+with_voided-each at (id ∷ ids) n = with_voided-each at ids (record n { jobs = jobs_after_ending (voided_at id at) n.jobs })
 
 -- the jobs that are left are those after each that is voided is
 pub each_left : (lane : LaneId) (es : List (ℕ × Job)) (v : List Job) → IsKeyed 0 es → jobs_of es ≡ v → IsVoided (void_ids lane v) v (left_by_check lane v)
 each_left lane es v keyed view = λ at.
     let n : Lanes (List Job) = record { up = []; stopping = false; jobs = v; next_job = 0 } in
-    ap (λ (l : Lanes (List Job)). l.jobs) (sym (void_all-each at (void_ids lane v) n))
+    ap (λ (l : Lanes (List Job)). l.jobs) (sym (with_voided-each at (void_ids lane v) n))
     ∙ voids_leave at lane 0 (top_of 0 es) n (subst (λ (jobs : List Job). AreById 0 jobs (top_of 0 es)) view (rising 0 es keyed))
 
 -- ---- what a caller sees
@@ -266,19 +266,19 @@ lane_checked id job es qs v test b index view is tests same =
 pub record NothingChanged (lane : Option LaneId) (all : List Job) : Type 0 where
   pub jobs : all ≡ left_in lane all
   pub answer : Unchecked ≡ end_in lane all
-  pub voided : IsVoided (voided_in lane all) all all
+  pub voided : IsVoided (voided_ids lane all) all all
 
 pub unchecked : (lane : Option LaneId) (jobs : List Job) → lane ≡ None → NothingChanged lane jobs
 unchecked lane jobs none = record {
   jobs = ap (λ (o : Option LaneId). left_in o jobs) (sym none);
   answer = ap (λ (o : Option LaneId). end_in o jobs) (sym none);
-  voided = λ at. ap (λ (o : Option LaneId). void_each at (voided_in o jobs) jobs) none;
+  voided = λ at. ap (λ (o : Option LaneId). jobs_voided at (voided_ids o jobs) jobs) none;
 }
 
 -- the jobs that are left where a lane was checked
 pub left_now : (o : Option LaneId) (lane : LaneId) (es after : List (ℕ × Job)) (qs : List Queue) (v : List Job) → o ≡ Some lane → jobs_of es ≡ v → Voids lane es after qs → jobs_of after ≡ left_in o v
 left_now o lane es after qs v is view voids = voids.jobs ∙ ap (left_by_check lane) view ∙ ap (λ (l : Option LaneId). left_in l v) (sym is)
 
-pub voided_now : (o : Option LaneId) (lane : LaneId) (es after : List (ℕ × Job)) (qs : List Queue) (v : List Job) → o ≡ Some lane → IsKeyed 0 es → jobs_of es ≡ v → Voids lane es after qs → IsVoided (voided_in o v) v (jobs_of after)
+pub voided_now : (o : Option LaneId) (lane : LaneId) (es after : List (ℕ × Job)) (qs : List Queue) (v : List Job) → o ≡ Some lane → IsKeyed 0 es → jobs_of es ≡ v → Voids lane es after qs → IsVoided (voided_ids o v) v (jobs_of after)
 voided_now o lane es after qs v is keyed view voids = λ at.
-    ap (λ (l : Option LaneId). void_each at (voided_in l v) v) is ∙ each_left lane es v keyed view at ∙ sym (voids.jobs ∙ ap (left_by_check lane) view)
+    ap (λ (l : Option LaneId). jobs_voided at (voided_ids l v) v) is ∙ each_left lane es v keyed view at ∙ sym (voids.jobs ∙ ap (left_by_check lane) view)

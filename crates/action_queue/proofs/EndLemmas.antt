@@ -11,7 +11,7 @@ use Rattle.f2b_base.specs.declared.job.Settled.{Settled}
 use Rattle.f2b_base.specs.declared.job.Settled.TheVariants.{Done, GivenUp, Again}
 use Rattle.f2b_model.specs.Checks.{is_stop}
 use Rattle.f2b_model.specs.Families.{same_lane}
-use Rattle.f2b_model.specs.Jobs.{Ending, head, has_id, job_by_id, leads, is_head_id, settled_as, after_try, after_ending, settle_in}
+use Rattle.f2b_model.specs.Jobs.{Ending, head, has_id, job_by_id, leads, is_head_id, settled_as, after_try, after_ending, jobs_after_ending}
 use Rattle.f2b_model.proofs.SameLemmas.{same_lane-true}
 use Rattle.action_queue.specs.declared.queue.Queue.{Queue}
 use Rattle.action_queue.specs.Index.{jobs_of, job_at, with_job, ids_in, later_of, stops, last_stop, IsKeyed, IsIndex}
@@ -22,7 +22,7 @@ use Rattle.action_queue.proofs.KeyLemmas.{at_same, at_apart, keyed_from, key_fou
 
 -- ---- the jobs
 
-settle_others : (e : Ending) (from : ℕ) (es : List (ℕ × Job)) → IsKeyed from es → e.job < from → settle_in e (jobs_of es) ≡ jobs_of es
+settle_others : (e : Ending) (from : ℕ) (es : List (ℕ × Job)) → IsKeyed from es → e.job < from → jobs_after_ending e (jobs_of es) ≡ jobs_of es
 settle_others e from [] keyed less = refl
 settle_others e from (x ∷ es) keyed less =
     let no : (e.job == x.1.id) ≡ false = ne_eqb e.job x.1.id (λ same. absurd (omega (arith, same, keyed.0, keyed.1, less))) in
@@ -44,7 +44,7 @@ with_other id (Some job) x es apart = rw (at_apart id x.0 apart) refl
 
 -- the jobs after what the ending did to the one under its id
 pub settle_with : (e : Ending) (from : ℕ) (es : List (ℕ × Job)) (job : Job) → IsKeyed from es → job_at e.job es ≡ Some job
-    → jobs_of (with_job e.job (after_try job (settled_as e job)) es) ≡ settle_in e (jobs_of es)
+    → jobs_of (with_job e.job (after_try job (settled_as e job)) es) ≡ jobs_after_ending e (jobs_of es)
 settle_with e from [] job keyed is = absurd (let w : None ≡ Some job = is in cc)
 settle_with e from (x ∷ es) job keyed is = elim (cases_eq e.job x.0) [
   | inl same ↦

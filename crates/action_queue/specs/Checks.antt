@@ -3,7 +3,7 @@ use Rattle.std.specs.Prelude.{ℕ, ◌≡◌, Bool, true, false, not, if◌then�
 use Rattle.f2b_base.specs.declared.job.Job.{Job}
 use Rattle.f2b_base.specs.declared.job.LaneId.{LaneId}
 use Rattle.f2b_model.specs.Checks.{has_check, is_stop, is_closing, void_ids, left_by_check, voided_at}
-use Rattle.f2b_model.specs.Jobs.{head, has_id, settle_in}
+use Rattle.f2b_model.specs.Jobs.{head, has_id, jobs_after_ending}
 use Rattle.action_queue.specs.declared.checks.CheckEnd.{CheckEnd}
 use Rattle.action_queue.specs.declared.checks.CheckEnd.TheVariants.{Unchecked, Closing, Open}
 use Rattle.action_queue.specs.declared.queue.Queue.{Queue}
@@ -17,9 +17,9 @@ left_in None jobs = jobs
 left_in (Some lane) jobs = left_by_check lane jobs
 
 -- the ids of those that are voided
-abbrev pub voided_in : Option LaneId → List Job → List ℕ
-voided_in None jobs = []
-voided_in (Some lane) jobs = void_ids lane jobs
+abbrev pub voided_ids : Option LaneId → List Job → List ℕ
+voided_ids None jobs = []
+voided_ids (Some lane) jobs = void_ids lane jobs
 
 -- what it did to the lane: the lane is about to stop where a Stop of it waits
 abbrev pub end_in : Option LaneId → List Job → CheckEnd
@@ -27,13 +27,13 @@ end_in None jobs = Unchecked
 end_in (Some lane) jobs = if is_closing lane jobs then Closing else Open
 
 -- the jobs after these are voided at a moment, one after the other
-abbrev pub void_each : ℕ → List ℕ → List Job → List Job
-void_each at [] jobs = jobs
-void_each at (id ∷ ids) jobs = void_each at ids (settle_in (voided_at id at) jobs)
+abbrev pub jobs_voided : ℕ → List ℕ → List Job → List Job
+jobs_voided at [] jobs = jobs
+jobs_voided at (id ∷ ids) jobs = jobs_voided at ids (jobs_after_ending (voided_at id at) jobs)
 
 -- the jobs after these are voided, at whatever moment
 abbrev pub IsVoided : List ℕ → List Job → List Job → Type 0
-IsVoided ids old new = (at : ℕ) → void_each at ids old ≡ new
+IsVoided ids old new = (at : ℕ) → jobs_voided at ids old ≡ new
 
 -- ---- over the map and the queues
 

@@ -4,8 +4,8 @@ ghost use Rattle.std.specs.Prelude.{◌≡◌, ◌≤◌, ◌↔◌, true, [], �
 ghost use Rattle.std.specs.Option.{option_copied};
 ghost use Rattle.f2b_base.specs.Limits.{last_moment};
 ghost use Rattle.f2b_model.specs.Checks.{is_closing, checked_lane};
-ghost use Rattle.f2b_model.specs.Jobs.{head, job_by_id, is_head_id, next_due, AllIdsBelow, settled_as, settle_in};
-ghost use Rattle.action_queue.specs.Checks.{left_in, voided_in, end_in, IsVoided};
+ghost use Rattle.f2b_model.specs.Jobs.{head, job_by_id, is_head_id, next_due, AllIdsBelow, settled_as, jobs_after_ending};
+ghost use Rattle.action_queue.specs.Checks.{left_in, voided_ids, end_in, IsVoided};
 ghost use Rattle.action_queue.specs.Tries.{ending_of};
 
 use crate::checks::{CheckEnd, checked_lane, fail, is_checked, is_closing};
@@ -117,7 +117,7 @@ impl Lanes {
     pub fn settle(&mut self, id: u64, outcome: Outcome, now: u64) -> Settled
         requires head { is_head_id id self.old ≡ true }
         requires now { now ≤ last_moment }
-        ensures jobs { self.new ≡ settle_in (ending_of id outcome now) self.old }
+        ensures jobs { self.new ≡ jobs_after_ending (ending_of id outcome now) self.old }
         ensures answer { IfSome (job_by_id id self.old) (λ job. result ≡ settled_as (ending_of id outcome now) job) }
     {
         match self.jobs.get(&id) {
@@ -156,7 +156,7 @@ impl Lanes {
         ensures answer { result ≡ end_in (checked_lane id self.old) self.old }
 
         // The same by endings: each of those jobs is voided in turn.
-        ensures voided { IsVoided (voided_in (checked_lane id self.old) self.old) self.old self.new }
+        ensures voided { IsVoided (voided_ids (checked_lane id self.old) self.old) self.old self.new }
     {
         match self.jobs.get(&id) {
             Some(job) => if is_checked(job, &self.queues, id) {

@@ -42,12 +42,12 @@ pub none_is : {A : Type 0} (p : A → Bool) (xs : List A) → AllOf (λ x. p x �
 none_is p [] a = refl
 none_is p (x ∷ xs) a = let e = a.0 in rw e (none_is p xs a.1)
 
-pub found_in : {A : Type 0} (p : A → Bool) (xs : List A) (x : A) → find p xs ≡ Some x → IsIn x xs
-found_in {A} p [] x h = absurd (let nothing : Option A = None in let e : nothing ≡ Some x = h in cc)
-found_in p (y ∷ ys) x h =
+pub found_is_listed : {A : Type 0} (p : A → Bool) (xs : List A) (x : A) → find p xs ≡ Some x → IsIn x xs
+found_is_listed {A} p [] x h = absurd (let nothing : Option A = None in let e : nothing ≡ Some x = h in cc)
+found_is_listed p (y ∷ ys) x h =
     by_test (p y) _
     (λ e. let same : Some y ≡ Some x = rw e at h in inl (let k : x ≡ y = cc in k))
-    (λ e. let h2 : find p ys ≡ Some x = rw e at h in inr (found_in p ys x h2))
+    (λ e. let h2 : find p ys ≡ Some x = rw e at h in inr (found_is_listed p ys x h2))
 
 pub found_passes : {A : Type 0} (p : A → Bool) (xs : List A) (x : A) → find p xs ≡ Some x → p x ≡ true
 found_passes {A} p [] x h = absurd (let nothing : Option A = None in let e : nothing ≡ Some x = h in cc)

@@ -123,8 +123,8 @@ pub count_stays : (old new : Counts) (bans : List Ban) (past : List Past) → Is
 count_stays old new bans past same count addr = same addr ∙ count addr
 
 -- a ban more, and fewer again
-pub as_many_back : (old mid new : Counts) (addr : Addr) → IsOneMore addr old mid → IsOneFewer addr mid new → IsAsMany old new
-as_many_back old mid new addr more fewer other =
+pub as_many_back : (old between new : Counts) (addr : Addr) → IsOneMore addr old between → IsOneFewer addr between new → IsAsMany old new
+as_many_back old between new addr more fewer other =
     let up = more other in
     let down = fewer other in
     omega arith

@@ -16,7 +16,7 @@ use Rattle.f2b_model.specs.Steps.{is_meant}
 use Rattle.f2b_model.proofs.ListLemmas.{by_test}
 use Rattle.f2b_model.proofs.OrderlyLemmas.{all_of-filter}
 use Rattle.f2b_model.proofs.SoundLemmas.{same_addr_true}
-use Rattle.ban_table.proofs.BanLemmas.{each_is, found_in, none_found}
+use Rattle.ban_table.proofs.BanLemmas.{each_is, found_is_listed, none_found}
 
 -- bans under their serials
 abbrev pub keyed_by_serial : List Ban → List (ℕ × Ban)
@@ -85,7 +85,7 @@ found_more p addr ban (b ∷ bs) rising once found =
     (λ t. rw t (insert_again b (keyed_by_serial (filter p bs)) ∙ ap (λ r. keyed_by_serial (b ∷ r)) (sym rest)))
     (λ t. rw (t, e) (insert_front b (filter p bs) (all_of-filter (λ (c : Ban). b.serial < c.serial) p bs rising.0) ∙ ap (λ r. keyed_by_serial (b ∷ r)) (sym rest)))))
     (λ e. let later : find (ban_of addr) bs ≡ Some ban = rw e at found in
-    let lt = each_is (λ (c : Ban). b.serial < c.serial) bs ban rising.0 (found_in (ban_of addr) bs ban later) in
+    let lt = each_is (λ (c : Ban). b.serial < c.serial) bs ban rising.0 (found_is_listed (ban_of addr) bs ban later) in
     let more = found_more p addr ban bs rising.1 once.1 later in
     by_test (p b) _
     (λ t. rw t (insert_behind ban b (keyed_by_serial (filter p bs)) lt ∙ ap (λ r. (b.serial, b) ∷ r) more))
@@ -135,7 +135,7 @@ found_start es bans empty = empty ∙ ap keyed_by_serial (sym (nothing bans))
     nothing (b ∷ bs) = nothing bs
 
 -- all were asked for
-pub found_all : (es : List (ℕ × Ban)) (addrs : List Addr) (i : ℕ) (bans : List Ban) → length addrs ≤ i → es ≡ keyed_by_serial (filter (is_meant (Some (take i addrs))) bans)
+pub found_at_the_end : (es : List (ℕ × Ban)) (addrs : List Addr) (i : ℕ) (bans : List Ban) → length addrs ≤ i → es ≡ keyed_by_serial (filter (is_meant (Some (take i addrs))) bans)
     → values_of es ≡ filter (is_meant (Some addrs)) bans
-found_all es addrs i bans over is =
+found_at_the_end es addrs i bans over is =
     ap values_of is ∙ values_keyed (filter (is_meant (Some (take i addrs))) bans) ∙ ap (λ r. filter (is_meant (Some r)) bans) (take_all i addrs over)

@@ -22,7 +22,7 @@ use Rattle.f2b_model.proofs.ListLemmas.{by_test}
 use Rattle.ban_table.specs.declared.index.Index.{Index}
 use Rattle.ban_table.specs.Places.{pair_cmp, key_of, is_until, ends_with, IsIndexOf, IsNoSooner, IsLeastEnd}
 use Rattle.ban_table.specs.Tables.{by_serial}
-use Rattle.ban_table.proofs.BanLemmas.{each_is, all_are, is_some_of, found_in, any_placed, find_none, find_begun, find_others, all_others, other_addr}
+use Rattle.ban_table.proofs.BanLemmas.{each_is, all_are, is_some_of, found_is_listed, any_placed, find_none, find_begun, find_others, all_others, other_addr}
 
 pub number_same : (a b : ℕ) → is_eq (nat_cmp a b) ≡ (a == b)
 number_same a b =
@@ -75,11 +75,11 @@ serials_others old new gone bans index out addr =
     h ∙ index.serials addr ∙ sym f)
 
 -- a serial that was put in and taken out again
-pub serials_back : (old mid new : Index) (ban : Ban) (bans : List Ban) → IsIndexOf old bans → is_banned ban.addr bans ≡ false
-    → ((q : ℕ × ℕ) → tree.get pair_cmp mid.serials q ≡ cond (is_eq (pair_cmp (key_of ban.addr) q)) (Some ban.serial) (tree.get pair_cmp old.serials q))
-    → ((q : ℕ × ℕ) → tree.get pair_cmp new.serials q ≡ cond (is_eq (pair_cmp (key_of ban.addr) q)) None (tree.get pair_cmp mid.serials q))
+pub serials_back : (old between new : Index) (ban : Ban) (bans : List Ban) → IsIndexOf old bans → is_banned ban.addr bans ≡ false
+    → ((q : ℕ × ℕ) → tree.get pair_cmp between.serials q ≡ cond (is_eq (pair_cmp (key_of ban.addr) q)) (Some ban.serial) (tree.get pair_cmp old.serials q))
+    → ((q : ℕ × ℕ) → tree.get pair_cmp new.serials q ≡ cond (is_eq (pair_cmp (key_of ban.addr) q)) None (tree.get pair_cmp between.serials q))
     → (addr : Addr) → tree.get pair_cmp new.serials (key_of addr) ≡ option_map (λ (b : Ban). b.serial) (find (ban_of addr) bans)
-serials_back old mid new ban bans index free put out addr =
+serials_back old between new ban bans index free put out addr =
     let first = put (key_of addr) in
     let second = out (key_of addr) in
     let same = key_same ban.addr addr in
@@ -88,8 +88,8 @@ serials_back old mid new ban bans index free put out addr =
     let h : tree.get pair_cmp new.serials (key_of addr) ≡ None = rw k at second in
     h ∙ sym (ap (λ o. option_map (λ (b : Ban). b.serial) o) (find_none (ban_of addr) bans (other_addr addr ban.addr bans e free))))
     (λ e. let k : is_eq (pair_cmp (key_of ban.addr) (key_of addr)) ≡ false = same ∙ e in
-    let h : tree.get pair_cmp new.serials (key_of addr) ≡ tree.get pair_cmp mid.serials (key_of addr) = rw k at second in
-    let g : tree.get pair_cmp mid.serials (key_of addr) ≡ tree.get pair_cmp old.serials (key_of addr) = rw k at first in
+    let h : tree.get pair_cmp new.serials (key_of addr) ≡ tree.get pair_cmp between.serials (key_of addr) = rw k at second in
+    let g : tree.get pair_cmp between.serials (key_of addr) ≡ tree.get pair_cmp old.serials (key_of addr) = rw k at first in
     h ∙ g ∙ index.serials addr)
 
 -- the ends with one more
@@ -119,7 +119,7 @@ ends_others end serial ban (b ∷ bs) r once h =
     (λ d. let h2 : find (ban_of ban.addr) bs ≡ Some ban = rw d at h in
     let more = ends_others end serial ban bs r.1 once.1 h2 in
     by_test (ends_with end serial ban) _
-    (λ t. let lt = each_is (λ (c : Ban). b.serial < c.serial) bs ban r.0 (found_in (ban_of ban.addr) bs ban h2) in
+    (λ t. let lt = each_is (λ (c : Ban). b.serial < c.serial) bs ban r.0 (found_is_listed (ban_of ban.addr) bs ban h2) in
     let apart : ends_with end serial b ≡ false = other_serial b ban lt t in
     let more2 : list_any (ends_with end serial) (filter (λ b. not (ban_of ban.addr b)) bs) ≡ false = rw t at more in
     rw (d, t, apart) more2)

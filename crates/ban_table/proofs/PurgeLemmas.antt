@@ -32,21 +32,21 @@ pub record HasDropped (limit : ℕ) (old now : Entries) (before after : Counts) 
   pub counts : StaysCounted before old.items after now.items
 
 -- one more went
-pub dropped_next : (limit : ℕ) (old now next : Entries) (before mid after : Counts) (p : Past) → HasDropped limit old now before mid → now.items ≡ p ∷ next.items → p.end ≤ limit
-    → next.room ≡ now.room → IsOneFewer p.addr mid after → HasDropped limit old next before after
-dropped_next limit old now next before mid after p so first is_old room fewer =
+pub dropped_next : (limit : ℕ) (old now next : Entries) (before between after : Counts) (p : Past) → HasDropped limit old now before between → now.items ≡ p ∷ next.items → p.end ≤ limit
+    → next.room ≡ now.room → IsOneFewer p.addr between after → HasDropped limit old next before after
+dropped_next limit old now next before between after p so first is_old room fewer =
     let gone = not_later limit p.end is_old in
     record {
       left = (let here : filter (is_later limit) now.items ≡ filter (is_later limit) next.items = ap (filter (is_later limit)) first ∙ (rw gone refl) in sym here ∙ so.left);
       rising = (let r : IsRisingEnds (p ∷ next.items) = rw first at so.rising in r.1);
       room = room ∙ so.room;
-      counts = λ bans count. count_dropped mid after bans p next.items fewer (rw first at (so.counts bans count));
+      counts = λ bans count. count_dropped between after bans p next.items fewer (rw first at (so.counts bans count));
     }
 
 -- where the first is not old, all old ones went
-pub dropped_all : (limit : ℕ) (old now next : Entries) (before after : Counts) → HasDropped limit old now before after → IsFirstAfter limit now.items → next.items ≡ now.items
+pub dropped_at_the_end : (limit : ℕ) (old now next : Entries) (before after : Counts) → HasDropped limit old now before after → IsFirstAfter limit now.items → next.items ≡ now.items
     → next.items ≡ filter (is_later limit) old.items
-dropped_all limit old now next before after so late same = same ∙ sym (none_old limit now.items so.rising late) ∙ so.left
+dropped_at_the_end limit old now next before after so late same = same ∙ sym (none_old limit now.items so.rising late) ∙ so.left
 
 -- the first `i` entries were taken out in front, and those of them that are not old stand behind
 pub record HasSifted (limit i : ℕ) (old now : Entries) (before after : Counts) : Type 0 where
@@ -65,25 +65,25 @@ sifted_first xs ks next i p within is =
     (cc, cc)
 
 -- it is put behind again
-pub sifted_kept : (limit i : ℕ) (old now mid next : Entries) (before after : Counts) (p : Past) → HasSifted limit i old now before after → i < length old.items → now.items ≡ p ∷ mid.items
-    → next.items ≡ mid.items ++ p ∷ [] → next.room ≡ now.room → limit < p.end → HasSifted limit (i + 1) old next before after
-sifted_kept limit i old now mid next before after p so within first behind room late =
+pub sifted_kept : (limit i : ℕ) (old now between next : Entries) (before after : Counts) (p : Past) → HasSifted limit i old now before after → i < length old.items → now.items ≡ p ∷ between.items
+    → next.items ≡ between.items ++ p ∷ [] → next.room ≡ now.room → limit < p.end → HasSifted limit (i + 1) old next before after
+sifted_kept limit i old now between next before after p so within first behind room late =
     let xs = old.items in
     let ks = filter (is_later limit) (take i xs) in
-    let front = sifted_first xs ks mid.items i p within (sym first ∙ so.items) in
+    let front = sifted_first xs ks between.items i p within (sym first ∙ so.items) in
     let stays : nat_lt limit p.end ≡ true = grind (arith, nat_tests) in
     let more = filter_more (is_later limit) xs i p within in
     let one : filter (is_later limit) (take (i + 1) xs) ≡ ks ++ p ∷ [] = rw (front.0, stays) at more in
     record {
       items = behind ∙ ap (λ ys. ys ++ p ∷ []) (front.1) ∙ append_assoc (drop (i + 1) xs) ks (p ∷ []) ∙ sym (ap (λ ys. drop (i + 1) xs ++ ys) one);
       room = room ∙ so.room;
-      counts = λ bans count. rw behind (count_turned after bans p mid.items (rw first at (so.counts bans count)));
+      counts = λ bans count. rw behind (count_turned after bans p between.items (rw first at (so.counts bans count)));
     }
 
 -- it goes
-pub sifted_gone : (limit i : ℕ) (old now next : Entries) (before mid after : Counts) (p : Past) → HasSifted limit i old now before mid → i < length old.items → now.items ≡ p ∷ next.items
-    → next.room ≡ now.room → p.end ≤ limit → IsOneFewer p.addr mid after → HasSifted limit (i + 1) old next before after
-sifted_gone limit i old now next before mid after p so within first room is_old fewer =
+pub sifted_gone : (limit i : ℕ) (old now next : Entries) (before between after : Counts) (p : Past) → HasSifted limit i old now before between → i < length old.items → now.items ≡ p ∷ next.items
+    → next.room ≡ now.room → p.end ≤ limit → IsOneFewer p.addr between after → HasSifted limit (i + 1) old next before after
+sifted_gone limit i old now next before between after p so within first room is_old fewer =
     let xs = old.items in
     let ks = filter (is_later limit) (take i xs) in
     let front = sifted_first xs ks next.items i p within (sym first ∙ so.items) in
@@ -93,10 +93,10 @@ sifted_gone limit i old now next before mid after p so within first room is_old 
     record {
       items = front.1 ∙ sym (ap (λ ys. drop (i + 1) xs ++ ys) (same ∙ append-nil ks));
       room = room ∙ so.room;
-      counts = λ bans count. count_dropped mid after bans p next.items fewer (rw first at (so.counts bans count));
+      counts = λ bans count. count_dropped between after bans p next.items fewer (rw first at (so.counts bans count));
     }
 
 -- all were taken out
-pub sifted_all : (limit i : ℕ) (old now : Entries) (before after : Counts) → HasSifted limit i old now before after → length old.items ≤ i → now.items ≡ filter (is_later limit) old.items
-sifted_all limit i old now before after so all =
+pub sifted_at_the_end : (limit i : ℕ) (old now : Entries) (before after : Counts) → HasSifted limit i old now before after → length old.items ≤ i → now.items ≡ filter (is_later limit) old.items
+sifted_at_the_end limit i old now before after so all =
     so.items ∙ ap₂ (λ xs ys. xs ++ filter (is_later limit) ys) (drop_all i old.items all) (take_all i old.items all)

@@ -25,7 +25,7 @@ use Rattle.ban_table.specs.declared.index.Index.{Index}
 use Rattle.ban_table.specs.declared.lists.BanLists.{BanLists}
 use Rattle.ban_table.specs.Places.{AreKeyed, IsTable, IsIndexOf, IsNoSooner, is_until, ends_with}
 use Rattle.ban_table.specs.Tables.{by_serial, begun, ended, IsNextDue}
-use Rattle.ban_table.proofs.BanLemmas.{each_is, all_are, some_is, is_some_of, none_is, found_in, found_passes, none_found, all_others, find_begun, others_begun, rising_begun, once_begun, rising_filter, once_filter}
+use Rattle.ban_table.proofs.BanLemmas.{each_is, all_are, some_is, is_some_of, none_is, found_is_listed, found_passes, none_found, all_others, find_begun, others_begun, rising_begun, once_begun, rising_filter, once_filter}
 use Rattle.ban_table.proofs.IndexLemmas.{number_same}
 
 at_serial : (n m : ℕ) → (n == m) ≡ true → is_at (nat_cmp n) m ≡ true
@@ -95,7 +95,7 @@ values_others (e ∷ es) ban keyed rising once h =
     let here : is_at (nat_cmp ban.serial) e.0 ≡ true = at_serial ban.serial e.0 (equal ban.serial e.0 (ap (λ (b : Ban). b.serial) (sym same) ∙ sym key)) in
     rw (d, here) (sym (all_others ban.addr (values_of es) free)))
     (λ d. let h2 : find (ban_of ban.addr) (values_of es) ≡ Some ban = rw d at h in
-    let lt = each_is (λ (b : Ban). e.1.serial < b.serial) (values_of es) ban rising.0 (found_in (ban_of ban.addr) (values_of es) ban h2) in
+    let lt = each_is (λ (b : Ban). e.1.serial < b.serial) (values_of es) ban rising.0 (found_is_listed (ban_of ban.addr) (values_of es) ban h2) in
     let apart : is_at (nat_cmp ban.serial) e.0 ≡ false = not_at_serial ban.serial e.0 (unequal ban.serial e.0 (omega arith)) in
     rw (d, apart) (ap (λ r. e.1 ∷ r) (values_others es ban keyed.1 rising.1 once.1 h2)))
   where
@@ -119,7 +119,7 @@ lookup_found es addr serial keyed rising told = go (find (ban_of addr) (values_o
     go (Some b) f t =
         let s : Some serial ≡ Some b.serial = t in
         let same : serial ≡ b.serial = cc in
-        ap (λ n. lookup (is_at (nat_cmp n)) es) same ∙ lookup_active es b keyed rising (found_in (ban_of addr) (values_of es) b f) ∙ sym f
+        ap (λ n. lookup (is_at (nat_cmp n)) es) same ∙ lookup_active es b keyed rising (found_is_listed (ban_of addr) (values_of es) b f) ∙ sym f
 
 -- what the index tells of is there
 pub not_lost : (es : List (ℕ × Ban)) (addr : Addr) (serial : ℕ) → AreKeyed es → IsRisingSerials (values_of es)
@@ -213,13 +213,13 @@ begun_so es fs before after past capacity room ban table free new put enough add
     )
 
 -- and where it found no room after all, and was taken out of the index again
-pub unbegun_so : (es fs : List (ℕ × Ban)) (before mid after : Index) (past capacity room : ℕ) (ban : Ban) → IsTable es before past capacity
+pub unbegun_so : (es fs : List (ℕ × Ban)) (before between after : Index) (past capacity room : ℕ) (ban : Ban) → IsTable es before past capacity
     → is_banned ban.addr (values_of es) ≡ false → AllOf (λ (b : Ban). b.serial ≢ ban.serial) (values_of es) → fs ≡ es → past + (length es + 1) ≤ room
-    → ((bans : List Ban) → IsIndexOf before bans → is_banned ban.addr bans ≡ false → IsIndexOf mid (placed by_serial ban bans))
-    → ((bans : List Ban) → IsIndexOf mid bans → IsRisingSerials bans → IsOnceEach bans → find (ban_of ban.addr) bans ≡ Some ban
+    → ((bans : List Ban) → IsIndexOf before bans → is_banned ban.addr bans ≡ false → IsIndexOf between (placed by_serial ban bans))
+    → ((bans : List Ban) → IsIndexOf between bans → IsRisingSerials bans → IsOnceEach bans → find (ban_of ban.addr) bans ≡ Some ban
     → IsIndexOf after (filter (λ b. not (ban_of ban.addr b)) bans))
     → IsTable fs after past room
-unbegun_so es fs before mid after past capacity room ban table free new same enough added taken =
+unbegun_so es fs before between after past capacity room ban table free new same enough added taken =
     let bans = values_of es in
     let own : find (ban_of ban.addr) (placed by_serial ban bans) ≡ Some ban =
     find_begun ban.addr ban bans free ∙ ap (λ t. cond t (Some ban) (find (ban_of ban.addr) bans)) (same_addr_same ban.addr) in

@@ -17,7 +17,7 @@ use Rattle.f2b_model.specs.Moves.{is_banned, same_cidr, JailAndSerial}
 use Rattle.f2b_model.specs.NowMoves.{begun_now}
 use Rattle.f2b_model.specs.Nows.{JailsNow}
 use Rattle.f2b_model.specs.Storable.{IsStorable}
-use Rattle.f2b_model.specs.Steps.{at_jail, banned_in_turn, done, end_all, find_jail, found_in_turn, in_jail, is_meant, moves_now, names, unbanned, JailsAndSerial}
+use Rattle.f2b_model.specs.Steps.{at_jail, banned_in_turn, done, bans_ended, find_jail, found_in_turn, in_jail, is_meant, moves_now, names, unbanned, JailsAndSerial}
 use Rattle.f2b_model.specs.Whole.{Now}
 use Rattle.f2b_model.specs.declared.jail_now.JailNow.{JailNow}
 use Rattle.f2b_model.proofs.HeldLemmas.{bytes_swap}
@@ -145,7 +145,7 @@ ban_as word w jail addrs j found =
 nothing_ends : (at : ℕ) (addrs : Option (List Addr)) (j : JailNow) → (count_meant addrs j.bans == 0) ≡ true → unbanned moves_now at addrs j ≡ j
 nothing_ends at addrs j none = ends (filter (is_meant addrs) j.bans) none
   where
-    ends : (bs : List Ban) → (length bs == 0) ≡ true → end_all moves_now (λ b. at) bs j ≡ j
+    ends : (bs : List Ban) → (length bs == 0) ≡ true → bans_ended moves_now (λ b. at) bs j ≡ j
     ends [] none = refl
     ends (b ∷ bs) none = absurd (grind (arith, nat_tests, none))
 

@@ -12,7 +12,7 @@ use Rattle.f2b_base.specs.declared.jail.JailDef.{JailDef}
 use Rattle.f2b_model.specs.Views.{jail_view}
 use Rattle.f2b_model.specs.declared.jail_now.JailNow.{JailNow}
 use Rattle.jail_moves.specs.declared.totals.Totals.{Totals}
-use Rattle.jail_rooms.specs.Shown.{lately_in, totals_of}
+use Rattle.jail_rooms.specs.Shown.{jail_failed_lately, totals_of}
 use Rattle.f2b_base.specs.Addresses.{printed}
 use Rattle.f2b_base.specs.declared.addr.Addr.{Addr}
 use Rattle.f2b_base.specs.declared.view.JailView.{JailView}
@@ -89,7 +89,7 @@ each_of_all f g (Some j) other is = absurd (let e : Some (f j) ≡ None = is in 
 
 pub status_shown : (moment : ℕ) (o : Option JailNow) (d : JailDef) (totals : Totals) (bans : List Ban) → option_map (λ (j : JailNow). j.definition) o ≡ Some d
     → option_map totals_of o ≡ Some totals → option_map (λ (j : JailNow). j.bans) o ≡ Some bans
-    → jail_text (option_map_or (lately_in moment) o 0) d totals bans ≡ option_map_or (status_of moment) o []
+    → jail_text (option_map_or (jail_failed_lately moment) o 0) d totals bans ≡ option_map_or (status_of moment) o []
 status_shown moment None d totals bans a b c = absurd (let e : None ≡ Some d = a in cc)
 status_shown moment (Some j) d totals bans a b c =
     let e : j.definition ≡ d = (let h : Some j.definition ≡ Some d = a in cc) in

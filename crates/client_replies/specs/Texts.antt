@@ -19,7 +19,7 @@ use Rattle.f2b_model.specs.Moves.{is_banned}
 use Rattle.f2b_model.specs.declared.jail_now.JailNow.{JailNow}
 use Rattle.iso_moment.specs.Moments.{moment_text}
 use Rattle.jail_moves.specs.declared.totals.Totals.{Totals}
-use Rattle.jail_rooms.specs.Shown.{lately_in, totals_of}
+use Rattle.jail_rooms.specs.Shown.{jail_failed_lately, totals_of}
 
 -- ---- lists
 
@@ -191,4 +191,4 @@ jail_text lately d totals bans =
     codes "Status for the jail: " ++ d.name ++ filter_text lately totals.failed d.watches ++ actions_text totals.banned bans
 
 abbrev pub status_of : (moment : ℕ) → JailNow → List ℕ
-status_of moment j = jail_text (lately_in moment j) j.definition (totals_of j) j.bans
+status_of moment j = jail_text (jail_failed_lately moment j) j.definition (totals_of j) j.bans

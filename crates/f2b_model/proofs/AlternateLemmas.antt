@@ -11,7 +11,7 @@ use Rattle.f2b_base.specs.declared.job.JobKind.{JobKind}
 use Rattle.f2b_base.specs.declared.job.JobKind.TheVariants.{Start, Stop, Ban, Unban, Reban}
 use Rattle.f2b_model.specs.Families.{same_lane}
 use Rattle.f2b_model.specs.Jobs.{Ending, endings_of, is_settled, due_after, stands, head}
-use Rattle.f2b_model.specs.Turns.{order_of, touches, concerns, banned_after, follow, kinds_of, Alternate, last_is_ban}
+use Rattle.f2b_model.specs.Alternation.{order_of, touches, concerns, banned_after, follow, kinds_of, Alternate, last_is_ban}
 
 step_alternates : (kind : JobKind) (b c : Bool) (after : Bool → Option Bool) (kinds : List JobKind) → ((d : Bool) → after d ≡ Some c → Alternate d kinds) → option_and_then after (banned_after kind b) ≡ Some c
     → Alternate b (kind ∷ kinds)
@@ -80,11 +80,11 @@ order_stands es job j is = elim (cases_Bool (is_settled (endings_of job.id es)))
   | inr h ↦ ap order_of (same_Some (record job { tries = length (endings_of job.id es); due = due_after job.due (endings_of job.id es) }) j (rw h at is))
 ]
 
-settled_one : (id : LaneId) (addr : Addr) (es : List Ending) (job : Job) (made : List Job) (o : Option Job) → stands es job ≡ o → head id (cons_option o (filter_map (stands es) made)) ≡ None
+settled_first : (id : LaneId) (addr : Addr) (es : List Ending) (job : Job) (made : List Job) (o : Option Job) → stands es job ≡ o → head id (cons_option o (filter_map (stands es) made)) ≡ None
     → (head id (filter_map (stands es) made) ≡ None → kinds_of id addr (filter (λ j. is_none (stands es j)) made) ≡ kinds_of id addr made)
     → kinds_of id addr (cond (is_none o) (job ∷ filter (λ j. is_none (stands es j)) made) (filter (λ j. is_none (stands es j)) made)) ≡ kinds_of id addr (job ∷ made)
-settled_one id addr es job made None is none later = kinds_cons id addr job _ _ (later none)
-settled_one id addr es job made (Some j) is none later = elim (cases_Bool (same_lane j.lane id)) [
+settled_first id addr es job made None is none later = kinds_cons id addr job _ _ (later none)
+settled_first id addr es job made (Some j) is none later = elim (cases_Bool (same_lane j.lane id)) [
   | inl h ↦ let e : Some j ≡ None = rw h at none in cc
   | inr h ↦
       let on : head id (filter_map (stands es) made) ≡ None = rw h at none in
@@ -93,7 +93,7 @@ settled_one id addr es job made (Some j) is none later = elim (cases_Bool (same_
 ]
 
 -- where no job of a lane is pending, its settled jobs are all of its jobs
-pub settled_all : (id : LaneId) (addr : Addr) (es : List Ending) (made : List Job) → head id (filter_map (stands es) made) ≡ None
+pub all_are_settled : (id : LaneId) (addr : Addr) (es : List Ending) (made : List Job) → head id (filter_map (stands es) made) ≡ None
     → kinds_of id addr (filter (λ job. is_none (stands es job)) made) ≡ kinds_of id addr made
-settled_all id addr es [] none = refl
-settled_all id addr es (job ∷ made) none = settled_one id addr es job made (stands es job) refl none (settled_all id addr es made)
+all_are_settled id addr es [] none = refl
+all_are_settled id addr es (job ∷ made) none = settled_first id addr es job made (stands es job) refl none (all_are_settled id addr es made)

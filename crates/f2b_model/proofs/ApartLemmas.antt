@@ -16,13 +16,13 @@ use Rattle.std.specs.Prelude.{bytes_eq, map}
 use Rattle.f2b_model.specs.Checks.{is_closing, lane_of, checked_lane, void_ids, voided_at}
 use Rattle.f2b_model.specs.Jobs.{is_head_id}
 use Rattle.f2b_model.specs.LaneSound.{AreApart}
-use Rattle.f2b_model.specs.Lanes.{Lanes, Books, lane_down, lane_up, all_down, all_up, void_all, restarted, failed_in, others_down, lanes_of, is_among, lanes_configured, lanes_done, lanes_issued, lanes_step}
+use Rattle.f2b_model.specs.Lanes.{Lanes, Books, lane_down, lane_up, all_down, all_up, with_voided, restarted, lane_failed_if_checked, others_down, lanes_of, includes_lane, lanes_configured, lanes_done, lanes_issued, lanes_step}
 use Rattle.f2b_model.specs.Lists.{AreDistinct, IsIn}
 use Rattle.f2b_model.specs.Orders.{Held, is_lane, is_up, lane_id}
 use Rattle.f2b_model.specs.Sound.{AreFitDefs, IsFit, IsFitWhat, same_kind}
 use Rattle.f2b_model.specs.Storable.{AreStorableDefs, IsStorableDef, IsStorableInput, IsStorableWhat}
 use Rattle.f2b_model.proofs.FitLemmas.{lanes_apart}
-use Rattle.f2b_model.proofs.InLemmas.{filter_in}
+use Rattle.f2b_model.proofs.InLemmas.{filtered_element}
 use Rattle.f2b_model.proofs.LaneStepLemmas.{apart_filter, apart_other, apart_rest, both_false}
 use Rattle.f2b_model.proofs.ListLemmas.{by_test}
 use Rattle.f2b_model.proofs.PassLemmas.{one_push}
@@ -67,7 +67,7 @@ module _ {L : Type 0} (b : Books L) (at : ℕ) where
       up_apart held ls (lane_up b at held lane l) (apart_push lane l.up (each lane (inl refl)) a) (apart_rest lane ls apart)
       (λ x i. list_any-append (is_lane (lane_id x)) l.up (lane ∷ []) ∙ both_false (is_up l.up (lane_id x)) (is_lane (lane_id x) lane) (each x (inr i)) (apart_other lane x ls apart i))
 
-  void_apart : (ids : List ℕ) (l : Lanes L) → AreApart l.up → AreApart (void_all b at ids l).up
+  void_apart : (ids : List ℕ) (l : Lanes L) → AreApart l.up → AreApart (with_voided b at ids l).up
   void_apart [] l a = a
   void_apart (id ∷ ids) l a = void_apart ids (record l { jobs = b.settle l.jobs (voided_at id at) }) a
 
@@ -75,27 +75,27 @@ module _ {L : Type 0} (b : Books L) (at : ℕ) where
   restarted_apart held None l a = a
   restarted_apart held (Some lane) l a = a
 
-  failed_apart : (held : List Held) (o : Option LaneId) (l : Lanes L) → AreApart l.up → AreApart (failed_in b at held o l).up
+  failed_apart : (held : List Held) (o : Option LaneId) (l : Lanes L) → AreApart l.up → AreApart (lane_failed_if_checked b at held o l).up
   failed_apart held None l a = a
   failed_apart held (Some lane) l a =
       let ids = void_ids lane (b.pending l.jobs) in
       let left = void_apart ids l a in
-      by_test (is_closing lane (b.pending l.jobs)) _ (λ t. rw t left) (λ t. rw t (restarted_apart held (lane_of lane l.up) (void_all b at ids l) left))
+      by_test (is_closing lane (b.pending l.jobs)) _ (λ t. rw t left) (λ t. rw t (restarted_apart held (lane_of lane l.up) (with_voided b at ids l) left))
 
-  configured_apart : (mid after : List Held) (new : List UpLane) (l : Lanes L) → AreApart new → AreApart l.up → AreApart (lanes_configured b at mid after new l).up
-  configured_apart mid after new l apart a =
-      let fewer : Lanes L = others_down b at mid new (record l { stopping = false }) in
+  configured_apart : (held_at_reading after : List Held) (new : List UpLane) (l : Lanes L) → AreApart new → AreApart l.up → AreApart (lanes_configured b at held_at_reading after new l).up
+  configured_apart held_at_reading after new l apart a =
+      let fewer : Lanes L = others_down b at held_at_reading new (record l { stopping = false }) in
       let missing : UpLane → Bool = λ lane. not (is_up fewer.up (lane_id lane)) in
-      up_apart after (filter missing new) fewer (down_apart mid (filter (λ lane. not (is_among new lane)) l.up) (record l { stopping = false }) a) (apart_filter missing new apart)
-      (λ x i. not-true (is_up fewer.up (lane_id x)) (filter_in missing x new i).1)
+      up_apart after (filter missing new) fewer (down_apart held_at_reading (filter (λ lane. not (includes_lane new lane)) l.up) (record l { stopping = false }) a) (apart_filter missing new apart)
+      (λ x i. not-true (is_up fewer.up (lane_id x)) (filtered_element missing x new i).1)
 
-  done_apart : (what : What) (mid after : List Held) (l : Lanes L) → IsStorableWhat what → AreApart l.up → AreApart (lanes_done b at what mid after l).up
-  done_apart (Ended job outcome) mid after l s a = by_test (is_head_id job (b.pending l.jobs)) _ (λ t. rw t a) (λ t. rw t a)
-  done_apart Stop mid after l s a = down_apart mid l.up l a
-  done_apart (Config defs) mid after l s a = configured_apart mid after (lanes_of defs) l (lanes_apart defs (fit_defs defs s)) a
-  done_apart (CheckFailed job outcome) mid after l s a = failed_apart after (checked_lane job (b.pending l.jobs)) l a
-  done_apart what mid after l s a = a
+  done_apart : (what : What) (held_at_reading after : List Held) (l : Lanes L) → IsStorableWhat what → AreApart l.up → AreApart (lanes_done b at what held_at_reading after l).up
+  done_apart (Ended job outcome) held_at_reading after l s a = by_test (is_head_id job (b.pending l.jobs)) _ (λ t. rw t a) (λ t. rw t a)
+  done_apart Stop held_at_reading after l s a = down_apart held_at_reading l.up l a
+  done_apart (Config defs) held_at_reading after l s a = configured_apart held_at_reading after (lanes_of defs) l (lanes_apart defs (fit_defs defs s)) a
+  done_apart (CheckFailed job outcome) held_at_reading after l s a = failed_apart after (checked_lane job (b.pending l.jobs)) l a
+  done_apart what held_at_reading after l s a = a
 
   -- a step keeps the lanes that are up apart
-  pub step_apart : (what : What) (mid after : List Held) (told : List Happening) (l : Lanes L) → IsStorableWhat what → AreApart l.up → AreApart (lanes_step b at what mid after told l).up
-  step_apart what mid after told l s a = done_apart what mid after (lanes_issued b at told l) s a
+  pub step_apart : (what : What) (held_at_reading after : List Held) (told : List Happening) (l : Lanes L) → IsStorableWhat what → AreApart l.up → AreApart (lanes_step b at what held_at_reading after told l).up
+  step_apart what held_at_reading after told l s a = done_apart what held_at_reading after (lanes_issued b at told l) s a

@@ -32,12 +32,12 @@ none_later : (id : ℕ) (e : Ending) (n : ℕ) → (e.job ≡ id → ⊥) → en
 none_later id e zero apart = refl
 none_later id e (suc n) apart = rw (ne_eqb e.job id apart, none_later id e n apart) refl
 
-none_in : (id from : ℕ) (jobs : List Job) (next : ℕ) → id < from → ArePending from jobs next → endings_of id (flat_map tries_of jobs) ≡ []
-none_in id from [] next below rise = refl
-none_in id from (job ∷ jobs) next below rise =
+no_endings_below : (id from : ℕ) (jobs : List Job) (next : ℕ) → id < from → ArePending from jobs next → endings_of id (flat_map tries_of jobs) ≡ []
+no_endings_below id from [] next below rise = refl
+no_endings_below id from (job ∷ jobs) next below rise =
     filter-append (λ e. e.job == id) (tries_of job) (flat_map tries_of jobs)
     ∙ ap₂ (λ (xs ys : List Ending). xs ++ ys) (none_later id (failed_at job.id (made_at job)) job.tries (λ same. absurd (omega (arith, rise.0, same, below))))
-    (none_in id (job.id + 1) jobs next (omega (arith, rise.0)) rise.2)
+    (no_endings_below id (job.id + 1) jobs next (omega (arith, rise.0)) rise.2)
 
 below_tries : (n id at : ℕ) → AreBelow (id + 1) (replicate n (failed_at id at))
 below_tries zero id at = tt
@@ -57,7 +57,7 @@ stands_again front from job jobs next below rise =
     filter-append (λ e. e.job == job.id) front (tries ++ later)
     ∙ ap₂ (λ (xs ys : List Ending). xs ++ ys) (none_of from front below job.id rise.0)
     (filter-append (λ e. e.job == job.id) tries later
-    ∙ ap₂ (λ (xs ys : List Ending). xs ++ ys) (own job.id (made_at job) job.tries) (none_in job.id (job.id + 1) jobs next (omega arith) rise.2)
+    ∙ ap₂ (λ (xs ys : List Ending). xs ++ ys) (own job.id (made_at job) job.tries) (no_endings_below job.id (job.id + 1) jobs next (omega arith) rise.2)
     ∙ append-nil tries) in
     ap (λ xs. stands_by xs (as_made job)) e1 ∙ again job job.tries refl rise.1
 
@@ -79,9 +79,9 @@ all_back lane front from (job ∷ jobs) next below rise = (
       (all_back lane (front ++ tries_of job) (job.id + 1) jobs next (below_front front from job below rise.0) rise.2),
 )
 
-order_from_all : (es : List Ending) (jobs : List Job) → ((lane : LaneId) → AllStand lane es jobs) → AreInOrder es jobs
-order_from_all es [] all = tt
-order_from_all es (job ∷ jobs) all = ((λ h. (all job.lane).1), order_from_all es jobs (λ lane. (all lane).1))
+order_where_all_stand : (es : List Ending) (jobs : List Job) → ((lane : LaneId) → AllStand lane es jobs) → AreInOrder es jobs
+order_where_all_stand es [] all = tt
+order_where_all_stand es (job ∷ jobs) all = ((λ h. (all job.lane).1), order_where_all_stand es jobs (λ lane. (all lane).1))
 
 made_back : (from : ℕ) (jobs : List Job) (next : ℕ) → ArePending from jobs next → AreMade from (map as_made jobs) next
 made_back from [] next rise = rise
@@ -98,7 +98,7 @@ pub back_ordered : (jobs : List Job) (next : ℕ) → ArePending 0 jobs next →
 back_ordered jobs next rise = record {
   made = made_back 0 jobs next rise;
   below = below_back 0 jobs next rise;
-  order = order_from_all (flat_map tries_of jobs) (map as_made jobs) (λ lane. all_back lane [] 0 jobs next tt rise);
+  order = order_where_all_stand (flat_map tries_of jobs) (map as_made jobs) (λ lane. all_back lane [] 0 jobs next tt rise);
 }
 
 -- the view law of jobs

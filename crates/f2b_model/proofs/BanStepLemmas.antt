@@ -5,7 +5,7 @@ use Rattle.f2b_base.specs.declared.ban.Ban.{Ban}
 use Rattle.f2b_base.specs.declared.input.Input.{Input}
 use Rattle.f2b_model.specs.declared.happening.Happening.{Happening}
 use Rattle.f2b_model.specs.declared.jail_now.JailNow.{JailNow}
-use Rattle.f2b_model.specs.Active.{held_in, held_by, held}
+use Rattle.f2b_model.specs.Active.{held_by_jail, held_by, held}
 use Rattle.f2b_model.specs.LaneSound.{IsBanStep}
 use Rattle.f2b_model.specs.Lists.{AllOf, AreDistinct}
 use Rattle.f2b_model.specs.Nows.{JailsNow, jail_now, jails_now_of, jail_from}
@@ -25,14 +25,14 @@ use Rattle.f2b_model.proofs.ToldLemmas.{told_by_now}
 -- the active bans are those of the middle state
 pub held_shows : (js : List Jail) → held_by moves js ≡ held_by moves_now (map jail_now js)
 held_shows [] = refl
-held_shows (j ∷ js) = ap (λ hs. held_in moves j ++ hs) (held_shows js)
+held_shows (j ∷ js) = ap (λ hs. held_by_jail moves j ++ hs) (held_shows js)
 
 -- and of the jails that hold just what a middle state does
 pub held_back : (js : List JailNow) → held_by moves (map jail_from js) ≡ held_by moves_now js
 held_back [] = refl
 held_back (j ∷ js) =
     ap (λ (bs : List Ban). map (λ (b : Ban). record { jail = j.definition.name; ban = b }) bs ++ held_by moves (map jail_from js)) (active_of-all j.bans)
-    ∙ ap (λ hs. held_in moves_now j ++ hs) (held_back js)
+    ∙ ap (λ hs. held_by_jail moves_now j ++ hs) (held_back js)
 
 -- a state at a reading is seen in its middle state
 pub reading_shows : (s : JailsState) (input : Input) → IsFit input → AreSoundJails s → jails_now_of (at_reading moves input.secs s) ≡ at_reading moves_now input.secs (jails_now_of s)
@@ -68,10 +68,10 @@ ban_step s input unspent fit sound =
     let d2 = subst (λ (r : JailsNow). AreDistinct bytes_eq (names moves_now r.jails)) same (now_distinct (jails_step s input) after) in
     let once2 = subst (λ (r : JailsNow). AllOf (λ (j : JailNow). IsOnceEach j.bans) r.jails) same (now_once (jails_step s input) after) in
     let now = now_ban_step n input unspent fit (now_distinct s sound) (now_once s sound) d2 once2 in
-    let mid_now = held moves_now (at_reading moves_now input.secs n) in
+    let held_at_reading = held moves_now (at_reading moves_now input.secs n) in
     let after_now = held moves_now (jails_step_now n input) in
     let told_now = jails_told moves_now n input in
-    let a : IsBanStep input.what (held moves s) mid_now after_now told_now = subst (λ (hs : List Held). IsBanStep input.what hs mid_now after_now told_now) (sym (held_shows s.jails)) now in
+    let a : IsBanStep input.what (held moves s) held_at_reading after_now told_now = subst (λ (hs : List Held). IsBanStep input.what hs held_at_reading after_now told_now) (sym (held_shows s.jails)) now in
     let b : IsBanStep input.what (held moves s) (held moves (at_reading moves input.secs s)) after_now told_now =
     subst (λ (hs : List Held). IsBanStep input.what (held moves s) hs after_now told_now) (sym (reading_held s input fit sound)) a in
     let c : IsBanStep input.what (held moves s) (held moves (at_reading moves input.secs s)) (held moves (jails_step s input)) told_now =

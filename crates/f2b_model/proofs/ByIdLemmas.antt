@@ -6,8 +6,8 @@ use Rattle.std.proofs.lemmas.Bool.{cases_Bool}
 use Rattle.f2b_base.specs.declared.job.Job.{Job}
 use Rattle.f2b_base.specs.declared.job.Settled.{Settled}
 use Rattle.f2b_base.specs.declared.job.Settled.TheVariants.{Done, GivenUp, Again}
-use Rattle.f2b_model.specs.Jobs.{Ending, AreById, ArePending, AllIdsBelow, after_try, settled_as, settle_in}
-use Rattle.f2b_model.specs.Turns.{Order, numbered}
+use Rattle.f2b_model.specs.Jobs.{Ending, AreById, ArePending, AllIdsBelow, after_try, settled_as, jobs_after_ending}
+use Rattle.f2b_model.specs.Alternation.{Order, numbered}
 
 pub by_id_from : (from more : ℕ) (jobs : List Job) (next : ℕ) → from ≤ more → AreById more jobs next → AreById from jobs next
 by_id_from from more [] next le h = omega (arith, le, h)
@@ -33,16 +33,16 @@ pub by_id_behind : (from : ℕ) (jobs : List Job) (next at : ℕ) (os : List Ord
 by_id_behind from [] next at os h = by_id_numbered from next at os h
 by_id_behind from (job ∷ jobs) next at os h = (h.0, by_id_behind (job.id + 1) jobs next at os h.1)
 
-settled_one : (from : ℕ) (job : Job) (jobs : List Job) (next : ℕ) (o : Settled) → from ≤ job.id → AreById (job.id + 1) jobs next → AreById from (cons_option (after_try job o) jobs) next
-settled_one from job jobs next Done le later = by_id_from from (job.id + 1) jobs next (omega (arith, le)) later
-settled_one from job jobs next GivenUp le later = by_id_from from (job.id + 1) jobs next (omega (arith, le)) later
-settled_one from job jobs next (Again due) le later = (le, later)
+by_id_after_try : (from : ℕ) (job : Job) (jobs : List Job) (next : ℕ) (o : Settled) → from ≤ job.id → AreById (job.id + 1) jobs next → AreById from (cons_option (after_try job o) jobs) next
+by_id_after_try from job jobs next Done le later = by_id_from from (job.id + 1) jobs next (omega (arith, le)) later
+by_id_after_try from job jobs next GivenUp le later = by_id_from from (job.id + 1) jobs next (omega (arith, le)) later
+by_id_after_try from job jobs next (Again due) le later = (le, later)
 
-pub by_id_settled : (e : Ending) (from : ℕ) (jobs : List Job) (next : ℕ) → AreById from jobs next → AreById from (settle_in e jobs) next
+pub by_id_settled : (e : Ending) (from : ℕ) (jobs : List Job) (next : ℕ) → AreById from jobs next → AreById from (jobs_after_ending e jobs) next
 by_id_settled e from [] next h = h
 by_id_settled e from (job ∷ jobs) next h =
     let later = by_id_settled e (job.id + 1) jobs next h.1 in
     elim (cases_Bool (e.job == job.id)) [
-      | inl y ↦ rw y (settled_one from job (settle_in e jobs) next (settled_as e job) h.0 later)
+      | inl y ↦ rw y (by_id_after_try from job (jobs_after_ending e jobs) next (settled_as e job) h.0 later)
       | inr n ↦ rw n (h.0, later)
     ]

@@ -9,17 +9,17 @@ use Rattle.f2b_base.specs.declared.job.Outcome.{Outcome}
 use Rattle.f2b_base.specs.declared.job.UpLane.{UpLane}
 use Rattle.f2b_model.specs.declared.happening.Happening.{Happening}
 use Rattle.f2b_model.specs.Checks.{is_closing, lane_of, checked_lane, void_ids, voided_at}
-use Rattle.f2b_model.specs.Jobs.{Ending, Tried, is_head_id, settle_in}
-use Rattle.f2b_model.specs.Lanes.{Lanes, books_now, issue, lane_down, lane_up, all_down, all_up, try_ended, void_all, restarted, failed_in, stopped, others_down, missing_up, lanes_configured, lanes_issued, lanes_done, lanes_step, lanes_of, is_among}
+use Rattle.f2b_model.specs.Jobs.{Ending, Tried, is_head_id, jobs_after_ending}
+use Rattle.f2b_model.specs.Lanes.{Lanes, books_now, issue, lane_down, lane_up, all_down, all_up, try_ended, with_voided, restarted, lane_failed_if_checked, stopped, others_down, missing_up, lanes_configured, lanes_issued, lanes_done, lanes_step, lanes_of, includes_lane}
 use Rattle.f2b_model.specs.Orders.{Held, lane_id, is_lane, is_up, down_orders, up_orders, restart_orders, told_orders}
-use Rattle.f2b_model.specs.Turns.{Order}
+use Rattle.f2b_model.specs.Alternation.{Order}
 
 -- a relation of lanes over pending jobs that holds through each small change
 pub record Carries (R : Lanes (List Job) → Lanes (List Job) → Type 0) : Type 0 where
   pub same : (l : Lanes (List Job)) (up : List UpLane) (stopping : Bool) → R l (record l { up = up; stopping = stopping })
   pub both : (k l m : Lanes (List Job)) → R k l → R l m → R k m
   pub issued : (at : ℕ) (os : List Order) (l : Lanes (List Job)) → R l (issue books_now at os l)
-  pub settled : (e : Ending) (l : Lanes (List Job)) → R l (record l { jobs = settle_in e l.jobs })
+  pub settled : (e : Ending) (l : Lanes (List Job)) → R l (record l { jobs = jobs_after_ending e l.jobs })
 
 module _ (R : Lanes (List Job) → Lanes (List Job) → Type 0) (c : Carries R) where
   itself : (l : Lanes (List Job)) → R l l
@@ -49,43 +49,43 @@ module _ (R : Lanes (List Job) → Lanes (List Job) → Type 0) (c : Carries R) 
     | inr n ↦ rw n (itself l)
   ]
 
-  voids : (at : ℕ) (ids : List ℕ) (l : Lanes (List Job)) → R l (void_all books_now at ids l)
+  voids : (at : ℕ) (ids : List ℕ) (l : Lanes (List Job)) → R l (with_voided books_now at ids l)
   voids at [] l = itself l
   voids at (id ∷ ids) l =
-      let one : Lanes (List Job) = record l { jobs = settle_in (voided_at id at) l.jobs } in
-      c.both l one (void_all books_now at ids one) (c.settled (voided_at id at) l) (voids at ids one)
+      let one : Lanes (List Job) = record l { jobs = jobs_after_ending (voided_at id at) l.jobs } in
+      c.both l one (with_voided books_now at ids one) (c.settled (voided_at id at) l) (voids at ids one)
 
   restart : (at : ℕ) (held : List Held) (o : Option UpLane) (l : Lanes (List Job)) → R l (restarted books_now at held o l)
   restart at held None l = itself l
   restart at held (Some lane) l = c.issued at (restart_orders lane held) l
 
-  failed : (at : ℕ) (held : List Held) (o : Option LaneId) (l : Lanes (List Job)) → R l (failed_in books_now at held o l)
+  failed : (at : ℕ) (held : List Held) (o : Option LaneId) (l : Lanes (List Job)) → R l (lane_failed_if_checked books_now at held o l)
   failed at held None l = itself l
   failed at held (Some lane) l =
-      let left : Lanes (List Job) = void_all books_now at (void_ids lane l.jobs) l in
+      let left : Lanes (List Job) = with_voided books_now at (void_ids lane l.jobs) l in
       elim (cases_Bool (is_closing lane l.jobs)) [
         | inl y ↦ rw y (voids at (void_ids lane l.jobs) l)
         | inr n ↦ rw n (c.both l left (restarted books_now at held (lane_of lane l.up) left) (voids at (void_ids lane l.jobs) l) (restart at held (lane_of lane l.up) left))
       ]
 
-  configures : (at : ℕ) (mid after : List Held) (new : List UpLane) (l : Lanes (List Job)) → R l (lanes_configured books_now at mid after new l)
-  configures at mid after new l =
+  configures : (at : ℕ) (held_at_reading after : List Held) (new : List UpLane) (l : Lanes (List Job)) → R l (lanes_configured books_now at held_at_reading after new l)
+  configures at held_at_reading after new l =
       let open_lanes : Lanes (List Job) = record l { stopping = false } in
-      let fewer : Lanes (List Job) = others_down books_now at mid new open_lanes in
+      let fewer : Lanes (List Job) = others_down books_now at held_at_reading new open_lanes in
       c.both l open_lanes (missing_up books_now at after new fewer) (c.same l l.up false)
-      (c.both open_lanes fewer (missing_up books_now at after new fewer) (downs at mid (filter (λ lane. not (is_among new lane)) l.up) open_lanes)
+      (c.both open_lanes fewer (missing_up books_now at after new fewer) (downs at held_at_reading (filter (λ lane. not (includes_lane new lane)) l.up) open_lanes)
       (ups at after (filter (λ lane. not (is_up fewer.up (lane_id lane))) new) fewer))
 
-  dones : (at : ℕ) (what : What) (mid after : List Held) (l : Lanes (List Job)) → R l (lanes_done books_now at what mid after l)
-  dones at (Ended job outcome) mid after l = try at job outcome l
-  dones at Stop mid after l =
-      let down : Lanes (List Job) = all_down books_now at mid l.up l in
-      c.both l down (stopped books_now at mid l) (downs at mid l.up l) (c.same down down.up true)
-  dones at (Config defs) mid after l = configures at mid after (lanes_of defs) l
-  dones at (CheckFailed job outcome) mid after l = failed at after (checked_lane job l.jobs) l
-  dones at _ mid after l = itself l
+  dones : (at : ℕ) (what : What) (held_at_reading after : List Held) (l : Lanes (List Job)) → R l (lanes_done books_now at what held_at_reading after l)
+  dones at (Ended job outcome) held_at_reading after l = try at job outcome l
+  dones at Stop held_at_reading after l =
+      let down : Lanes (List Job) = all_down books_now at held_at_reading l.up l in
+      c.both l down (stopped books_now at held_at_reading l) (downs at held_at_reading l.up l) (c.same down down.up true)
+  dones at (Config defs) held_at_reading after l = configures at held_at_reading after (lanes_of defs) l
+  dones at (CheckFailed job outcome) held_at_reading after l = failed at after (checked_lane job l.jobs) l
+  dones at _ held_at_reading after l = itself l
 
-  pub step_carries : (at : ℕ) (what : What) (mid after : List Held) (told : List Happening) (l : Lanes (List Job)) → R l (lanes_step books_now at what mid after told l)
-  step_carries at what mid after told l =
+  pub step_carries : (at : ℕ) (what : What) (held_at_reading after : List Held) (told : List Happening) (l : Lanes (List Job)) → R l (lanes_step books_now at what held_at_reading after told l)
+  step_carries at what held_at_reading after told l =
       let issued : Lanes (List Job) = lanes_issued books_now at told l in
-      c.both l issued (lanes_step books_now at what mid after told l) (c.issued at (told_orders l.up told) l) (dones at what mid after issued)
+      c.both l issued (lanes_step books_now at what held_at_reading after told l) (c.issued at (told_orders l.up told) l) (dones at what held_at_reading after issued)

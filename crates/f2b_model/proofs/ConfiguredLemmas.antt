@@ -15,7 +15,7 @@ use Rattle.f2b_model.specs.LaneSound.{AreApart}
 use Rattle.f2b_model.specs.Lanes.{Books, Lanes, issue, lane_up, all_up, others_down, missing_up, lanes_step, lanes_of}
 use Rattle.f2b_model.specs.Lists.{IsIn}
 use Rattle.f2b_model.specs.Orders.{Held, lane_id, is_lane, is_up, told_orders}
-use Rattle.f2b_model.proofs.InLemmas.{any_in, none_in, in_filter, filter_in, in_append, append_in_left, append_in_right}
+use Rattle.f2b_model.proofs.InLemmas.{passing_element, element_fails, in_filter, filtered_element, in_append, append_in_left, append_in_right}
 use Rattle.f2b_model.proofs.LaneStepLemmas.{kept_up}
 use Rattle.f2b_model.proofs.SameLemmas.{bytes_eq-true, same_family-true, same_lane-same}
 
@@ -79,12 +79,12 @@ known_by_id x y (z ∷ lanes) apart i j same = elim i [
     | inl f ↦ e ∙ sym f
     | inr g ↦
         let here : is_lane (lane_id x) z ≡ true = ap (is_lane (lane_id x)) (sym e) ∙ same_lane-same (lane_id x) in
-        absurd (both_ways (is_lane (lane_id x) y) (none_in (is_lane (lane_id x)) y lanes g ((apart.one (lane_id x)).0 here)) same)
+        absurd (both_ways (is_lane (lane_id x) y) (element_fails (is_lane (lane_id x)) y lanes g ((apart.one (lane_id x)).0 here)) same)
   ]
   | inr g ↦ elim j [
     | inl f ↦
         let here : is_lane (lane_id x) z ≡ true = ap (is_lane (lane_id x)) (sym f) ∙ same in
-        absurd (both_ways (is_lane (lane_id x) x) (none_in (is_lane (lane_id x)) x lanes g ((apart.one (lane_id x)).0 here)) (same_lane-same (lane_id x)))
+        absurd (both_ways (is_lane (lane_id x) x) (element_fails (is_lane (lane_id x)) x lanes g ((apart.one (lane_id x)).0 here)) (same_lane-same (lane_id x)))
     | inr k ↦ known_by_id x y lanes (record { one = λ id. (apart.one id).1 }) g k same
   ]
 ]
@@ -95,30 +95,30 @@ in_as x z xs e j = rw e j
 -- what is kept is one of the new
 kept_is_new : {L : Type 0} (b : Books L) (at : ℕ) (held : List Held) (new : List UpLane) (x : UpLane) (l : Lanes L) → IsIn x (others_down b at held new l).up → IsIn x new
 kept_is_new b at held new x l i =
-    let found = any_in (same_up x) new (kept_up b at held new x l i).1 in
+    let found = passing_element (same_up x) new (kept_up b at held new x l i).1 in
     in_as x found.0 new (same_up-true x found.0 found.2) found.1
 
-missing_in : {L : Type 0} (b : Books L) (at : ℕ) (held : List Held) (new : List UpLane) (l : Lanes L) → ((x : UpLane) → IsIn x l.up → IsIn x new) → (x : UpLane)
+missing_is_new : {L : Type 0} (b : Books L) (at : ℕ) (held : List Held) (new : List UpLane) (l : Lanes L) → ((x : UpLane) → IsIn x l.up → IsIn x new) → (x : UpLane)
     → IsIn x (missing_up b at held new l).up → IsIn x new
-missing_in b at held new l kept x i = elim (up_after_up b at held x (filter (λ lane. not (is_up l.up (lane_id lane))) new) l i) [
+missing_is_new b at held new l kept x i = elim (up_after_up b at held x (filter (λ lane. not (is_up l.up (lane_id lane))) new) l i) [
   | inl j ↦ kept x j
-  | inr j ↦ (filter_in (λ lane. not (is_up l.up (lane_id lane))) x new j).0
+  | inr j ↦ (filtered_element (λ lane. not (is_up l.up (lane_id lane))) x new j).0
 ]
 
 in_missing : {L : Type 0} (b : Books L) (at : ℕ) (held : List Held) (new : List UpLane) (l : Lanes L) → AreApart new → ((x : UpLane) → IsIn x l.up → IsIn x new) → (x : UpLane)
     → IsIn x new → IsIn x (missing_up b at held new l).up
 in_missing b at held new l apart kept x i = elim (cases_Bool (is_up l.up (lane_id x))) [
   | inl u ↦
-      let found = any_in (is_lane (lane_id x)) l.up u in
+      let found = passing_element (is_lane (lane_id x)) l.up u in
       let same : x ≡ found.0 = known_by_id x found.0 new apart i (kept found.0 found.1) found.2 in
       stays_up b at held x (filter (λ lane. not (is_up l.up (lane_id lane))) new) l (in_as x found.0 l.up same found.1)
   | inr n ↦ comes_up b at held x (filter (λ lane. not (is_up l.up (lane_id lane))) new) l (in_filter (λ lane. not (is_up l.up (lane_id lane))) x new i (ap not n))
 ]
 
-pub configured_up : {L : Type 0} (b : Books L) (at : ℕ) (defs : Defs) (mid after : List Held) (told : List Happening) (l : Lanes L) → AreApart (lanes_of defs)
-    → (lane : UpLane) → IsIn lane (lanes_step b at (Config defs) mid after told l).up ↔ IsIn lane (lanes_of defs)
-configured_up {L} b at defs mid after told l apart lane =
+pub configured_up : {L : Type 0} (b : Books L) (at : ℕ) (defs : Defs) (held_at_reading after : List Held) (told : List Happening) (l : Lanes L) → AreApart (lanes_of defs)
+    → (lane : UpLane) → IsIn lane (lanes_step b at (Config defs) held_at_reading after told l).up ↔ IsIn lane (lanes_of defs)
+configured_up {L} b at defs held_at_reading after told l apart lane =
     let before : Lanes L = record (issue b at (told_orders l.up told) l) { stopping = false } in
-    let fewer : Lanes L = others_down b at mid (lanes_of defs) before in
-    let kept : (x : UpLane) → IsIn x fewer.up → IsIn x (lanes_of defs) = λ x i. kept_is_new b at mid (lanes_of defs) x before i in
-    (missing_in b at after (lanes_of defs) fewer kept lane, in_missing b at after (lanes_of defs) fewer apart kept lane)
+    let fewer : Lanes L = others_down b at held_at_reading (lanes_of defs) before in
+    let kept : (x : UpLane) → IsIn x fewer.up → IsIn x (lanes_of defs) = λ x i. kept_is_new b at held_at_reading (lanes_of defs) x before i in
+    (missing_is_new b at after (lanes_of defs) fewer kept lane, in_missing b at after (lanes_of defs) fewer apart kept lane)

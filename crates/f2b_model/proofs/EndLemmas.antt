@@ -8,11 +8,11 @@ use Rattle.f2b_base.specs.declared.ban.Ban.{Ban}
 use Rattle.f2b_base.specs.declared.ban.Past.{Past}
 use Rattle.f2b_base.specs.declared.ban.Until.{Until}
 use Rattle.f2b_base.specs.declared.ban.Until.TheVariants.{Never, At}
-use Rattle.f2b_model.specs.Lists.{AllOf, in_order, placed, placed_all, IsIn, IsInOrder, NoneBefore, IsOrder}
+use Rattle.f2b_model.specs.Lists.{AllOf, in_order, placed, with_placed, IsIn, IsInOrder, NoneBefore, IsOrder}
 use Rattle.f2b_base.specs.Addresses.{same_addr}
 use Rattle.f2b_model.specs.State.{Jail, open_of, active_of, kept_of}
 use Rattle.f2b_model.specs.Moves.{ban_of, is_banned, ended}
-use Rattle.f2b_model.specs.Steps.{moves, is_due, is_due_by, end_of, own_end, ends_before, end_all, ended_by_time}
+use Rattle.f2b_model.specs.Steps.{moves, is_due, is_due_by, end_of, own_end, ends_before, bans_ended, ended_by_time}
 use Rattle.f2b_model.specs.Sound.{IsNotBefore, IsPastBan, IsOrderly, IsSoundJail}
 use Rattle.f2b_model.proofs.ListLemmas.{by_test, in_order_is}
 use Rattle.f2b_model.proofs.FullLemmas.{le_true, lt_true, true_lt, le_false, not_true_both}
@@ -56,9 +56,9 @@ pub all_placed : {A : Type 0} (P : A → Type 0) (less : A → A → Bool) (x : 
 all_placed P less x [] h a = (h, tt)
 all_placed P less x (y ∷ ys) h a = by_test (less x y) _ (λ e. rw e (h, a)) (λ e. rw e (a.0, all_placed P less x ys h a.1))
 
-pub all_placed_all : {A : Type 0} (P : A → Type 0) (less : A → A → Bool) (done xs : List A) → AllOf P done → AllOf P xs → AllOf P (placed_all less done xs)
-all_placed_all P less done [] d a = d
-all_placed_all P less done (x ∷ xs) d a = all_placed_all P less (placed less x done) xs (all_placed P less x done a.0 d) a.1
+pub all_with_placed : {A : Type 0} (P : A → Type 0) (less : A → A → Bool) (done xs : List A) → AllOf P done → AllOf P xs → AllOf P (with_placed less done xs)
+all_with_placed P less done [] d a = d
+all_with_placed P less done (x ∷ xs) d a = all_with_placed P less (placed less x done) xs (all_placed P less x done a.0 d) a.1
 
 in_placed : {A : Type 0} (less : A → A → Bool) (x y : A) (xs : List A) → (y ≡ x) ⊎ IsIn y xs → IsIn y (placed less x xs)
 in_placed less x y [] i = elim i [ inl e ↦ inl e | inr j ↦ absurd j ]
@@ -67,10 +67,10 @@ in_placed less x y (z ∷ zs) i =
     (λ e. rw e i)
     (λ e. rw e (elim i [ inl d ↦ inr (in_placed less x y zs (inl d)) | inr j ↦ elim j [ inl d ↦ inl d | inr k ↦ inr (in_placed less x y zs (inr k)) ] ]))
 
-in_placed_all : {A : Type 0} (less : A → A → Bool) (y : A) (done xs : List A) → IsIn y done ⊎ IsIn y xs → IsIn y (placed_all less done xs)
-in_placed_all less y done [] i = elim i [ inl j ↦ j | inr j ↦ absurd j ]
-in_placed_all less y done (x ∷ xs) i =
-    in_placed_all less y (placed less x done) xs (elim i [
+in_with_placed : {A : Type 0} (less : A → A → Bool) (y : A) (done xs : List A) → IsIn y done ⊎ IsIn y xs → IsIn y (with_placed less done xs)
+in_with_placed less y done [] i = elim i [ inl j ↦ j | inr j ↦ absurd j ]
+in_with_placed less y done (x ∷ xs) i =
+    in_with_placed less y (placed less x done) xs (elim i [
       | inl j ↦ inl (in_placed less x y done (inr j))
       | inr j ↦ elim j [ inl d ↦ inl (in_placed less x y done (inl d)) | inr k ↦ inr k ]
     ])
@@ -82,9 +82,9 @@ in_filter p y (x ∷ xs) i h =
     (λ e. rw e (elim i [ inl d ↦ inl d | inr j ↦ inr (in_filter p y xs j h) ]))
     (λ e. rw e (elim i [ inl d ↦ absurd (not_true_both (p x) (ap p (sym d) ∙ h) e) | inr j ↦ in_filter p y xs j h ]))
 
-all_in : {A : Type 0} (xs : List A) → AllOf (λ (x : A). IsIn x xs) xs
-all_in [] = tt
-all_in (x ∷ xs) = (inl refl, all_of-more (λ y. IsIn y xs) (λ y. IsIn y (x ∷ xs)) (λ y i. inr i) xs (all_in xs))
+all_are_elements : {A : Type 0} (xs : List A) → AllOf (λ (x : A). IsIn x xs) xs
+all_are_elements [] = tt
+all_are_elements (x ∷ xs) = (inl refl, all_of-more (λ y. IsIn y xs) (λ y. IsIn y (x ∷ xs)) (λ y i. inr i) xs (all_are_elements xs))
 
 all_at : {A : Type 0} (P : A → Type 0) (xs : List A) (x : A) → IsIn x xs → AllOf P xs → P x
 all_at P [] x i a = absurd i
@@ -156,14 +156,14 @@ filter_pairs P addr (b ∷ bs) h =
     (λ d. rw d (filter_pairs P addr bs (λ c i. h c (inr i))))
     (λ d. rw d (h b (inl refl) d, filter_pairs P addr bs (λ c i. h c (inr i))))
 
-by_time_all : (at : ℕ) (ds : List Ban) (j : Jail) → IsInOrder ends_before ds → AllOf (λ (d : Ban). own_end d ≤ at) ds
+orderly_by_time : (at : ℕ) (ds : List Ban) (j : Jail) → IsInOrder ends_before ds → AllOf (λ (d : Ban). own_end d ≤ at) ds
     → AllOf (λ (d : Ban). AllOf (λ (p : Past). p.end ≤ own_end d) (kept_of j.endings)) ds
     → AllOf (λ (b : Ban). is_due at b ≡ true → IsIn b ds) (active_of j.bans)
-    → IsOrderlyJail at j → IsOrderlyJail at (end_all moves own_end ds j) × IsCalm at (end_all moves own_end ds j)
-by_time_all at [] j order due past all o =
+    → IsOrderlyJail at j → IsOrderlyJail at (bans_ended moves own_end ds j) × IsCalm at (bans_ended moves own_end ds j)
+orderly_by_time at [] j order due past all o =
     (o, all_of-more (λ (b : Ban). is_due at b ≡ true → ⊥) (λ (b : Ban). is_due at b ≡ false) (λ b h. by_test (is_due at b) _ (λ e. absurd (h e)) (λ e. e)) (active_of j.bans) all)
-by_time_all at (d ∷ ds) j order due past all o =
-    by_time_all at ds (ended d.addr (own_end d) j) order.1 due.1
+orderly_by_time at (d ∷ ds) j order due past all o =
+    orderly_by_time at ds (ended d.addr (own_end d) j) order.1 due.1
     (next_past ds order.0 past.1)
     (all_of-more
     (λ (b : Ban). (is_due at b ≡ true → IsIn b (d ∷ ds)) × (same_addr b.addr d.addr ≡ false))
@@ -200,11 +200,11 @@ by_time_orderly at j o =
     let over : AllOf (λ (p : Past). AllOf (λ (b : Ban). IsNotBefore p.end b.until) bs) ps = all_of-more (IsPastBan at bs) _ (λ p h. h.1) ps o.over in
     let swapped : AllOf (λ (b : Ban). AllOf (λ (p : Past). IsNotBefore p.end b.until) ps) bs = all_swap (λ (p : Past) (b : Ban). IsNotBefore p.end b.until) ps bs over in
     let past : AllOf (λ (b : Ban). AllOf (λ (p : Past). p.end ≤ own_end b) ps) dues = due_past at ps bs swapped in
-    by_time_all at (in_order ends_before dues) j (in_order_is ends_before ends_order dues)
-    (all_placed_all (λ (d : Ban). own_end d ≤ at) ends_before [] dues tt (all_of-kept (λ (d : Ban). own_end d ≤ at) (is_due at) bs (λ b e. due_by_at at b.until e)))
-    (all_placed_all (λ (b : Ban). AllOf (λ (p : Past). p.end ≤ own_end b) ps) ends_before [] dues tt past)
+    orderly_by_time at (in_order ends_before dues) j (in_order_is ends_before ends_order dues)
+    (all_with_placed (λ (d : Ban). own_end d ≤ at) ends_before [] dues tt (all_of-kept (λ (d : Ban). own_end d ≤ at) (is_due at) bs (λ b e. due_by_at at b.until e)))
+    (all_with_placed (λ (b : Ban). AllOf (λ (p : Past). p.end ≤ own_end b) ps) ends_before [] dues tt past)
     (all_of-more (λ (b : Ban). IsIn b bs) (λ (b : Ban). is_due at b ≡ true → IsIn b (in_order ends_before dues))
-    (λ b i e. in_placed_all ends_before b [] dues (inr (in_filter (is_due at) b bs i e))) bs (all_in bs))
+    (λ b i e. in_with_placed ends_before b [] dues (inr (in_filter (is_due at) b bs i e))) bs (all_are_elements bs))
     o
   where
     due_past : (at : ℕ) (ps : List Past) (cs : List Ban) → AllOf (λ (b : Ban). AllOf (λ (p : Past). IsNotBefore p.end b.until) ps) cs
@@ -215,7 +215,7 @@ by_time_orderly at j o =
         (λ e. rw e (all_of-more (λ (p : Past). IsNotBefore p.end c.until) (λ (p : Past). p.end ≤ own_end c) (λ p n. later_due at p.end c.until e n) ps a.0, due_past at ps cs a.1))
         (λ e. rw e (due_past at ps cs a.1))
 
-pub unbanned_orderly : (at : ℕ) (ds : List Ban) (j : Jail) → IsCalm at j → IsOrderlyJail at j → IsOrderlyJail at (end_all moves (λ b. at) ds j)
+pub unbanned_orderly : (at : ℕ) (ds : List Ban) (j : Jail) → IsCalm at j → IsOrderlyJail at j → IsOrderlyJail at (bans_ended moves (λ b. at) ds j)
 unbanned_orderly at [] j calm o = o
 unbanned_orderly at (d ∷ ds) j calm o =
     unbanned_orderly at ds (ended d.addr at j)
@@ -227,9 +227,9 @@ unbanned_orderly at (d ∷ ds) j calm o =
     o)
 
 -- what an end leaves alone
-pub end_all_sound : (at : ℕ) (moment : Ban → ℕ) (ds : List Ban) (j : Jail) → IsSoundJail at j → IsSoundJail at (end_all moves moment ds j)
-end_all_sound at moment [] j sound = sound
-end_all_sound at moment (d ∷ ds) j sound = end_all_sound at moment ds (ended d.addr (moment d) j) one
+pub bans_ended_sound : (at : ℕ) (moment : Ban → ℕ) (ds : List Ban) (j : Jail) → IsSoundJail at j → IsSoundJail at (bans_ended moves moment ds j)
+bans_ended_sound at moment [] j sound = sound
+bans_ended_sound at moment (d ∷ ds) j sound = bans_ended_sound at moment ds (ended d.addr (moment d) j) one
   where
     one : IsSoundJail at (ended d.addr (moment d) j)
     one = by_test (is_banned d.addr (active_of j.bans)) _ (λ e. rw e (record { none_full = sound.none_full; moment = sound.moment })) (λ e. rw e sound)

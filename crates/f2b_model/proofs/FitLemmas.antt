@@ -72,17 +72,17 @@ none_elsewhere id (d ∷ ds) h =
     (λ u. absurd (not_true_both (bytes_eq id.jail d.name) (bytes_swap id.jail d.name ∙ of_jail id d.name d.actions u) t)) (λ u. u) in
     list_any-append (is_lane id) (lanes_of_jail d) (flat_map lanes_of_jail ds) ∙ (rw here (none_elsewhere id ds h2)))
 
-one_of_all : (id : LaneId) (ds : List JailDef) → AreDistinct bytes_eq (map (λ (d : JailDef). d.name) ds) → AllOf (λ (d : JailDef). AreDistinct same_kind d.actions) ds
+lanes_once : (id : LaneId) (ds : List JailDef) → AreDistinct bytes_eq (map (λ (d : JailDef). d.name) ds) → AllOf (λ (d : JailDef). AreDistinct same_kind d.actions) ds
     → AtMostOne (is_lane id) (flat_map lanes_of_jail ds)
-one_of_all id [] names actions = tt
-one_of_all id (d ∷ ds) names actions =
-    at_most_append (is_lane id) (lanes_of_jail d) (flat_map lanes_of_jail ds) (one_in_jail id d.name d.actions actions.0) (one_of_all id ds names.1 actions.1)
+lanes_once id [] names actions = tt
+lanes_once id (d ∷ ds) names actions =
+    at_most_append (is_lane id) (lanes_of_jail d) (flat_map lanes_of_jail ds) (one_in_jail id d.name d.actions actions.0) (lanes_once id ds names.1 actions.1)
     (λ some.
     let same = bytes_eq-true d.name id.jail (of_jail id d.name d.actions some) in
     none_elsewhere id ds (ap (λ n. list_any (bytes_eq n) (map (λ (e : JailDef). e.name) ds)) (sym same) ∙ names.0))
 
 pub lanes_apart : (defs : Defs) → AreFitDefs defs → AreApart (lanes_of defs)
-lanes_apart defs fit = record { one = λ id. one_of_all id defs.jails fit.names fit.actions }
+lanes_apart defs fit = record { one = λ id. lanes_once id defs.jails fit.names fit.actions }
 
 -- what is fit for the model is fit for the lanes
 pub fit_for_lanes : (what : What) → IsFitWhat what → IsFitForLanes what

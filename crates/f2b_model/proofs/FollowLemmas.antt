@@ -7,7 +7,7 @@ use Rattle.f2b_base.specs.declared.ban.Ban.{Ban as Banned}
 use Rattle.f2b_model.specs.declared.happening.Happening.{Happening}
 use Rattle.f2b_model.specs.declared.happening.Happening.TheVariants.{Counts, Begins, Ends}
 use Rattle.f2b_base.specs.Addresses.{same_addr}
-use Rattle.f2b_model.specs.LaneSound.{Follows, follow_one, follow_told}
+use Rattle.f2b_model.specs.LaneSound.{Follows, banned_after_happening, follow_told}
 use Rattle.f2b_model.specs.Orders.{Held, is_held_of, is_active}
 use Rattle.f2b_model.proofs.SameLemmas.{bytes_eq-true, same_addr-true}
 
@@ -20,15 +20,15 @@ then_told jail addr (Some c) xs ys each = each c
 pub follow_told-append : (jail : List ℕ) (addr : Addr) (b : Bool) (xs ys : List Happening)
     → follow_told jail addr b (xs ++ ys) ≡ option_and_then (λ d. follow_told jail addr d ys) (follow_told jail addr b xs)
 follow_told-append jail addr b [] ys = refl
-follow_told-append jail addr b (x ∷ xs) ys = then_told jail addr (follow_one jail addr b x) xs ys (λ c. follow_told-append jail addr c xs ys)
+follow_told-append jail addr b (x ∷ xs) ys = then_told jail addr (banned_after_happening jail addr b x) xs ys (λ c. follow_told-append jail addr c xs ys)
 
 -- nothing was told, and the same are active
 pub follows_nothing : (before after : List Held) → ((jail : List ℕ) (addr : Addr) → is_active before jail addr ≡ is_active after jail addr) → Follows [] before after
 follows_nothing before after same = record { each = λ jail addr. ap (λ b. Some b) (same jail addr) }
 
 -- one after the other
-pub follows_both : (xs ys : List Happening) (before mid after : List Held) → Follows xs before mid → Follows ys mid after → Follows (xs ++ ys) before after
-follows_both xs ys before mid after one two = record {
+pub follows_both : (xs ys : List Happening) (before between after : List Held) → Follows xs before between → Follows ys between after → Follows (xs ++ ys) before after
+follows_both xs ys before between after one two = record {
   each = λ jail addr. follow_told-append jail addr (is_active before jail addr) xs ys ∙ ap (option_and_then (λ d. follow_told jail addr d ys)) (one.each jail addr) ∙ two.each jail addr;
 }
 

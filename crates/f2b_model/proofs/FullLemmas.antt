@@ -222,13 +222,13 @@ same_test false true f g = g refl
 same_test false false f g = refl
 
 -- the rule in its own words is the rule by spans
-choice_in : {A : Type 0} (chosen xs : List A) → IsChoice chosen xs → (p : A → Bool) → ((x : A) → IsIn x chosen → p x ≡ true) → length chosen ≤ length (filter p xs)
-choice_in _ _ none p h = omega arith
-choice_in chosen _ (left {x = x} {xs = xs} c) p h =
-    let more = choice_in chosen xs c p h in
+choice_passes : {A : Type 0} (chosen xs : List A) → IsChoice chosen xs → (p : A → Bool) → ((x : A) → IsIn x chosen → p x ≡ true) → length chosen ≤ length (filter p xs)
+choice_passes _ _ none p h = omega arith
+choice_passes chosen _ (left {x = x} {xs = xs} c) p h =
+    let more = choice_passes chosen xs c p h in
     by_test (p x) _ (λ e. rw e (omega arith)) (λ e. rw e more)
-choice_in _ _ (taken {x = x} {chosen = chosen} {xs = xs} c) p h =
-    let more = choice_in chosen xs c p (λ y i. h y (inr i)) in
+choice_passes _ _ (taken {x = x} {chosen = chosen} {xs = xs} c) p h =
+    let more = choice_passes chosen xs c p (λ y i. h y (inr i)) in
     let e : p x ≡ true = h x (inl refl) in
     rw e (omega arith)
 
@@ -277,13 +277,13 @@ full_by_choice findtime maxretry addr fs positive full =
       start = r.f.time;
       many =
           let p = in_span addr r.f.time findtime in
-          let all_in : (g : Failure) → IsIn g c → p g ≡ true = λ g i.
+          let all_pass : (g : Failure) → IsIn g c → p g ≡ true = λ g i.
           stands_so addr r.f.time findtime g (record {
             of = in_filter (is_of addr) fs g (choice_within c _ full.choice g i);
             from = r.first g i refl;
             before = full.close g r.f i r.within;
           }) in
-          let count = choice_in c _ full.choice p all_in in
+          let count = choice_passes c _ full.choice p all_pass in
           let same : filter p (filter (is_of addr) fs) ≡ filter p fs = filter_both (is_of addr) p (λ g h. (stands addr r.f.time findtime g h).of) fs in
           let lens = ap length same in
           omega arith;

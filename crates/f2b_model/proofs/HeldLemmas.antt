@@ -15,7 +15,7 @@ use Rattle.f2b_base.specs.declared.jail.Defs.{Defs}
 use Rattle.f2b_base.specs.declared.jail.JailDef.{JailDef}
 use Rattle.f2b_model.specs.declared.happening.Happening.{Happening}
 use Rattle.f2b_model.specs.declared.jail_now.JailNow.{JailNow}
-use Rattle.f2b_model.specs.Active.{held_in, held_by, held}
+use Rattle.f2b_model.specs.Active.{held_by_jail, held_by, held}
 use Rattle.f2b_base.specs.Addresses.{same_addr}
 use Rattle.f2b_model.specs.LaneSound.{AtMostOne, IsBanStep, Follows, AreAlike, NonePasses, follow_told, led_to}
 use Rattle.f2b_model.specs.Lists.{AllOf, AreDistinct, in_order}
@@ -25,10 +25,10 @@ use Rattle.f2b_model.specs.Nows.{JailsNow}
 use Rattle.f2b_model.specs.Orders.{is_held_of, is_active}
 use Rattle.f2b_model.specs.Sound.{IsFit, IsFitWhat, IsOnceEach}
 use Rattle.f2b_model.specs.Steps.{moves_now, named, names, is_spent, is_due, own_end, ends_before, is_meant_jail, ended_by_time, unbanned, in_jail, at_jail, alone, find_jail, kept_or_fresh, configured, done, at_reading, jails_step_now, found_in_turn, read_in_jail, banned_in_turn}
-use Rattle.f2b_model.specs.Told.{told_each, told_ends, told_in, told_unbanned, told_done, jails_told, told_found_in_turn, told_banned_in_turn, told_read}
+use Rattle.f2b_model.specs.Told.{told_by_jails, told_ends, told_by_name, told_unbanned, told_done, jails_told, told_found_in_turn, told_banned_in_turn, told_read}
 use Rattle.f2b_model.proofs.FollowLemmas.{follow_told-append, follows_nothing, follows_both}
 use Rattle.f2b_model.proofs.FullLemmas.{not_true_both, same_test}
-use Rattle.f2b_model.proofs.LeadLemmas.{Leads, leads_by_time, leads_unbanned, once_end_all, leads_found_in_turn, leads_read, leads_banned_in_turn}
+use Rattle.f2b_model.proofs.LeadLemmas.{Leads, leads_by_time, leads_unbanned, once_bans_ended, leads_found_in_turn, leads_read, leads_banned_in_turn}
 use Rattle.f2b_model.proofs.ListLemmas.{by_test}
 use Rattle.f2b_model.proofs.NameLemmas.{moves_now_names, by_time_name, each_names, in_jail_names, unbanned_name, configured_names, at_reading_names, found_in_turn_name, read_in_jail_name, banned_in_turn_name}
 use Rattle.f2b_model.proofs.SameLemmas.{bytes_eq-true, same_addr-true}
@@ -45,9 +45,9 @@ other_name : (a b c : List ℕ) → bytes_eq a b ≡ true → bytes_eq a c ≡ f
 other_name a b c h g = ap (λ x. bytes_eq x c) (sym (bytes_eq-true a b h)) ∙ g
 
 -- the active bans of the first jail of a name
-bans_in : List ℕ → List JailNow → List Ban
-bans_in name [] = []
-bans_in name (j ∷ js) = cond (bytes_eq j.definition.name name) j.bans (bans_in name js)
+bans_by_name : List ℕ → List JailNow → List Ban
+bans_by_name name [] = []
+bans_by_name name (j ∷ js) = cond (bytes_eq j.definition.name name) j.bans (bans_by_name name js)
 
 active_same : (of name : List ℕ) (addr : Addr) (bs : List Ban) → bytes_eq of name ≡ true → is_active (map (λ (b : Ban). record { jail = of; ban = b }) bs) name addr ≡ is_banned addr bs
 active_same of name addr [] h = refl
@@ -66,18 +66,18 @@ not_named name addr (j ∷ js) h =
     (λ t.
     let h2 : list_any (bytes_eq name) (names moves_now js) ≡ false = rw t at h in
     let none = active_none j.definition.name name addr j.bans (bytes_swap j.definition.name name ∙ t) in
-    list_any-append (is_held_of name addr) (held_in moves_now j) (held_by moves_now js) ∙ (rw none (not_named name addr js h2)))
+    list_any-append (is_held_of name addr) (held_by_jail moves_now j) (held_by moves_now js) ∙ (rw none (not_named name addr js h2)))
 
 or_false : (b : Bool) → (b || false) ≡ b
 or_false true = refl
 or_false false = refl
 
 -- where names are distinct, an address is active where its jail has it banned
-active_is : (name : List ℕ) (addr : Addr) (js : List JailNow) → AreDistinct bytes_eq (names moves_now js) → is_active (held_by moves_now js) name addr ≡ is_banned addr (bans_in name js)
-unfolding bans_in
+active_is : (name : List ℕ) (addr : Addr) (js : List JailNow) → AreDistinct bytes_eq (names moves_now js) → is_active (held_by moves_now js) name addr ≡ is_banned addr (bans_by_name name js)
+unfolding bans_by_name
 active_is name addr [] d = refl
 active_is name addr (j ∷ js) d =
-    let both = list_any-append (is_held_of name addr) (held_in moves_now j) (held_by moves_now js) in
+    let both = list_any-append (is_held_of name addr) (held_by_jail moves_now j) (held_by moves_now js) in
     by_test (bytes_eq j.definition.name name) _
     (λ t.
     let rest : list_any (bytes_eq name) (names moves_now js) ≡ false = ap (λ n. list_any (bytes_eq n) (names moves_now js)) (sym (bytes_eq-true j.definition.name name t)) ∙ d.0 in
@@ -86,48 +86,48 @@ active_is name addr (j ∷ js) d =
 
 -- ---- a move on each jail
 
-told_each_other : (name : List ℕ) (addr : Addr) (b : Bool) (t : JailNow → List Happening) (f : JailNow → JailNow) (js : List JailNow)
-    → AllOf (λ (j : JailNow). Leads j.definition.name (t j) j.bans (f j).bans) js → list_any (bytes_eq name) (names moves_now js) ≡ false → follow_told name addr b (told_each t js) ≡ Some b
-told_each_other name addr b t f [] a h = refl
-told_each_other name addr b t f (j ∷ js) a h =
+told_by_jails_other : (name : List ℕ) (addr : Addr) (b : Bool) (t : JailNow → List Happening) (f : JailNow → JailNow) (js : List JailNow)
+    → AllOf (λ (j : JailNow). Leads j.definition.name (t j) j.bans (f j).bans) js → list_any (bytes_eq name) (names moves_now js) ≡ false → follow_told name addr b (told_by_jails t js) ≡ Some b
+told_by_jails_other name addr b t f [] a h = refl
+told_by_jails_other name addr b t f (j ∷ js) a h =
     by_test (bytes_eq name j.definition.name) _
     (λ e. absurd (let k : true ≡ false = rw e at h in cc))
     (λ e.
     let h2 : list_any (bytes_eq name) (names moves_now js) ≡ false = rw e at h in
-    follow_told-append name addr b (t j) (told_each t js)
-    ∙ ap (option_and_then (λ c. follow_told name addr c (told_each t js))) (a.0.other name addr b (bytes_swap j.definition.name name ∙ e))
-    ∙ told_each_other name addr b t f js a.1 h2)
+    follow_told-append name addr b (t j) (told_by_jails t js)
+    ∙ ap (option_and_then (λ c. follow_told name addr c (told_by_jails t js))) (a.0.other name addr b (bytes_swap j.definition.name name ∙ e))
+    ∙ told_by_jails_other name addr b t f js a.1 h2)
 
-told_each_own : (name : List ℕ) (addr : Addr) (t : JailNow → List Happening) (f : JailNow → JailNow) → ((j : JailNow) → named moves_now (f j) ≡ named moves_now j) → (js : List JailNow)
+told_by_jails_own : (name : List ℕ) (addr : Addr) (t : JailNow → List Happening) (f : JailNow → JailNow) → ((j : JailNow) → named moves_now (f j) ≡ named moves_now j) → (js : List JailNow)
     → AllOf (λ (j : JailNow). Leads j.definition.name (t j) j.bans (f j).bans) js → AreDistinct bytes_eq (names moves_now js)
-    → follow_told name addr (is_banned addr (bans_in name js)) (told_each t js) ≡ Some (is_banned addr (bans_in name (map f js)))
-unfolding bans_in
-told_each_own name addr t f keeps [] a d = refl
-told_each_own name addr t f keeps (j ∷ js) a d =
+    → follow_told name addr (is_banned addr (bans_by_name name js)) (told_by_jails t js) ≡ Some (is_banned addr (bans_by_name name (map f js)))
+unfolding bans_by_name
+told_by_jails_own name addr t f keeps [] a d = refl
+told_by_jails_own name addr t f keeps (j ∷ js) a d =
     by_test (bytes_eq j.definition.name name) _
     (λ e.
     let there : bytes_eq (f j).definition.name name ≡ true = ap (λ n. bytes_eq n name) (keeps j) ∙ e in
     let same = bytes_eq-true j.definition.name name e in
     let rest : list_any (bytes_eq name) (names moves_now js) ≡ false = ap (λ n. list_any (bytes_eq n) (names moves_now js)) (sym same) ∙ d.0 in
     let own : follow_told name addr (is_banned addr j.bans) (t j) ≡ Some (is_banned addr (f j).bans) = ap (λ n. follow_told n addr (is_banned addr j.bans) (t j)) (sym same) ∙ a.0.own addr in
-    rw (e, there) (follow_told-append name addr (is_banned addr j.bans) (t j) (told_each t js)
-    ∙ ap (option_and_then (λ c. follow_told name addr c (told_each t js))) own
-    ∙ told_each_other name addr (is_banned addr (f j).bans) t f js a.1 rest))
+    rw (e, there) (follow_told-append name addr (is_banned addr j.bans) (t j) (told_by_jails t js)
+    ∙ ap (option_and_then (λ c. follow_told name addr c (told_by_jails t js))) own
+    ∙ told_by_jails_other name addr (is_banned addr (f j).bans) t f js a.1 rest))
     (λ e.
     let there : bytes_eq (f j).definition.name name ≡ false = ap (λ n. bytes_eq n name) (keeps j) ∙ e in
-    let b = is_banned addr (bans_in name js) in
-    rw (e, there) (follow_told-append name addr b (t j) (told_each t js)
-    ∙ ap (option_and_then (λ c. follow_told name addr c (told_each t js))) (a.0.other name addr b e)
-    ∙ told_each_own name addr t f keeps js a.1 d.1))
+    let b = is_banned addr (bans_by_name name js) in
+    rw (e, there) (follow_told-append name addr b (t j) (told_by_jails t js)
+    ∙ ap (option_and_then (λ c. follow_told name addr c (told_by_jails t js))) (a.0.other name addr b e)
+    ∙ told_by_jails_own name addr t f keeps js a.1 d.1))
 
 each_follows : (t : JailNow → List Happening) (f : JailNow → JailNow) → ((j : JailNow) → named moves_now (f j) ≡ named moves_now j) → (js : List JailNow)
     → AllOf (λ (j : JailNow). Leads j.definition.name (t j) j.bans (f j).bans) js → AreDistinct bytes_eq (names moves_now js)
-    → Follows (told_each t js) (held_by moves_now js) (held_by moves_now (map f js))
+    → Follows (told_by_jails t js) (held_by moves_now js) (held_by moves_now (map f js))
 each_follows t f keeps js a d = record {
   each = λ name addr.
       let after = subst (AreDistinct bytes_eq) (sym (each_names moves_now moves_now_names f keeps js)) d in
-      ap (λ b. follow_told name addr b (told_each t js)) (active_is name addr js d)
-      ∙ told_each_own name addr t f keeps js a d
+      ap (λ b. follow_told name addr b (told_by_jails t js)) (active_is name addr js d)
+      ∙ told_by_jails_own name addr t f keeps js a d
       ∙ ap (λ b. Some b) (sym (active_is name addr (map f js) after));
 }
 
@@ -135,18 +135,18 @@ each_follows t f keeps js a d = record {
 
 module _ (at : List ℕ) (t : JailNow → List Happening) (g : ℕ → JailNow → JailAndSerial JailNow) (n : ℕ) (keeps : (m : ℕ) (j : JailNow) → named moves_now (g m j).jail ≡ named moves_now j)
     (leads : (j : JailNow) → Leads j.definition.name (t j) j.bans (g n j).jail.bans) where
-  told_in_other : (name : List ℕ) (addr : Addr) (b : Bool) (js : List JailNow) → bytes_eq at name ≡ false → follow_told name addr b (told_in moves_now at t js) ≡ Some b
-  told_in_other name addr b [] h = refl
-  told_in_other name addr b (j ∷ js) h =
+  told_by_name_other : (name : List ℕ) (addr : Addr) (b : Bool) (js : List JailNow) → bytes_eq at name ≡ false → follow_told name addr b (told_by_name moves_now at t js) ≡ Some b
+  told_by_name_other name addr b [] h = refl
+  told_by_name_other name addr b (j ∷ js) h =
       by_test (bytes_eq j.definition.name at) _
       (λ e. rw e ((leads j).other name addr b (ap (λ x. bytes_eq x name) (bytes_eq-true j.definition.name at e) ∙ h)))
-      (λ e. rw e (told_in_other name addr b js h))
+      (λ e. rw e (told_by_name_other name addr b js h))
 
-  told_in_own : (name : List ℕ) (addr : Addr) (js : List JailNow)
-      → follow_told name addr (is_banned addr (bans_in name js)) (told_in moves_now at t js) ≡ Some (is_banned addr (bans_in name (in_jail moves_now at g n js).jails))
-  unfolding bans_in
-  told_in_own name addr [] = refl
-  told_in_own name addr (j ∷ js) =
+  told_by_name_own : (name : List ℕ) (addr : Addr) (js : List JailNow)
+      → follow_told name addr (is_banned addr (bans_by_name name js)) (told_by_name moves_now at t js) ≡ Some (is_banned addr (bans_by_name name (in_jail moves_now at g n js).jails))
+  unfolding bans_by_name
+  told_by_name_own name addr [] = refl
+  told_by_name_own name addr (j ∷ js) =
       let k = (g n j).jail in
       by_test (bytes_eq j.definition.name at) _
       (λ e. by_test (bytes_eq j.definition.name name) _
@@ -157,19 +157,19 @@ module _ (at : List ℕ) (t : JailNow → List Happening) (g : ℕ → JailNow �
       rw (e, d, there) own)
       (λ d.
       let there : bytes_eq k.definition.name name ≡ false = ap (λ x. bytes_eq x name) (keeps n j) ∙ d in
-      rw (e, d, there) ((leads j).other name addr (is_banned addr (bans_in name js)) d)))
+      rw (e, d, there) ((leads j).other name addr (is_banned addr (bans_by_name name js)) d)))
       (λ e. by_test (bytes_eq j.definition.name name) _
       (λ d.
       let apart : bytes_eq at name ≡ false = bytes_swap at name ∙ ap (λ x. bytes_eq x at) (sym (bytes_eq-true j.definition.name name d)) ∙ e in
-      rw (e, d) (told_in_other name addr (is_banned addr j.bans) js apart))
-      (λ d. rw (e, d) (told_in_own name addr js)))
+      rw (e, d) (told_by_name_other name addr (is_banned addr j.bans) js apart))
+      (λ d. rw (e, d) (told_by_name_own name addr js)))
 
-  in_follows : (js : List JailNow) → AreDistinct bytes_eq (names moves_now js) → Follows (told_in moves_now at t js) (held_by moves_now js) (held_by moves_now (in_jail moves_now at g n js).jails)
+  in_follows : (js : List JailNow) → AreDistinct bytes_eq (names moves_now js) → Follows (told_by_name moves_now at t js) (held_by moves_now js) (held_by moves_now (in_jail moves_now at g n js).jails)
   in_follows js d = record {
     each = λ name addr.
         let after = subst (AreDistinct bytes_eq) (sym (in_jail_names moves_now moves_now_names at g keeps n js)) d in
-        ap (λ b. follow_told name addr b (told_in moves_now at t js)) (active_is name addr js d)
-        ∙ told_in_own name addr js
+        ap (λ b. follow_told name addr b (told_by_name moves_now at t js)) (active_is name addr js d)
+        ∙ told_by_name_own name addr js
         ∙ ap (λ b. Some b) (sym (active_is name addr (in_jail moves_now at g n js).jails after));
   }
 
@@ -178,14 +178,14 @@ held_alone : (name : List ℕ) (f : JailNow → JailNow) → ((j : JailNow) → 
     → held_by moves_now (in_jail moves_now name (alone moves_now f) n js).jails ≡ held_by moves_now js
 held_alone name f e n [] = refl
 held_alone name f e n (j ∷ js) =
-    let here : held_in moves_now (f j) ≡ held_in moves_now j = ap₂ (λ (x : List ℕ) (bs : List Ban). map (λ (b : Ban). record { jail = x; ban = b }) bs) (e j).0 (e j).1 in
+    let here : held_by_jail moves_now (f j) ≡ held_by_jail moves_now j = ap₂ (λ (x : List ℕ) (bs : List Ban). map (λ (b : Ban). record { jail = x; ban = b }) bs) (e j).0 (e j).1 in
     by_test (bytes_eq j.definition.name name) _
     (λ t. rw t (ap (λ hs. hs ++ held_by moves_now js) here))
-    (λ t. rw t (ap (λ hs. held_in moves_now j ++ hs) (held_alone name f e n js)))
+    (λ t. rw t (ap (λ hs. held_by_jail moves_now j ++ hs) (held_alone name f e n js)))
 
 held_dropped : (at purge : ℕ) (js : List JailNow) → held_by moves_now (map (dropped_now at purge) js) ≡ held_by moves_now js
 held_dropped at purge [] = refl
-held_dropped at purge (j ∷ js) = ap (λ hs. held_in moves_now j ++ hs) (held_dropped at purge js)
+held_dropped at purge (j ∷ js) = ap (λ hs. held_by_jail moves_now j ++ hs) (held_dropped at purge js)
 
 alone_follows : (name : List ℕ) (f : JailNow → JailNow) → ((j : JailNow) → (named moves_now (f j) ≡ named moves_now j) × ((f j).bans ≡ j.bans)) → (w : JailsNow)
     → Follows [] (held moves_now w) (held moves_now (at_jail moves_now name (alone moves_now f) w))
@@ -231,7 +231,7 @@ done_follows word Stop w d once = follows_nothing _ _ (λ jail addr. refl)
 
 -- the bans that are due end
 ends_follow : (at : ℕ) (js : List JailNow) → AreDistinct bytes_eq (names moves_now js) → AllOf (λ (j : JailNow). IsOnceEach j.bans) js
-    → Follows (told_each (told_ends moves_now at) js) (held_by moves_now js) (held_by moves_now (map (ended_by_time moves_now at) js))
+    → Follows (told_by_jails (told_ends moves_now at) js) (held_by moves_now js) (held_by moves_now (map (ended_by_time moves_now at) js))
 ends_follow at js d once = each_follows (told_ends moves_now at) (ended_by_time moves_now at) (by_time_name moves_now moves_now_names at) js (all_lead js once) d
   where
     all_lead : (ks : List JailNow) → AllOf (λ (j : JailNow). IsOnceEach j.bans) ks
@@ -245,8 +245,8 @@ kept_bans : (d : JailDef) (j : JailNow) → (moves_now.kept d j).bans ≡ j.bans
 kept_bans d j = limited_bans d.findtime d.maxretry j
 
 configured_bans : (name : List ℕ) (ds : List JailDef) (js : List JailNow) → list_any (λ (d : JailDef). bytes_eq d.name name) ds ≡ true
-    → bans_in name (configured moves_now ds js) ≡ bans_in name js
-unfolding bans_in
+    → bans_by_name name (configured moves_now ds js) ≡ bans_by_name name js
+unfolding bans_by_name
 configured_bans name [] js h = absurd (let k : false ≡ true = h in cc)
 configured_bans name (d ∷ ds) js h =
     let j = kept_or_fresh moves_now d (find_jail moves_now d.name js) in
@@ -254,7 +254,7 @@ configured_bans name (d ∷ ds) js h =
     by_test (bytes_eq d.name name) _
     (λ t.
     let there : bytes_eq j.definition.name name ≡ true = ap (λ x. bytes_eq x name) is ∙ t in
-    rw there (found_bans js ∙ ap (λ x. bans_in x js) (bytes_eq-true d.name name t)))
+    rw there (found_bans js ∙ ap (λ x. bans_by_name x js) (bytes_eq-true d.name name t)))
     (λ t.
     let there : bytes_eq j.definition.name name ≡ false = ap (λ x. bytes_eq x name) is ∙ t in
     let h2 : list_any (λ (e : JailDef). bytes_eq e.name name) ds ≡ true = rw t at h in
@@ -264,7 +264,7 @@ configured_bans name (d ∷ ds) js h =
     found_name None = refl
     found_name (Some j) = refl
 
-    found_bans : (ks : List JailNow) → (kept_or_fresh moves_now d (find_jail moves_now d.name ks)).bans ≡ bans_in d.name ks
+    found_bans : (ks : List JailNow) → (kept_or_fresh moves_now d (find_jail moves_now d.name ks)).bans ≡ bans_by_name d.name ks
     found_bans [] = refl
     found_bans (k ∷ ks) = by_test (bytes_eq k.definition.name d.name) _ (λ t. rw t (kept_bans d k)) (λ t. rw t (found_bans ks))
 
@@ -304,50 +304,50 @@ at_most_append p (x ∷ xs) ys a b h = (
     some_more : list_any p xs ≡ true → list_any p (x ∷ xs) ≡ true
     some_more t = by_test (p x) _ (λ e. rw e refl) (λ e. rw e t)
 
-held_in_once : (of name : List ℕ) (addr : Addr) (bs : List Ban) → IsOnceEach bs → AtMostOne (is_held_of name addr) (map (λ (b : Ban). record { jail = of; ban = b }) bs)
-held_in_once of name addr [] once = tt
-held_in_once of name addr (b ∷ bs) once = (
+held_by_jail_once : (of name : List ℕ) (addr : Addr) (bs : List Ban) → IsOnceEach bs → AtMostOne (is_held_of name addr) (map (λ (b : Ban). record { jail = of; ban = b }) bs)
+held_by_jail_once of name addr [] once = tt
+held_by_jail_once of name addr (b ∷ bs) once = (
   λ t.
       (let parts = and_parts (bytes_eq of name) (same_addr b.addr addr) t in
       active_same of name addr bs parts.0 ∙ ap (λ a. is_banned a bs) (sym (same_addr-true b.addr addr parts.1)) ∙ once.0),
-  held_in_once of name addr bs once.1,
+  held_by_jail_once of name addr bs once.1,
 )
 
 held_once : (name : List ℕ) (addr : Addr) (js : List JailNow) → AreDistinct bytes_eq (names moves_now js) → AllOf (λ (j : JailNow). IsOnceEach j.bans) js
     → AtMostOne (is_held_of name addr) (held_by moves_now js)
 held_once name addr [] d once = tt
 held_once name addr (j ∷ js) d once =
-    at_most_append (is_held_of name addr) (held_in moves_now j) (held_by moves_now js) (held_in_once j.definition.name name addr j.bans once.0) (held_once name addr js d.1 once.1)
+    at_most_append (is_held_of name addr) (held_by_jail moves_now j) (held_by moves_now js) (held_by_jail_once j.definition.name name addr j.bans once.0) (held_once name addr js d.1 once.1)
     (λ some. by_test (bytes_eq j.definition.name name) _
     (λ t. not_named name addr js (ap (λ n. list_any (bytes_eq n) (names moves_now js)) (sym (bytes_eq-true j.definition.name name t)) ∙ d.0))
-    (λ t. absurd (not_true_both (is_active (held_in moves_now j) name addr) some (active_none j.definition.name name addr j.bans t))))
+    (λ t. absurd (not_true_both (is_active (held_by_jail moves_now j) name addr) some (active_none j.definition.name name addr j.bans t))))
 
 -- ---- the step
 
 once_by_time : (at : ℕ) (js : List JailNow) → AllOf (λ (j : JailNow). IsOnceEach j.bans) js → AllOf (λ (j : JailNow). IsOnceEach j.bans) (map (ended_by_time moves_now at) js)
 once_by_time at js once =
     all_of-map (λ (j : JailNow). IsOnceEach j.bans) (λ (j : JailNow). IsOnceEach j.bans) (ended_by_time moves_now at)
-    (λ j o. once_end_all own_end (in_order ends_before (filter (is_due at) j.bans)) j o) js once
+    (λ j o. once_bans_ended own_end (in_order ends_before (filter (is_due at) j.bans)) j o) js once
 
 -- what the lanes take from a step of jails with distinct names, where no address is banned twice
 pub now_ban_step : (w : JailsNow) (input : Input) → is_spent w ≡ false → IsFit input → AreDistinct bytes_eq (names moves_now w.jails) → AllOf (λ (j : JailNow). IsOnceEach j.bans) w.jails
     → AreDistinct bytes_eq (names moves_now (jails_step_now w input).jails) → AllOf (λ (j : JailNow). IsOnceEach j.bans) (jails_step_now w input).jails
     → IsBanStep input.what (held moves_now w) (held moves_now (at_reading moves_now input.secs w)) (held moves_now (jails_step_now w input)) (jails_told moves_now w input)
 now_ban_step w input unspent fit d once d2 once2 =
-    let mid = at_reading moves_now input.secs w in
+    let jails_at_reading = at_reading moves_now input.secs w in
     let at = max w.at input.secs in
-    let mid_d : AreDistinct bytes_eq (names moves_now mid.jails) = subst (AreDistinct bytes_eq) (sym (at_reading_names moves_now moves_now_names input.secs w)) d in
-    let once_at_reading : AllOf (λ (j : JailNow). IsOnceEach j.bans) mid.jails = once_by_time at w.jails once in
-    let after = done moves_now input.word input.what mid in
+    let names_at_reading : AreDistinct bytes_eq (names moves_now jails_at_reading.jails) = subst (AreDistinct bytes_eq) (sym (at_reading_names moves_now moves_now_names input.secs w)) d in
+    let once_at_reading : AllOf (λ (j : JailNow). IsOnceEach j.bans) jails_at_reading.jails = once_by_time at w.jails once in
+    let after = done moves_now input.word input.what jails_at_reading in
     let last : held moves_now (jails_step_now w input) ≡ held moves_now after = rw unspent (held_dropped after.at after.purge after.jails) in
-    let told_is : jails_told moves_now w input ≡ told_each (told_ends moves_now at) w.jails ++ told_done moves_now input.word input.what mid = rw unspent refl in
-    let leads : Follows (told_each (told_ends moves_now at) w.jails ++ told_done moves_now input.word input.what mid) (held moves_now w) (led_to input.what (held moves_now mid) (held moves_now after)) =
-    follows_both (told_each (told_ends moves_now at) w.jails) (told_done moves_now input.word input.what mid) (held moves_now w) (held moves_now mid) (led_to input.what (held moves_now mid) (held moves_now after))
-    (ends_follow at w.jails d once) (done_follows input.word input.what mid mid_d once_at_reading) in
+    let told_is : jails_told moves_now w input ≡ told_by_jails (told_ends moves_now at) w.jails ++ told_done moves_now input.word input.what jails_at_reading = rw unspent refl in
+    let leads : Follows (told_by_jails (told_ends moves_now at) w.jails ++ told_done moves_now input.word input.what jails_at_reading) (held moves_now w) (led_to input.what (held moves_now jails_at_reading) (held moves_now after)) =
+    follows_both (told_by_jails (told_ends moves_now at) w.jails) (told_done moves_now input.word input.what jails_at_reading) (held moves_now w) (held moves_now jails_at_reading) (led_to input.what (held moves_now jails_at_reading) (held moves_now after))
+    (ends_follow at w.jails d once) (done_follows input.word input.what jails_at_reading names_at_reading once_at_reading) in
     record {
-      leads = subst (λ hs. Follows (jails_told moves_now w input) (held moves_now w) (led_to input.what (held moves_now mid) hs)) (sym last)
-          (subst (λ ts. Follows ts (held moves_now w) (led_to input.what (held moves_now mid) (held moves_now after))) (sym told_is) leads);
-      alike = subst (AreAlike input.what (held moves_now mid)) (sym last) (done_alike input.word input.what mid fit.what mid_d);
-      once_at_reading = record { one = λ jail addr. held_once jail addr mid.jails mid_d once_at_reading };
+      leads = subst (λ hs. Follows (jails_told moves_now w input) (held moves_now w) (led_to input.what (held moves_now jails_at_reading) hs)) (sym last)
+          (subst (λ ts. Follows ts (held moves_now w) (led_to input.what (held moves_now jails_at_reading) (held moves_now after))) (sym told_is) leads);
+      alike = subst (AreAlike input.what (held moves_now jails_at_reading)) (sym last) (done_alike input.word input.what jails_at_reading fit.what names_at_reading);
+      once_at_reading = record { one = λ jail addr. held_once jail addr jails_at_reading.jails names_at_reading once_at_reading };
       after_once = record { one = λ jail addr. held_once jail addr (jails_step_now w input).jails d2 once2 };
     }

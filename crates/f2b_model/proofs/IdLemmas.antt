@@ -9,7 +9,7 @@ use Rattle.f2b_model.specs.Families.{same_lane}
 use Rattle.f2b_model.specs.Jobs.{Ending, stands, AllIdsBelow}
 use Rattle.f2b_model.specs.LaneSound.{AreMade}
 use Rattle.f2b_model.specs.Lists.{AllOf}
-use Rattle.f2b_model.specs.Turns.{Order, numbered}
+use Rattle.f2b_model.specs.Alternation.{Order, numbered}
 use Rattle.f2b_model.proofs.OrderLemmas.{stands_id}
 
 pub ids_more : (next more : ℕ) (jobs : List Job) → next ≤ more → AllIdsBelow next jobs → AllIdsBelow more jobs
@@ -33,13 +33,13 @@ pub ids_made : (from : ℕ) (jobs : List Job) (next : ℕ) → AreMade from jobs
 ids_made from [] next made = tt
 ids_made from (job ∷ jobs) next made = ((let le : job.id + 1 ≤ next = made_rises (job.id + 1) jobs next made.3 in omega (arith, le)), ids_made (job.id + 1) jobs next made.3)
 
-pending_one : (next : ℕ) (es : List Ending) (job : Job) (jobs : List Job) (o : Option Job) → stands es job ≡ o → job.id < next → AllIdsBelow next jobs → AllIdsBelow next (cons_option o jobs)
-pending_one next es job jobs None is less later = later
-pending_one next es job jobs (Some j) is less later = ((let same : j.id ≡ job.id = stands_id es job j is in omega (arith, same, less)), later)
+ids_below_with_job : (next : ℕ) (es : List Ending) (job : Job) (jobs : List Job) (o : Option Job) → stands es job ≡ o → job.id < next → AllIdsBelow next jobs → AllIdsBelow next (cons_option o jobs)
+ids_below_with_job next es job jobs None is less later = later
+ids_below_with_job next es job jobs (Some j) is less later = ((let same : j.id ≡ job.id = stands_id es job j is in omega (arith, same, less)), later)
 
 pub ids_pending : (next : ℕ) (es : List Ending) (jobs : List Job) → AllIdsBelow next jobs → AllIdsBelow next (filter_map (stands es) jobs)
 ids_pending next es [] below = tt
-ids_pending next es (job ∷ jobs) below = pending_one next es job (filter_map (stands es) jobs) (stands es job) refl below.0 (ids_pending next es jobs below.1)
+ids_pending next es (job ∷ jobs) below = ids_below_with_job next es job (filter_map (stands es) jobs) (stands es job) refl below.0 (ids_pending next es jobs below.1)
 
 pub ids_voided : (next : ℕ) (lane : LaneId) (jobs : List Job) → AllIdsBelow next jobs → AllOf (λ (id : ℕ). id < next) (void_ids lane jobs)
 ids_voided next lane [] below = tt

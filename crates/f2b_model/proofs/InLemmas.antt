@@ -4,11 +4,11 @@ use Rattle.std.specs.List.{list_any}
 use Rattle.std.proofs.lemmas.Bool.{cases_Bool, or_right, both_ways}
 use Rattle.f2b_model.specs.Lists.{IsIn}
 
-pub any_in : {X : Type 0} (p : X → Bool) (xs : List X) → list_any p xs ≡ true → (x : X) × IsIn x xs × (p x ≡ true)
-any_in p [] h = absurd (let e : false ≡ true = h in cc)
-any_in p (x ∷ xs) h = elim (cases_Bool (p x)) [
+pub passing_element : {X : Type 0} (p : X → Bool) (xs : List X) → list_any p xs ≡ true → (x : X) × IsIn x xs × (p x ≡ true)
+passing_element p [] h = absurd (let e : false ≡ true = h in cc)
+passing_element p (x ∷ xs) h = elim (cases_Bool (p x)) [
   | inl y ↦ (x, inl refl, y)
-  | inr n ↦ let found = any_in p xs (rw n at h) in (found.0, inr found.1, found.2)
+  | inr n ↦ let found = passing_element p xs (rw n at h) in (found.0, inr found.1, found.2)
 ]
 
 pub in_any : {X : Type 0} (p : X → Bool) (x : X) (xs : List X) → IsIn x xs → p x ≡ true → list_any p xs ≡ true
@@ -19,8 +19,8 @@ in_any p x (y ∷ ys) i h = elim i [
 ]
 
 -- none passes, so this one does not
-pub none_in : {X : Type 0} (p : X → Bool) (x : X) (xs : List X) → IsIn x xs → list_any p xs ≡ false → p x ≡ false
-none_in p x xs i none = elim (cases_Bool (p x)) [
+pub element_fails : {X : Type 0} (p : X → Bool) (x : X) (xs : List X) → IsIn x xs → list_any p xs ≡ false → p x ≡ false
+element_fails p x xs i none = elim (cases_Bool (p x)) [
   | inl y ↦ absurd (both_ways (list_any p xs) none (in_any p x xs i y))
   | inr n ↦ n
 ]
@@ -32,11 +32,11 @@ in_filter p x (y ∷ ys) i h = elim i [
   | inr j ↦ elim (cases_Bool (p y)) [ inl k ↦ rw k (inr (in_filter p x ys j h)) | inr k ↦ rw k (in_filter p x ys j h) ]
 ]
 
-pub filter_in : {X : Type 0} (p : X → Bool) (x : X) (xs : List X) → IsIn x (filter p xs) → IsIn x xs × (p x ≡ true)
-filter_in p x [] i = absurd i
-filter_in p x (y ∷ ys) i = elim (cases_Bool (p y)) [
-  | inl k ↦ first p x y ys k (filter_in p x ys) (rw k at i)
-  | inr k ↦ let more = filter_in p x ys (rw k at i) in (inr more.0, more.1)
+pub filtered_element : {X : Type 0} (p : X → Bool) (x : X) (xs : List X) → IsIn x (filter p xs) → IsIn x xs × (p x ≡ true)
+filtered_element p x [] i = absurd i
+filtered_element p x (y ∷ ys) i = elim (cases_Bool (p y)) [
+  | inl k ↦ first p x y ys k (filtered_element p x ys) (rw k at i)
+  | inr k ↦ let more = filtered_element p x ys (rw k at i) in (inr more.0, more.1)
 ]
   where
     first : {X : Type 0} (p : X → Bool) (x y : X) (ys : List X) → p y ≡ true → (IsIn x (filter p ys) → IsIn x ys × (p x ≡ true)) → IsIn x (y ∷ filter p ys) → IsIn x (y ∷ ys) × (p x ≡ true)

@@ -5,9 +5,9 @@ use Rattle.std.specs.List.{filter_map, list_any}
 use Rattle.std.proofs.lemmas.Bool.{cases_Bool, ne_eqb, le-leb, or_right}
 use Rattle.std.proofs.lemmas.List.Elements.{filter-append}
 use Rattle.f2b_base.specs.declared.job.Job.{Job}
-use Rattle.f2b_model.specs.Jobs.{Ending, settles, Ledger, endings_of, is_settled, stands_by, stands, pending, settled_as, after_try, after_ending, settle_in, with_jobs, with_ending}
+use Rattle.f2b_model.specs.Jobs.{Ending, settles, Ledger, endings_of, is_settled, stands_by, stands, pending, settled_as, after_try, after_ending, jobs_after_ending, with_jobs, with_ending}
 use Rattle.f2b_model.specs.LaneSound.{AreBelow}
-use Rattle.f2b_model.specs.Turns.{Order, numbered}
+use Rattle.f2b_model.specs.Alternation.{Order, numbered}
 use Rattle.f2b_model.proofs.PassLemmas.{filter_map_agree, filter_map-filter_map, filter_map_append}
 
 le_three : (n : ℕ) → nat_le 3 (suc (suc (suc n))) ≡ true
@@ -65,7 +65,7 @@ stands_more es e job = elim (cases_Bool (e.job == job.id)) [
       ap (λ xs. stands_by xs job) e1 ∙ sym (passed (endings_of job.id es) e job p)
 ]
 
-pub pending-with_ending : (l : Ledger) (e : Ending) → pending (with_ending l e) ≡ settle_in e (pending l)
+pub pending-with_ending : (l : Ledger) (e : Ending) → pending (with_ending l e) ≡ jobs_after_ending e (pending l)
 pending-with_ending l e =
     filter_map_agree (stands (l.endings ++ e ∷ [])) (λ job. option_and_then (after_ending e) (stands l.endings job)) (stands_more l.endings e) l.made
     ∙ sym (filter_map-filter_map (after_ending e) (stands l.endings) l.made)

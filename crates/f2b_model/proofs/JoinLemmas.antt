@@ -9,7 +9,7 @@ use Rattle.f2b_model.specs.Full.{IsFull, is_of}
 use Rattle.f2b_model.specs.Lists.{AllOf, NoneBefore, IsInOrder, IsOrder, in_order}
 use Rattle.f2b_model.specs.Windows.{IsRising, IsFullBy, HasRun, in_time, times_of}
 use Rattle.f2b_model.proofs.ListLemmas.{in_order_filter, in_order_is, length_in_order}
-use Rattle.f2b_model.proofs.WindowLemmas.{of_one, run_iff_full}
+use Rattle.f2b_model.proofs.WindowLemmas.{full_by_own_times, run_iff_full}
 
 less_not_both : (x y : ℕ) → nat_lt x y ≡ true → nat_lt y x ≡ false
 less_not_both x y h = grind (arith, nat_tests)
@@ -46,7 +46,7 @@ pub full_joined : (findtime maxretry : ℕ) (addr : Addr) (fs : List Failure) �
 full_joined findtime maxretry addr fs one =
     let times = map (λ (f : Failure). f.time) (filter (is_of addr) fs) in
     let run = run_iff_full findtime maxretry (times_of addr fs) (rises (times_of addr fs) (in_order_is nat_lt numbers_order times)) one in
-    let alone = of_one findtime maxretry addr fs in
+    let alone = full_by_own_times findtime maxretry addr fs in
     let order = full_in_order findtime maxretry times in (
       (λ full. run.0 (order.0 (alone.0 full))),
       (λ is. alone.1 (order.1 (run.1 is))),

@@ -9,40 +9,40 @@ use Rattle.f2b_base.specs.declared.job.Job.{Job}
 use Rattle.f2b_base.specs.declared.job.LaneId.{LaneId}
 use Rattle.f2b_model.specs.Families.{same_lane}
 use Rattle.f2b_model.specs.JobLaws.{MayStart, IsNext}
-use Rattle.f2b_model.specs.Jobs.{Ending, Ledger, pending, settled, head, has_id, is_head, next_due, settle_in, with_jobs, with_ending, StandFor, ArePending}
-use Rattle.f2b_model.specs.LaneSound.{IsOrdered, AreSoundLanes, is_banned_in, never}
+use Rattle.f2b_model.specs.Jobs.{Ending, Ledger, pending, settled, head, has_id, is_head, next_due, jobs_after_ending, with_jobs, with_ending, StandFor, ArePending}
+use Rattle.f2b_model.specs.LaneSound.{IsOrdered, AreSoundLanes, is_banned_by_lane, never}
 use Rattle.f2b_model.specs.Lanes.{Lanes}
 use Rattle.f2b_model.specs.Lists.{IsIn}
 use Rattle.f2b_model.specs.Orders.{Held}
-use Rattle.f2b_model.specs.Turns.{Order, numbered, kinds_of, Alternate, last_is_ban}
-use Rattle.f2b_model.proofs.AlternateLemmas.{follow_alternates, follow_last, settled_all}
+use Rattle.f2b_model.specs.Alternation.{Order, numbered, kinds_of, Alternate, last_is_ban}
+use Rattle.f2b_model.proofs.AlternateLemmas.{follow_alternates, follow_last, all_are_settled}
 use Rattle.f2b_model.proofs.JobLemmas.{pending-with_jobs, pending-with_ending}
 
--- ---- turns
+-- ---- in turn
 
 pub alternates : (held : List Held) (l : Lanes Ledger) → AreSoundLanes never held l → (id : LaneId) (addr : Addr) → Alternate false (kinds_of id addr l.jobs.made)
-alternates held l sound id addr = follow_alternates id addr false (is_banned_in l.up held id addr) l.jobs.made (sound.turn.turns id addr)
+alternates held l sound id addr = follow_alternates id addr false (is_banned_by_lane l.up held id addr) l.jobs.made (sound.in_turn.turns id addr)
 
 pub settled_bans : (held : List Held) (l : Lanes Ledger) → AreSoundLanes never held l → (id : LaneId) (addr : Addr) → head id (pending l.jobs) ≡ None
-    → last_is_ban false (kinds_of id addr (settled l.jobs)) ≡ is_banned_in l.up held id addr
+    → last_is_ban false (kinds_of id addr (settled l.jobs)) ≡ is_banned_by_lane l.up held id addr
 settled_bans held l sound id addr none =
-    ap (last_is_ban false) (settled_all id addr l.jobs.endings l.jobs.made none) ∙ follow_last id addr false (is_banned_in l.up held id addr) l.jobs.made (sound.turn.turns id addr)
+    ap (last_is_ban false) (all_are_settled id addr l.jobs.endings l.jobs.made none) ∙ follow_last id addr false (is_banned_by_lane l.up held id addr) l.jobs.made (sound.in_turn.turns id addr)
 
 -- ---- pending jobs for the two lists
 
 pub stand_pushed : (jobs : List Job) (l : Ledger) (next at : ℕ) (os : List Order) → IsOrdered l next → StandFor jobs l → StandFor (jobs ++ numbered next at os) (with_jobs l (numbered next at os))
 stand_pushed jobs l next at os ordered stand = record { same = ap (λ js. js ++ numbered next at os) stand.same ∙ sym (pending-with_jobs l next at os ordered.below) }
 
-pub stand_ended : (jobs : List Job) (l : Ledger) (e : Ending) → StandFor jobs l → StandFor (settle_in e jobs) (with_ending l e)
-stand_ended jobs l e stand = record { same = ap (settle_in e) stand.same ∙ sym (pending-with_ending l e) }
+pub stand_ended : (jobs : List Job) (l : Ledger) (e : Ending) → StandFor jobs l → StandFor (jobs_after_ending e jobs) (with_ending l e)
+stand_ended jobs l e stand = record { same = ap (jobs_after_ending e) stand.same ∙ sym (pending-with_ending l e) }
 
 -- ---- what is tried next
 
-find_in : {X : Type 0} (p : X → Bool) (xs : List X) (x : X) → find p xs ≡ Some x → IsIn x xs × (p x ≡ true)
-find_in p [] x is = absurd (let e : None ≡ Some x = is in cc)
-find_in p (y ∷ ys) x is = elim (cases_Bool (p y)) [
+found_element : {X : Type 0} (p : X → Bool) (xs : List X) (x : X) → find p xs ≡ Some x → IsIn x xs × (p x ≡ true)
+found_element p [] x is = absurd (let e : None ≡ Some x = is in cc)
+found_element p (y ∷ ys) x is = elim (cases_Bool (p y)) [
   | inl h ↦ let e : y ≡ x = same_Some y x (rw h at is) in (inl (sym e), ap p (sym e) ∙ h)
-  | inr h ↦ let more = find_in p ys x (rw h at is) in (inr more.0, more.1)
+  | inr h ↦ let more = found_element p ys x (rw h at is) in (inr more.0, more.1)
 ]
 
 find_none : {X : Type 0} (p : X → Bool) (xs : List X) (x : X) → find p xs ≡ None → IsIn x xs → p x ≡ false
@@ -98,10 +98,10 @@ find_least p from (x ∷ jobs) top least job rise is i passes = elim (cases_Bool
 may : ℕ → List ℕ → List Job → Job → Bool
 may now running jobs job = is_head jobs job && (nat_le job.due now && not (list_any (λ id. id == job.id) running))
 
-first_one : (jobs : List Job) (from top : ℕ) (job : Job) (o : Option Job) → ArePending from jobs top → IsIn job jobs → head job.lane jobs ≡ o → has_id job.id o ≡ true → o ≡ Some job
-first_one jobs from top job None rise i is h = absurd (let e : false ≡ true = h in cc)
-first_one jobs from top job (Some found) rise i is h =
-    ap (λ j. Some j) (same_id from jobs top found job rise (find_in (λ (j : Job). same_lane j.lane job.lane) jobs found is).0 i (eqb-true found.id job.id h))
+head_is_job : (jobs : List Job) (from top : ℕ) (job : Job) (o : Option Job) → ArePending from jobs top → IsIn job jobs → head job.lane jobs ≡ o → has_id job.id o ≡ true → o ≡ Some job
+head_is_job jobs from top job None rise i is h = absurd (let e : false ≡ true = h in cc)
+head_is_job jobs from top job (Some found) rise i is h =
+    ap (λ j. Some j) (same_id from jobs top found job rise (found_element (λ (j : Job). same_lane j.lane job.lane) jobs found is).0 i (eqb-true found.id job.id h))
 
 may_start : (now : ℕ) (running : List ℕ) (jobs : List Job) (from top : ℕ) (job : Job) → ArePending from jobs top → IsIn job jobs → may now running jobs job ≡ true → MayStart now running jobs job
 unfolding may
@@ -109,7 +109,7 @@ may_start now running jobs from top job rise i h =
     let all = and_parts (is_head jobs job) _ h in
     let two = and_parts (nat_le job.due now) (not (list_any (λ id. id == job.id) running)) all.1 in
     record {
-      first = first_one jobs from top job (head job.lane jobs) rise i refl all.0;
+      first = head_is_job jobs from top job (head job.lane jobs) rise i refl all.0;
       due = leb-true job.due now two.0;
       rests = not-true (list_any (λ id. id == job.id) running) two.1;
     }
@@ -123,7 +123,7 @@ passes_test now running jobs job m =
 next_is : (now : ℕ) (running : List ℕ) (jobs : List Job) (from top : ℕ) (o : Option Job) → ArePending from jobs top → find (may now running jobs) jobs ≡ o → IsNext now running jobs o
 next_is now running jobs from top None rise is = λ job i m. absurd (both_ways (may now running jobs job) (find_none (may now running jobs) jobs job is i) (passes_test now running jobs job m))
 next_is now running jobs from top (Some next) rise is =
-    let found = find_in (may now running jobs) jobs next is in
+    let found = found_element (may now running jobs) jobs next is in
     (found.0, may_start now running jobs from top next rise found.0 found.1, (λ job i m. find_least (may now running jobs) from jobs top next job rise is i (passes_test now running jobs job m)))
 
 pub next_due_is_next : (now : ℕ) (running : List ℕ) (jobs : List Job) (from top : ℕ) → ArePending from jobs top → IsNext now running jobs (next_due now running jobs)

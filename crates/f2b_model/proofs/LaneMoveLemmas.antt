@@ -14,13 +14,13 @@ use Rattle.f2b_base.specs.declared.job.UpLane.{UpLane}
 use Rattle.f2b_model.specs.Families.{in_family, same_lane}
 use Rattle.f2b_base.specs.Addresses.{same_addr}
 use Rattle.f2b_model.specs.Jobs.{Ledger}
-use Rattle.f2b_model.specs.LaneSound.{AtMostOne, IsHeldOnce, IsInTurn, is_banned_in}
+use Rattle.f2b_model.specs.LaneSound.{AtMostOne, IsHeldOnce, IsInTurn, is_banned_by_lane}
 use Rattle.f2b_model.specs.Lanes.{Lanes, books, issue, lane_down, lane_up}
 use Rattle.f2b_model.specs.Orders.{Held, is_held_of, is_active, lane_id, is_lane, is_up, takes, order, order_showing, ban_orders, lane_orders, down_orders, up_orders, restart_orders}
-use Rattle.f2b_model.specs.Turns.{Order, order_of, numbered, touches, banned_after, follow}
+use Rattle.f2b_model.specs.Alternation.{Order, order_of, numbered, touches, banned_after, follow}
 use Rattle.f2b_model.proofs.PassLemmas.{any_map_filter, any_filter, any_agree, any_and, one_implied, one_map_filter, one_filter, one_push}
 use Rattle.f2b_model.proofs.SameLemmas.{same_addr-true, same_lane-true, lane_swap}
-use Rattle.f2b_model.proofs.TurnLemmas.{orders_numbered, follow-append, follow_none, AllKind, follow_of_one}
+use Rattle.f2b_model.proofs.InTurnLemmas.{orders_numbered, follow-append, follow_none, AllKind, follow_of_kind}
 
 pub all_of_kind : {X : Type 0} (kind : JobKind) (f : X → Order) → ((x : X) → (f x).kind ≡ kind) → (xs : List X) → AllKind kind (map f xs)
 all_of_kind kind f same [] = tt
@@ -132,7 +132,7 @@ unbanned : (lane : UpLane) (held : List Held) (id : LaneId) (addr : Addr) (u : B
 unbanned lane held id addr u here up one = elim (cases_Bool (is_active held id.jail addr && in_family id.family addr)) [
   | inl h ↦
       let was : (u && (in_family id.family addr && is_active held id.jail addr)) ≡ true = and_from u _ up (and_swap (in_family id.family addr) _ ∙ h) in
-      follow_of_one id addr Unban _ false (lane_orders Unban lane held) (all_of_kind Unban (λ x. order Unban (Some x) lane) (λ x. refl) _) (one_lane_orders Unban lane held id addr one)
+      follow_of_kind id addr Unban _ false (lane_orders Unban lane held) (all_of_kind Unban (λ x. order Unban (Some x) lane) (λ x. refl) _) (one_lane_orders Unban lane held id addr one)
       (any_lane_orders Unban lane held id addr ∙ and_from (is_lane id lane) _ here h) (ap (banned_after Unban) was)
   | inr h ↦
       let was : (u && (in_family id.family addr && is_active held id.jail addr)) ≡ false = and_right u _ (and_swap (in_family id.family addr) _ ∙ h) in
@@ -147,15 +147,15 @@ down_now false l x h = refl
 pub lane_down_keeps : (base : LaneId → Addr → Bool) (at : ℕ) (held : List Held) (lane : UpLane) (l : Lanes Ledger)
     → IsHeldOnce held → IsInTurn base held l → is_up l.up (lane_id lane) ≡ true → IsInTurn base held (lane_down books at held lane l)
 lane_down_keeps base at held lane l once is on = record {
-  turns = λ id addr. issue_turns base at (down_orders lane held) l id addr (is_banned_in l.up held id addr) _ (is.turns id addr)
-      (follow-append id addr (is_banned_in l.up held id addr) (lane_orders Unban lane held) (order Stop None lane ∷ [])
+  turns = λ id addr. issue_turns base at (down_orders lane held) l id addr (is_banned_by_lane l.up held id addr) _ (is.turns id addr)
+      (follow-append id addr (is_banned_by_lane l.up held id addr) (lane_orders Unban lane held) (order Stop None lane ∷ [])
       ∙ (elim (cases_Bool (is_lane id lane)) [
         | inl h ↦
             ap (option_and_then (λ c. follow id addr c (order Stop None lane ∷ []))) (unbanned lane held id addr (is_up l.up id) h (up_as l.up lane id true h on) (once.one id.jail addr))
             ∙ stop_here lane id addr h
             ∙ ap (λ x. Some x) (sym (ap (λ x. x && (in_family id.family addr && is_active held id.jail addr)) (up_left lane l.up id ∙ and_right (is_up l.up id) _ (ap not h))))
         | inr h ↦
-            ap (option_and_then (λ c. follow id addr c (order Stop None lane ∷ []))) (follow_none id addr (is_banned_in l.up held id addr) (lane_orders Unban lane held) (any_lane_orders Unban lane held id addr ∙ and_left (is_lane id lane) _ h))
+            ap (option_and_then (λ c. follow id addr c (order Stop None lane ∷ []))) (follow_none id addr (is_banned_by_lane l.up held id addr) (lane_orders Unban lane held) (any_lane_orders Unban lane held id addr ∙ and_left (is_lane id lane) _ h))
             ∙ stop_elsewhere lane id addr _ h
             ∙ ap (λ x. Some x) (down_now (is_up l.up id) (is_lane id lane) _ h ∙ ap (λ x. x && (in_family id.family addr && is_active held id.jail addr)) (sym (up_left lane l.up id)))
       ]));
@@ -169,7 +169,7 @@ banned_now : (kind : JobKind) → banned_after kind false ≡ Some true → (lan
     → follow id addr false (lane_orders kind lane held) ≡ Some (in_family id.family addr && is_active held id.jail addr)
 banned_now kind bans lane held id addr here one = elim (cases_Bool (is_active held id.jail addr && in_family id.family addr)) [
   | inl h ↦
-      follow_of_one id addr kind false true (lane_orders kind lane held) (all_of_kind kind (λ x. order kind (Some x) lane) (λ x. refl) _) (one_lane_orders kind lane held id addr one)
+      follow_of_kind id addr kind false true (lane_orders kind lane held) (all_of_kind kind (λ x. order kind (Some x) lane) (λ x. refl) _) (one_lane_orders kind lane held id addr one)
       (any_lane_orders kind lane held id addr ∙ and_from (is_lane id lane) _ here h) bans
       ∙ ap (λ x. Some x) (sym (and_swap (in_family id.family addr) _ ∙ h))
   | inr h ↦
@@ -196,15 +196,15 @@ up_elsewhere false false x h = refl
 pub lane_up_keeps : (base : LaneId → Addr → Bool) (at : ℕ) (held : List Held) (lane : UpLane) (l : Lanes Ledger)
     → IsHeldOnce held → IsInTurn base held l → is_up l.up (lane_id lane) ≡ false → IsInTurn base held (lane_up books at held lane l)
 lane_up_keeps base at held lane l once is off = record {
-  turns = λ id addr. issue_turns base at (up_orders lane held) l id addr (is_banned_in l.up held id addr) _ (is.turns id addr)
+  turns = λ id addr. issue_turns base at (up_orders lane held) l id addr (is_banned_by_lane l.up held id addr) _ (is.turns id addr)
       (elim (cases_Bool (is_lane id lane)) [
         | inl h ↦
-            start_here lane id addr (is_banned_in l.up held id addr) (lane_orders Ban lane held) h (and_left (is_up l.up id) _ (up_as l.up lane id false h off))
+            start_here lane id addr (is_banned_by_lane l.up held id addr) (lane_orders Ban lane held) h (and_left (is_up l.up id) _ (up_as l.up lane id false h off))
             ∙ banned_now Ban refl lane held id addr h (once.one id.jail addr)
             ∙ ap (λ x. Some x) (up_here (is_up l.up id) (is_lane id lane) _ h ∙ ap (λ x. x && (in_family id.family addr && is_active held id.jail addr)) (sym (list_any-append (is_lane id) l.up (lane ∷ []))))
         | inr h ↦
-            start_elsewhere lane id addr (is_banned_in l.up held id addr) (lane_orders Ban lane held) h
-            ∙ follow_none id addr (is_banned_in l.up held id addr) (lane_orders Ban lane held) (any_lane_orders Ban lane held id addr ∙ and_left (is_lane id lane) _ h)
+            start_elsewhere lane id addr (is_banned_by_lane l.up held id addr) (lane_orders Ban lane held) h
+            ∙ follow_none id addr (is_banned_by_lane l.up held id addr) (lane_orders Ban lane held) (any_lane_orders Ban lane held id addr ∙ and_left (is_lane id lane) _ h)
             ∙ ap (λ x. Some x) (up_elsewhere (is_up l.up id) (is_lane id lane) _ h ∙ ap (λ x. x && (in_family id.family addr && is_active held id.jail addr)) (sym (list_any-append (is_lane id) l.up (lane ∷ []))))
       ]);
   apart = record { one = λ id. one_push (is_lane id) l.up lane (λ here. up_as l.up lane id false here off) (is.apart.one id) };
@@ -227,15 +227,15 @@ on_here false x h = absurd (let e : false ≡ true = h in cc)
 pub restart_keeps : (base : LaneId → Addr → Bool) (at : ℕ) (held : List Held) (lane : UpLane) (l : Lanes Ledger)
     → IsHeldOnce held → IsInTurn base held l → is_up l.up (lane_id lane) ≡ true → IsInTurn base held (issue books at (restart_orders lane held) l)
 restart_keeps base at held lane l once is on = record {
-  turns = λ id addr. issue_turns base at (restart_orders lane held) l id addr (is_banned_in l.up held id addr) _ (is.turns id addr)
+  turns = λ id addr. issue_turns base at (restart_orders lane held) l id addr (is_banned_by_lane l.up held id addr) _ (is.turns id addr)
       (elim (cases_Bool (is_lane id lane)) [
         | inl h ↦
-            stop_start lane id addr (is_banned_in l.up held id addr) (lane_orders Reban lane held) h
+            stop_start lane id addr (is_banned_by_lane l.up held id addr) (lane_orders Reban lane held) h
             ∙ banned_now Reban refl lane held id addr h (once.one id.jail addr)
             ∙ ap (λ x. Some x) (on_here (is_up l.up id) (in_family id.family addr && is_active held id.jail addr) (up_as l.up lane id true h on))
         | inr h ↦
-            stop_start_elsewhere lane id addr (is_banned_in l.up held id addr) (lane_orders Reban lane held) h
-            ∙ follow_none id addr (is_banned_in l.up held id addr) (lane_orders Reban lane held) (any_lane_orders Reban lane held id addr ∙ and_left (is_lane id lane) _ h)
+            stop_start_elsewhere lane id addr (is_banned_by_lane l.up held id addr) (lane_orders Reban lane held) h
+            ∙ follow_none id addr (is_banned_by_lane l.up held id addr) (lane_orders Reban lane held) (any_lane_orders Reban lane held id addr ∙ and_left (is_lane id lane) _ h)
       ]);
   apart = is.apart;
 }

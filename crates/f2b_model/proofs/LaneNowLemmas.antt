@@ -13,9 +13,9 @@ use Rattle.f2b_model.specs.Jobs.{Tried, Ledger, pending, is_head_id, with_ending
 use Rattle.f2b_model.specs.LanesTold.{lanes_told}
 use Rattle.f2b_model.specs.Lists.{AllOf}
 use Rattle.f2b_model.specs.LaneSound.{AreBelow, IsOrdered}
-use Rattle.f2b_model.specs.Lanes.{Lanes, books, books_now, issue, lane_down, lane_up, all_down, all_up, try_ended, void_all, restarted, failed_in, check_failed, lanes_issued, stopped, others_down, missing_up, lanes_configured, lanes_done, lanes_step, lanes_of, is_among, lanes_now}
+use Rattle.f2b_model.specs.Lanes.{Lanes, books, books_now, issue, lane_down, lane_up, all_down, all_up, try_ended, with_voided, restarted, lane_failed_if_checked, check_failed, lanes_issued, stopped, others_down, missing_up, lanes_configured, lanes_done, lanes_step, lanes_of, includes_lane, lanes_now}
 use Rattle.f2b_model.specs.Orders.{Held, lane_id, is_lane, is_up, down_orders, up_orders, restart_orders, told_orders}
-use Rattle.f2b_model.specs.Turns.{Order}
+use Rattle.f2b_model.specs.Alternation.{Order}
 use Rattle.f2b_model.proofs.IdLemmas.{ids_behind, ids_made, ids_pending, ids_voided}
 use Rattle.f2b_model.proofs.JobLemmas.{pending-with_jobs, pending-with_ending, AreBelow_more}
 use Rattle.f2b_model.proofs.OrderLemmas.{below_more}
@@ -62,54 +62,54 @@ stopped_now : (at : ℕ) (held : List Held) (l : Lanes Ledger) → HasIdsBelow l
 stopped_now at held l below = ap (λ (n : Lanes (List Job)). record n { stopping = true }) (all_down_now at held l.up l below)
 
 others_now : (at : ℕ) (held : List Held) (new : List UpLane) (l : Lanes Ledger) → HasIdsBelow l → lanes_now (others_down books at held new l) ≡ others_down books_now at held new (lanes_now l)
-others_now at held new l below = all_down_now at held (filter (λ lane. not (is_among new lane)) l.up) l below
+others_now at held new l below = all_down_now at held (filter (λ lane. not (includes_lane new lane)) l.up) l below
 
 missing_now : (at : ℕ) (held : List Held) (new : List UpLane) (l : Lanes Ledger) → HasIdsBelow l → lanes_now (missing_up books at held new l) ≡ missing_up books_now at held new (lanes_now l)
 missing_now at held new l below = all_up_now at held (filter (λ lane. not (is_up l.up (lane_id lane))) new) l below
 
-configured_now : (at : ℕ) (mid after : List Held) (new : List UpLane) (l : Lanes Ledger) → HasIdsBelow l
-    → lanes_now (lanes_configured books at mid after new l) ≡ lanes_configured books_now at mid after new (lanes_now l)
-configured_now at mid after new l below =
+configured_now : (at : ℕ) (held_at_reading after : List Held) (new : List UpLane) (l : Lanes Ledger) → HasIdsBelow l
+    → lanes_now (lanes_configured books at held_at_reading after new l) ≡ lanes_configured books_now at held_at_reading after new (lanes_now l)
+configured_now at held_at_reading after new l below =
     let open_lanes : Lanes Ledger = record l { stopping = false } in
-    missing_now at after new (others_down books at mid new open_lanes) (all_down_below at mid (filter (λ lane. not (is_among new lane)) l.up) open_lanes below)
-    ∙ ap (missing_up books_now at after new) (others_now at mid new open_lanes below)
+    missing_now at after new (others_down books at held_at_reading new open_lanes) (all_down_below at held_at_reading (filter (λ lane. not (includes_lane new lane)) l.up) open_lanes below)
+    ∙ ap (missing_up books_now at after new) (others_now at held_at_reading new open_lanes below)
 
-void_all_now : (at : ℕ) (ids : List ℕ) (l : Lanes Ledger) → lanes_now (void_all books at ids l) ≡ void_all books_now at ids (lanes_now l)
-void_all_now at [] l = refl
-void_all_now at (id ∷ ids) l =
-    void_all_now at ids (record l { jobs = with_ending l.jobs (voided_at id at) })
-    ∙ ap (λ (jobs : List Job). void_all books_now at ids (record { up = l.up; stopping = l.stopping; jobs = jobs; next_job = l.next_job })) (pending-with_ending l.jobs (voided_at id at))
+with_voided_now : (at : ℕ) (ids : List ℕ) (l : Lanes Ledger) → lanes_now (with_voided books at ids l) ≡ with_voided books_now at ids (lanes_now l)
+with_voided_now at [] l = refl
+with_voided_now at (id ∷ ids) l =
+    with_voided_now at ids (record l { jobs = with_ending l.jobs (voided_at id at) })
+    ∙ ap (λ (jobs : List Job). with_voided books_now at ids (record { up = l.up; stopping = l.stopping; jobs = jobs; next_job = l.next_job })) (pending-with_ending l.jobs (voided_at id at))
 
-void_all_below : (at : ℕ) (ids : List ℕ) (l : Lanes Ledger) → AllOf (λ (id : ℕ). id < l.next_job) ids → HasIdsBelow l → HasIdsBelow (void_all books at ids l)
-void_all_below at [] l all below = below
-void_all_below at (id ∷ ids) l all below =
-    void_all_below at ids (record l { jobs = with_ending l.jobs (voided_at id at) }) all.1 (below_more l.next_job l.jobs.endings (voided_at id at) below.0 all.0, below.1)
+with_voided_below : (at : ℕ) (ids : List ℕ) (l : Lanes Ledger) → AllOf (λ (id : ℕ). id < l.next_job) ids → HasIdsBelow l → HasIdsBelow (with_voided books at ids l)
+with_voided_below at [] l all below = below
+with_voided_below at (id ∷ ids) l all below =
+    with_voided_below at ids (record l { jobs = with_ending l.jobs (voided_at id at) }) all.1 (below_more l.next_job l.jobs.endings (voided_at id at) below.0 all.0, below.1)
 
 restarted_now : (at : ℕ) (held : List Held) (o : Option UpLane) (l : Lanes Ledger) → HasIdsBelow l → lanes_now (restarted books at held o l) ≡ restarted books_now at held o (lanes_now l)
 restarted_now at held None l below = refl
 restarted_now at held (Some lane) l below = issue_now at (restart_orders lane held) l below
 
-failed_in_now : (at : ℕ) (held : List Held) (o : Option LaneId) (l : Lanes Ledger) → HasIdsBelow l → lanes_now (failed_in books at held o l) ≡ failed_in books_now at held o (lanes_now l)
-failed_in_now at held None l below = refl
-failed_in_now at held (Some lane) l below =
+lane_failed_if_checked_now : (at : ℕ) (held : List Held) (o : Option LaneId) (l : Lanes Ledger) → HasIdsBelow l → lanes_now (lane_failed_if_checked books at held o l) ≡ lane_failed_if_checked books_now at held o (lanes_now l)
+lane_failed_if_checked_now at held None l below = refl
+lane_failed_if_checked_now at held (Some lane) l below =
     let ids = void_ids lane (pending l.jobs) in
     let voided = ids_voided l.next_job lane (pending l.jobs) (ids_pending l.next_job l.jobs.endings l.jobs.made below.1) in
     elim (cases_Bool (is_closing lane (pending l.jobs))) [
-      | inl y ↦ rw y (void_all_now at ids l)
+      | inl y ↦ rw y (with_voided_now at ids l)
       | inr n ↦
-          rw n (restarted_now at held (lane_of lane l.up) (void_all books at ids l) (void_all_below at ids l voided below)
-          ∙ ap (restarted books_now at held (lane_of lane l.up)) (void_all_now at ids l))
+          rw n (restarted_now at held (lane_of lane l.up) (with_voided books at ids l) (with_voided_below at ids l voided below)
+          ∙ ap (restarted books_now at held (lane_of lane l.up)) (with_voided_now at ids l))
     ]
 
 check_now : (at : ℕ) (held : List Held) (job : ℕ) (l : Lanes Ledger) → HasIdsBelow l → lanes_now (check_failed books at held job l) ≡ check_failed books_now at held job (lanes_now l)
-check_now at held job l below = failed_in_now at held (checked_lane job (pending l.jobs)) l below
+check_now at held job l below = lane_failed_if_checked_now at held (checked_lane job (pending l.jobs)) l below
 
-done_now : (at : ℕ) (what : What) (mid after : List Held) (l : Lanes Ledger) → HasIdsBelow l → lanes_now (lanes_done books at what mid after l) ≡ lanes_done books_now at what mid after (lanes_now l)
-done_now at (Ended job outcome) mid after l below = try_now at job outcome l
-done_now at Stop mid after l below = stopped_now at mid l below
-done_now at (Config defs) mid after l below = configured_now at mid after (lanes_of defs) l below
-done_now at (CheckFailed job outcome) mid after l below = check_now at after job l below
-done_now at _ mid after l below = refl
+done_now : (at : ℕ) (what : What) (held_at_reading after : List Held) (l : Lanes Ledger) → HasIdsBelow l → lanes_now (lanes_done books at what held_at_reading after l) ≡ lanes_done books_now at what held_at_reading after (lanes_now l)
+done_now at (Ended job outcome) held_at_reading after l below = try_now at job outcome l
+done_now at Stop held_at_reading after l below = stopped_now at held_at_reading l below
+done_now at (Config defs) held_at_reading after l below = configured_now at held_at_reading after (lanes_of defs) l below
+done_now at (CheckFailed job outcome) held_at_reading after l below = check_now at after job l below
+done_now at _ held_at_reading after l below = refl
 
 issued_now : (at : ℕ) (told : List Happening) (l : Lanes Ledger) → HasIdsBelow l → lanes_now (lanes_issued books at told l) ≡ lanes_issued books_now at told (lanes_now l)
 issued_now at told l below = issue_now at (told_orders l.up told) l below
@@ -125,8 +125,8 @@ lanes_told_now at what told l below = same what (lanes_issued books at told l) �
     same _ l = refl
 
 -- the step over all jobs is seen in the pending ones as their step
-pub lanes_now_step : (at : ℕ) (what : What) (mid after : List Held) (told : List Happening) (l : Lanes Ledger) → HasIdsBelow l
-    → lanes_now (lanes_step books at what mid after told l) ≡ lanes_step books_now at what mid after told (lanes_now l)
-lanes_now_step at what mid after told l below =
-    done_now at what mid after (issue books at (told_orders l.up told) l) (issue_below at (told_orders l.up told) l below)
-    ∙ ap (lanes_done books_now at what mid after) (issue_now at (told_orders l.up told) l below)
+pub lanes_now_step : (at : ℕ) (what : What) (held_at_reading after : List Held) (told : List Happening) (l : Lanes Ledger) → HasIdsBelow l
+    → lanes_now (lanes_step books at what held_at_reading after told l) ≡ lanes_step books_now at what held_at_reading after told (lanes_now l)
+lanes_now_step at what held_at_reading after told l below =
+    done_now at what held_at_reading after (issue books at (told_orders l.up told) l) (issue_below at (told_orders l.up told) l below)
+    ∙ ap (lanes_done books_now at what held_at_reading after) (issue_now at (told_orders l.up told) l below)

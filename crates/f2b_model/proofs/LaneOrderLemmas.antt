@@ -11,9 +11,9 @@ use Rattle.f2b_base.specs.declared.job.UpLane.{UpLane}
 use Rattle.f2b_model.specs.declared.happening.Happening.{Happening}
 use Rattle.f2b_model.specs.Jobs.{Tried, Ledger, pending, head, has_id, job_by_id, leads, is_head_id}
 use Rattle.f2b_model.specs.LaneSound.{IsBanStep, IsFitForLanes, IsOrdered, AreSoundLanes, never}
-use Rattle.f2b_model.specs.Lanes.{Books, Lanes, books, issue, lane_down, lane_up, all_down, all_up, try_ended, others_down, lanes_configured, lanes_done, lanes_step, lanes_of, is_among, first_lanes}
+use Rattle.f2b_model.specs.Lanes.{Books, Lanes, books, issue, lane_down, lane_up, all_down, all_up, try_ended, others_down, lanes_configured, lanes_done, lanes_step, lanes_of, includes_lane, first_lanes}
 use Rattle.f2b_model.specs.Orders.{Held, lane_id, is_lane, is_up, down_orders, up_orders, told_orders}
-use Rattle.f2b_model.specs.Turns.{Order}
+use Rattle.f2b_model.specs.Alternation.{Order}
 use Rattle.f2b_base.specs.Limits.{last_moment}
 use Rattle.f2b_model.proofs.CheckLemmas.{check_ordered, check_stop}
 use Rattle.f2b_model.proofs.InLemmas.{in_any, no_elements}
@@ -37,11 +37,11 @@ all_up_ordered : (at : ℕ) (held : List Held) (ls : List UpLane) (l : Lanes Led
 all_up_ordered at held [] l fits h = h
 all_up_ordered at held (lane ∷ ls) l fits h = all_up_ordered at held ls (lane_up books at held lane l) fits (issue_ordered at (up_orders lane held) l fits h)
 
-configured_ordered : (at : ℕ) (mid after : List Held) (new : List UpLane) (l : Lanes Ledger) → at ≤ last_moment → AreOrdered l → AreOrdered (lanes_configured books at mid after new l)
-configured_ordered at mid after new l fits h =
-    let fewer : Lanes Ledger = others_down books at mid new (record l { stopping = false }) in
+configured_ordered : (at : ℕ) (held_at_reading after : List Held) (new : List UpLane) (l : Lanes Ledger) → at ≤ last_moment → AreOrdered l → AreOrdered (lanes_configured books at held_at_reading after new l)
+configured_ordered at held_at_reading after new l fits h =
+    let fewer : Lanes Ledger = others_down books at held_at_reading new (record l { stopping = false }) in
     all_up_ordered at after (filter (λ lane. not (is_up fewer.up (lane_id lane))) new) fewer fits
-    (all_down_ordered at mid (filter (λ lane. not (is_among new lane)) l.up) (record l { stopping = false }) fits h)
+    (all_down_ordered at held_at_reading (filter (λ lane. not (includes_lane new lane)) l.up) (record l { stopping = false }) fits h)
 
 -- the first job of its lane is the first of some lane
 pub head_of_id : (id : ℕ) (jobs : List Job) → is_head_id id jobs ≡ true → (lane : LaneId) × (has_id id (head lane jobs) ≡ true)
@@ -57,15 +57,15 @@ try_ordered at job outcome l h = elim (cases_Bool (is_head_id job (pending l.job
   | inr n ↦ rw n h
 ]
 
-done_ordered : (at : ℕ) (what : What) (mid after : List Held) (l : Lanes Ledger) → at ≤ last_moment → AreOrdered l → AreOrdered (lanes_done books at what mid after l)
-done_ordered at (Ended job outcome) mid after l fits h = try_ordered at job outcome l h
-done_ordered at Stop mid after l fits h = all_down_ordered at mid l.up l fits h
-done_ordered at (Config defs) mid after l fits h = configured_ordered at mid after (lanes_of defs) l fits h
-done_ordered at (CheckFailed job outcome) mid after l fits h = check_ordered at after job l fits h
-done_ordered at _ mid after l fits h = h
+done_ordered : (at : ℕ) (what : What) (held_at_reading after : List Held) (l : Lanes Ledger) → at ≤ last_moment → AreOrdered l → AreOrdered (lanes_done books at what held_at_reading after l)
+done_ordered at (Ended job outcome) held_at_reading after l fits h = try_ordered at job outcome l h
+done_ordered at Stop held_at_reading after l fits h = all_down_ordered at held_at_reading l.up l fits h
+done_ordered at (Config defs) held_at_reading after l fits h = configured_ordered at held_at_reading after (lanes_of defs) l fits h
+done_ordered at (CheckFailed job outcome) held_at_reading after l fits h = check_ordered at after job l fits h
+done_ordered at _ held_at_reading after l fits h = h
 
-pub order_kept : (at : ℕ) (what : What) (mid after : List Held) (told : List Happening) (l : Lanes Ledger) → at ≤ last_moment → AreOrdered l → AreOrdered (lanes_step books at what mid after told l)
-order_kept at what mid after told l fits h = done_ordered at what mid after (issue books at (told_orders l.up told) l) fits (issue_ordered at (told_orders l.up told) l fits h)
+pub order_kept : (at : ℕ) (what : What) (held_at_reading after : List Held) (told : List Happening) (l : Lanes Ledger) → at ≤ last_moment → AreOrdered l → AreOrdered (lanes_step books at what held_at_reading after told l)
+order_kept at what held_at_reading after told l fits h = done_ordered at what held_at_reading after (issue books at (told_orders l.up told) l) fits (issue_ordered at (told_orders l.up told) l fits h)
 
 -- ---- stopping
 
@@ -83,39 +83,39 @@ module _ {L : Type 0} (b : Books L) where
   all_up_stopping at held [] l = refl
   all_up_stopping at held (lane ∷ ls) l = all_up_stopping at held ls (lane_up b at held lane l)
 
-  configured_stopping : (at : ℕ) (mid after : List Held) (new : List UpLane) (l : Lanes L) → (lanes_configured b at mid after new l).stopping ≡ false
-  configured_stopping at mid after new l =
-      let fewer : Lanes L = others_down b at mid new (record l { stopping = false }) in
+  configured_stopping : (at : ℕ) (held_at_reading after : List Held) (new : List UpLane) (l : Lanes L) → (lanes_configured b at held_at_reading after new l).stopping ≡ false
+  configured_stopping at held_at_reading after new l =
+      let fewer : Lanes L = others_down b at held_at_reading new (record l { stopping = false }) in
       all_up_stopping at after (filter (λ lane. not (is_up fewer.up (lane_id lane))) new) fewer
-      ∙ all_down_stopping at mid (filter (λ lane. not (is_among new lane)) l.up) (record l { stopping = false })
+      ∙ all_down_stopping at held_at_reading (filter (λ lane. not (includes_lane new lane)) l.up) (record l { stopping = false })
 
   try_stop : (at job : ℕ) (outcome : Outcome) (l : Lanes L) → (l.stopping ≡ true → l.up ≡ []) → (try_ended b at job outcome l).stopping ≡ true → (try_ended b at job outcome l).up ≡ []
   try_stop at job outcome l was = elim (cases_Bool (is_head_id job (b.pending l.jobs))) [ inl y ↦ rw y was | inr n ↦ rw n was ]
 
-  pub stop_kept : (at : ℕ) (what : What) (mid after : List Held) (told : List Happening) (l : Lanes L)
-      → (l.stopping ≡ true → l.up ≡ []) → (lanes_step b at what mid after told l).stopping ≡ true → (lanes_step b at what mid after told l).up ≡ []
-  stop_kept at (Ended job outcome) mid after told l was now = try_stop at job outcome (issue b at (told_orders l.up told) l) was now
-  stop_kept at Stop mid after told l was now = none_up at mid (issue b at (told_orders l.up told) l)
-  stop_kept at (Config defs) mid after told l was now =
-      absurd (both_ways (lanes_configured b at mid after (lanes_of defs) (issue b at (told_orders l.up told) l)).stopping
-      (configured_stopping at mid after (lanes_of defs) (issue b at (told_orders l.up told) l)) now)
-  stop_kept at (CheckFailed job outcome) mid after told l was now = check_stop b at after job (issue b at (told_orders l.up told) l) was now
-  stop_kept at _ mid after told l was now = was now
+  pub stop_kept : (at : ℕ) (what : What) (held_at_reading after : List Held) (told : List Happening) (l : Lanes L)
+      → (l.stopping ≡ true → l.up ≡ []) → (lanes_step b at what held_at_reading after told l).stopping ≡ true → (lanes_step b at what held_at_reading after told l).up ≡ []
+  stop_kept at (Ended job outcome) held_at_reading after told l was now = try_stop at job outcome (issue b at (told_orders l.up told) l) was now
+  stop_kept at Stop held_at_reading after told l was now = none_up at held_at_reading (issue b at (told_orders l.up told) l)
+  stop_kept at (Config defs) held_at_reading after told l was now =
+      absurd (both_ways (lanes_configured b at held_at_reading after (lanes_of defs) (issue b at (told_orders l.up told) l)).stopping
+      (configured_stopping at held_at_reading after (lanes_of defs) (issue b at (told_orders l.up told) l)) now)
+  stop_kept at (CheckFailed job outcome) held_at_reading after told l was now = check_stop b at after job (issue b at (told_orders l.up told) l) was now
+  stop_kept at _ held_at_reading after told l was now = was now
 
 -- ---- sound
 
-pub sound_kept : (base : LaneId → Addr → Bool) (at : ℕ) (what : What) (before mid after : List Held) (told : List Happening) (l : Lanes Ledger)
-    → at ≤ last_moment → IsFitForLanes what → IsBanStep what before mid after told → AreSoundLanes base before l → AreSoundLanes base after (lanes_step books at what mid after told l)
-sound_kept base at what before mid after told l fits fit step sound = record {
-  turn = turn_kept base at what before mid after told l fit step sound.turn;
-  jobs = order_kept at what mid after told l fits sound.jobs;
-  stop = stop_kept books at what mid after told l sound.stop;
+pub sound_kept : (base : LaneId → Addr → Bool) (at : ℕ) (what : What) (before held_at_reading after : List Held) (told : List Happening) (l : Lanes Ledger)
+    → at ≤ last_moment → IsFitForLanes what → IsBanStep what before held_at_reading after told → AreSoundLanes base before l → AreSoundLanes base after (lanes_step books at what held_at_reading after told l)
+sound_kept base at what before held_at_reading after told l fits fit step sound = record {
+  in_turn = turn_kept base at what before held_at_reading after told l fit step sound.in_turn;
+  jobs = order_kept at what held_at_reading after told l fits sound.jobs;
+  stop = stop_kept books at what held_at_reading after told l sound.stop;
 }
 
 -- no jobs and no lanes
 pub first_sound : AreSoundLanes never [] first_lanes
 first_sound = record {
-  turn = record { turns = λ id addr. refl; apart = record { one = λ id. tt } };
+  in_turn = record { turns = λ id addr. refl; apart = record { one = λ id. tt } };
   jobs = record { made = omega arith; below = tt; order = tt };
   stop = λ h. refl;
 }

@@ -26,7 +26,7 @@ use Rattle.f2b_model.specs.LaneSound.{AreApart, AreSoundLanes, IsHeldOnce, never
 use Rattle.f2b_model.specs.Lanes.{Lanes, books, lanes_step, first_lanes, lanes_of, lanes_now, lanes_from}
 use Rattle.f2b_model.specs.Orders.{Held, is_held_of, fill_of}
 use Rattle.f2b_model.specs.Render.{rendered}
-use Rattle.f2b_model.specs.Turns.{kinds_of, last_is_ban}
+use Rattle.f2b_model.specs.Alternation.{kinds_of, last_is_ban}
 use Rattle.f2b_model.proofs.FollowLemmas.{follows_nothing, follows_begin}
 use Rattle.f2b_model.proofs.LaneOrderLemmas.{sound_kept, first_sound}
 
@@ -141,27 +141,27 @@ not_first : dues (calm 1002 (Ended 1 (Status (pos 0))) held banned) ≡ (0, 1000
 not_first = refl
 
 -- both jobs are done
-abbrev settled_all : Lanes Ledger
-settled_all = calm 1003 (Ended 1 (Status (pos 0))) held (calm 1002 (Ended 0 (Status (pos 0))) held banned)
+abbrev both_settled : Lanes Ledger
+both_settled = calm 1003 (Ended 1 (Status (pos 0))) held (calm 1002 (Ended 0 (Status (pos 0))) held banned)
 
 -- a ban that is pending when it ends is run, and taken back
 ban_and_unban : kinds (lanes_step books 1004 Tick [] [] (Ends (codes "s") ban ∷ []) (calm 1002 (Ended 0 (Status (pos 0))) held banned)) ≡ Ban ∷ Unban ∷ []
 ban_and_unban = refl
 
 -- an action whose command changes goes down and comes up; one that stays the same does not
-changed : kinds (calm 1004 (configured (action 1 (codes "x") ∷ [])) held settled_all) ≡ Unban ∷ Stop ∷ Start ∷ Ban ∷ []
+changed : kinds (calm 1004 (configured (action 1 (codes "x") ∷ [])) held both_settled) ≡ Unban ∷ Stop ∷ Start ∷ Ban ∷ []
 changed = refl
 
-unchanged : kinds (calm 1004 (configured (action 1 [] ∷ [])) held settled_all) ≡ []
+unchanged : kinds (calm 1004 (configured (action 1 [] ∷ [])) held both_settled) ≡ []
 unchanged = refl
 
 -- a jail that is gone takes its bans with it
-gone : kinds (lanes_step books 1004 (Config (record { purge = 86400; jails = [] })) held [] [] settled_all) ≡ Unban ∷ Stop ∷ []
+gone : kinds (lanes_step books 1004 (Config (record { purge = 86400; jails = [] })) held [] [] both_settled) ≡ Unban ∷ Stop ∷ []
 gone = refl
 
 -- a stop takes bans back, and a configuration after it gives them again
 abbrev stopped : Lanes Ledger
-stopped = calm 1004 StopAll held settled_all
+stopped = calm 1004 StopAll held both_settled
 
 takes_back : kinds stopped ≡ Unban ∷ Stop ∷ []
 takes_back = refl
@@ -203,7 +203,7 @@ banned_sound =
     or_false false = refl
 
 -- the last settled job of the address is a Ban
-last_says : last_is_ban false (kinds_of (record { jail = codes "s"; action = 1 ∷ []; family = Both }) (V4 7) (settled settled_all.jobs)) ≡ true
+last_says : last_is_ban false (kinds_of (record { jail = codes "s"; action = 1 ∷ []; family = Both }) (V4 7) (settled both_settled.jobs)) ≡ true
 last_says = refl
 
 -- ---- many lanes

@@ -18,11 +18,11 @@ use Rattle.f2b_model.specs.declared.happening.Happening.{Happening}
 use Rattle.f2b_model.specs.Families.{in_family, same_action, same_up}
 use Rattle.f2b_model.specs.Jobs.{Ledger, pending, is_head_id}
 use Rattle.f2b_model.specs.LaneSound.{AreApart, IsHeldOnce, has_jail, IsBanStep, IsFitForLanes, IsInTurn}
-use Rattle.f2b_model.specs.Lanes.{Books, Lanes, books, issue, lane_down, lane_up, all_down, all_up, try_ended, others_down, lanes_configured, lanes_step, lanes_of_jail, lanes_of, is_among}
+use Rattle.f2b_model.specs.Lanes.{Books, Lanes, books, issue, lane_down, lane_up, all_down, all_up, try_ended, others_down, lanes_configured, lanes_step, lanes_of_jail, lanes_of, includes_lane}
 use Rattle.f2b_model.specs.Lists.{IsIn}
 use Rattle.f2b_model.specs.Orders.{Held, is_active, lane_id, is_lane, is_up, told_orders}
 use Rattle.f2b_model.proofs.CheckLemmas.{check_turn}
-use Rattle.f2b_model.proofs.InLemmas.{any_in, in_any, none_in, in_filter, filter_in, in_append}
+use Rattle.f2b_model.proofs.InLemmas.{passing_element, in_any, element_fails, in_filter, filtered_element, in_append}
 use Rattle.f2b_model.proofs.LaneMoveLemmas.{up_left, lane_down_keeps, lane_up_keeps}
 use Rattle.f2b_model.proofs.PassLemmas.{one_filter}
 use Rattle.f2b_model.proofs.SameLemmas.{bytes_eq-true, same_lane-true, same_lane-same, lane_swap}
@@ -35,7 +35,7 @@ apart_rest lane ls apart = record { one = λ id. (apart.one id).1 }
 
 -- one that stands later is another
 pub apart_other : (lane x : UpLane) (ls : List UpLane) → AreApart (lane ∷ ls) → IsIn x ls → is_lane (lane_id x) lane ≡ false
-apart_other lane x ls apart i = lane_swap (lane_id lane) (lane_id x) ∙ none_in (is_lane (lane_id lane)) x ls i ((apart.one (lane_id lane)).0 (same_lane-same (lane_id lane)))
+apart_other lane x ls apart i = lane_swap (lane_id lane) (lane_id x) ∙ element_fails (is_lane (lane_id lane)) x ls i ((apart.one (lane_id lane)).0 (same_lane-same (lane_id lane)))
 
 pub apart_filter : (p : UpLane → Bool) (lanes : List UpLane) → AreApart lanes → AreApart (filter p lanes)
 apart_filter p lanes apart = record { one = λ id. one_filter (is_lane id) p lanes (apart.one id) }
@@ -71,18 +71,18 @@ pub up_after_down : {L : Type 0} (b : Books L) (at : ℕ) (held : List Held) (x 
 up_after_down b at held x [] l i = (i, refl)
 up_after_down b at held x (lane ∷ ls) l i =
     let more = up_after_down b at held x ls (lane_down b at held lane l) i in
-    let here = filter_in (λ other. not (is_lane (lane_id lane) other)) x l.up more.0 in
+    let here = filtered_element (λ other. not (is_lane (lane_id lane) other)) x l.up more.0 in
     (here.0, (let no : is_lane (lane_id lane) x ≡ false = not-true (is_lane (lane_id lane) x) here.1 in rw no more.1))
 
 -- what is up after the others went down is kept
 pub kept_up : {L : Type 0} (b : Books L) (at : ℕ) (held : List Held) (new : List UpLane) (x : UpLane) (l : Lanes L)
-    → IsIn x (others_down b at held new l).up → IsIn x l.up × (is_among new x ≡ true)
+    → IsIn x (others_down b at held new l).up → IsIn x l.up × (includes_lane new x ≡ true)
 kept_up b at held new x l i =
-    let more = up_after_down b at held x (filter (λ lane. not (is_among new lane)) l.up) l i in (
+    let more = up_after_down b at held x (filter (λ lane. not (includes_lane new lane)) l.up) l i in (
       more.0,
-      elim (cases_Bool (is_among new x)) [
+      elim (cases_Bool (includes_lane new x)) [
         | inl y ↦ y
-        | inr n ↦ absurd (both_ways _ more.1 (in_any (λ y. is_lane (lane_id y) x) x _ (in_filter (λ lane. not (is_among new lane)) x l.up more.0 (ap not n)) (same_lane-same (lane_id x))))
+        | inr n ↦ absurd (both_ways _ more.1 (in_any (λ y. is_lane (lane_id y) x) x _ (in_filter (λ lane. not (includes_lane new lane)) x l.up more.0 (ap not n)) (same_lane-same (lane_id x))))
       ],
     )
 
@@ -102,9 +102,9 @@ jail_of_lane z (d ∷ ds) i = elim (in_append z (lanes_of_jail d) (flat_map lane
 -- what a configuration keeps is of its jails
 kept_jail : (at : ℕ) (held : List Held) (defs : Defs) (l : Lanes Ledger) (id : LaneId) → is_up (others_down books at held (lanes_of defs) l).up id ≡ true → has_jail defs id.jail ≡ true
 kept_jail at held defs l id h =
-    let found = any_in (is_lane id) (others_down books at held (lanes_of defs) l).up h in
+    let found = passing_element (is_lane id) (others_down books at held (lanes_of defs) l).up h in
     let x = found.0 in
-    let new = any_in (same_up x) (lanes_of defs) (kept_up books at held (lanes_of defs) x l found.1).1 in
+    let new = passing_element (same_up x) (lanes_of defs) (kept_up books at held (lanes_of defs) x l found.1).1 in
     let z = new.0 in
     let one : x.jail ≡ id.jail = ap (λ (i : LaneId). i.jail) (same_lane-true (lane_id x) id found.2) in
     let two : x.jail ≡ z.jail = bytes_eq-true x.jail z.jail (and_parts (bytes_eq x.jail z.jail) (same_action x.action z.action) new.2).0 in
@@ -134,32 +134,32 @@ try_keeps base at job outcome held l is = elim (cases_Bool (is_head_id job (pend
 stop_keeps : (base : LaneId → Addr → Bool) (at : ℕ) (held : List Held) (l : Lanes Ledger) → IsHeldOnce held → IsInTurn base held l → IsInTurn base held (all_down books at held l.up l)
 stop_keeps base at held l once is = all_down_keeps base at held l.up l once is is.apart (λ x i. found_up x l.up i)
 
-config_keeps : (base : LaneId → Addr → Bool) (at : ℕ) (mid after : List Held) (defs : Defs) (l : Lanes Ledger) → AreApart (lanes_of defs) → IsHeldOnce mid → IsHeldOnce after
-    → ((jail : List ℕ) (addr : Addr) → has_jail defs jail ≡ true → is_active mid jail addr ≡ is_active after jail addr) → IsInTurn base mid l → IsInTurn base after (lanes_configured books at mid after (lanes_of defs) l)
-config_keeps base at mid after defs l apart once_mid once_after alike is =
+config_keeps : (base : LaneId → Addr → Bool) (at : ℕ) (held_at_reading after : List Held) (defs : Defs) (l : Lanes Ledger) → AreApart (lanes_of defs) → IsHeldOnce held_at_reading → IsHeldOnce after
+    → ((jail : List ℕ) (addr : Addr) → has_jail defs jail ≡ true → is_active held_at_reading jail addr ≡ is_active after jail addr) → IsInTurn base held_at_reading l → IsInTurn base after (lanes_configured books at held_at_reading after (lanes_of defs) l)
+config_keeps base at held_at_reading after defs l apart once_held once_after alike is =
     let new = lanes_of defs in
     let open_lanes : Lanes Ledger = record l { stopping = false } in
-    let fewer : Lanes Ledger = others_down books at mid new open_lanes in
-    let down : IsInTurn base mid fewer =
-    all_down_keeps base at mid (filter (λ lane. not (is_among new lane)) l.up) open_lanes once_mid (record { turns = is.turns; apart = is.apart }) (apart_filter (λ lane. not (is_among new lane)) l.up is.apart)
-    (λ x i. found_up x l.up (filter_in (λ lane. not (is_among new lane)) x l.up i).0) in
-    let switched : IsInTurn base after fewer = turn_alike base mid after fewer (λ id addr u. alike id.jail addr (kept_jail at mid defs open_lanes id u)) down in
+    let fewer : Lanes Ledger = others_down books at held_at_reading new open_lanes in
+    let down : IsInTurn base held_at_reading fewer =
+    all_down_keeps base at held_at_reading (filter (λ lane. not (includes_lane new lane)) l.up) open_lanes once_held (record { turns = is.turns; apart = is.apart }) (apart_filter (λ lane. not (includes_lane new lane)) l.up is.apart)
+    (λ x i. found_up x l.up (filtered_element (λ lane. not (includes_lane new lane)) x l.up i).0) in
+    let switched : IsInTurn base after fewer = turn_alike base held_at_reading after fewer (λ id addr u. alike id.jail addr (kept_jail at held_at_reading defs open_lanes id u)) down in
     all_up_keeps base at after (filter (λ lane. not (is_up fewer.up (lane_id lane))) new) fewer once_after switched (apart_filter (λ lane. not (is_up fewer.up (lane_id lane))) new apart)
-    (λ x i. not-true (is_up fewer.up (lane_id x)) (filter_in (λ lane. not (is_up fewer.up (lane_id lane))) x new i).1)
+    (λ x i. not-true (is_up fewer.up (lane_id x)) (filtered_element (λ lane. not (is_up fewer.up (lane_id lane))) x new i).1)
 
-pub turn_kept : (base : LaneId → Addr → Bool) (at : ℕ) (what : What) (before mid after : List Held) (told : List Happening) (l : Lanes Ledger)
-    → IsFitForLanes what → IsBanStep what before mid after told → IsInTurn base before l → IsInTurn base after (lanes_step books at what mid after told l)
-turn_kept base at (Ended job outcome) before mid after told l fit step is =
+pub turn_kept : (base : LaneId → Addr → Bool) (at : ℕ) (what : What) (before held_at_reading after : List Held) (told : List Happening) (l : Lanes Ledger)
+    → IsFitForLanes what → IsBanStep what before held_at_reading after told → IsInTurn base before l → IsInTurn base after (lanes_step books at what held_at_reading after told l)
+turn_kept base at (Ended job outcome) before held_at_reading after told l fit step is =
     try_keeps base at job outcome after (issue books at (told_orders l.up told) l) (told_keeps base at before after told l step.leads is)
-turn_kept base at Stop before mid after told l fit step is =
+turn_kept base at Stop before held_at_reading after told l fit step is =
     let told_too : Lanes Ledger = issue books at (told_orders l.up told) l in
     let now : IsInTurn base after told_too = told_keeps base at before after told l step.leads is in
-    let down : IsInTurn base mid (all_down books at mid l.up told_too) =
-    stop_keeps base at mid told_too step.once_at_reading (turn_alike base after mid told_too (λ id addr u. sym (step.alike id.jail addr)) now) in
-    let again : IsInTurn base after (all_down books at mid l.up told_too) = turn_alike base mid after (all_down books at mid l.up told_too) (λ id addr u. step.alike id.jail addr) down in
+    let down : IsInTurn base held_at_reading (all_down books at held_at_reading l.up told_too) =
+    stop_keeps base at held_at_reading told_too step.once_at_reading (turn_alike base after held_at_reading told_too (λ id addr u. sym (step.alike id.jail addr)) now) in
+    let again : IsInTurn base after (all_down books at held_at_reading l.up told_too) = turn_alike base held_at_reading after (all_down books at held_at_reading l.up told_too) (λ id addr u. step.alike id.jail addr) down in
     record { turns = again.turns; apart = again.apart }
-turn_kept base at (Config defs) before mid after told l fit step is =
-    config_keeps base at mid after defs (issue books at (told_orders l.up told) l) fit step.once_at_reading step.after_once step.alike (told_keeps base at before mid told l step.leads is)
-turn_kept base at (CheckFailed job outcome) before mid after told l fit step is =
+turn_kept base at (Config defs) before held_at_reading after told l fit step is =
+    config_keeps base at held_at_reading after defs (issue books at (told_orders l.up told) l) fit step.once_at_reading step.after_once step.alike (told_keeps base at before held_at_reading told l step.leads is)
+turn_kept base at (CheckFailed job outcome) before held_at_reading after told l fit step is =
     check_turn base at after job (issue books at (told_orders l.up told) l) step.after_once (told_keeps base at before after told l step.leads is)
-turn_kept base at _ before mid after told l fit step is = told_keeps base at before after told l step.leads is
+turn_kept base at _ before held_at_reading after told l fit step is = told_keeps base at before after told l step.leads is

@@ -10,11 +10,11 @@ use Rattle.f2b_base.specs.declared.job.Settled.{Settled}
 use Rattle.f2b_base.specs.declared.job.Settled.TheVariants.{Done, GivenUp, Again}
 use Rattle.f2b_model.specs.Active.{held}
 use Rattle.f2b_model.specs.Families.{same_lane}
-use Rattle.f2b_model.specs.Jobs.{Ending, AreById, after_try, has_id, head, is_head_id, job_by_id, leads, settle_in, settled_as}
+use Rattle.f2b_model.specs.Jobs.{Ending, AreById, after_try, has_id, head, is_head_id, job_by_id, leads, jobs_after_ending, settled_as}
 use Rattle.f2b_model.specs.Lanes.{Lanes, books_now}
 use Rattle.f2b_model.specs.Steps.{moves_now, at_reading, step_by}
 use Rattle.f2b_model.specs.Told.{jails_told}
-use Rattle.f2b_model.specs.Turns.{Order, numbered}
+use Rattle.f2b_model.specs.Alternation.{Order, numbered}
 use Rattle.f2b_model.specs.Whole.{Now, is_whole_spent, step_now}
 use Rattle.f2b_model.proofs.ByIdLemmas.{by_id_rises}
 use Rattle.f2b_model.proofs.CarryLemmas.{Carries, step_carries}
@@ -52,10 +52,10 @@ one_settled next job jobs later Done h = gone h
 one_settled next job jobs later GivenUp h = gone h
 one_settled next job jobs later (Again due) h = stays refl refl h
 
-later_settled : (next : ℕ) (e : Ending) (jobs : List Job) → IsLater next jobs (settle_in e jobs)
+later_settled : (next : ℕ) (e : Ending) (jobs : List Job) → IsLater next jobs (jobs_after_ending e jobs)
 later_settled next e [] = more tt
 later_settled next e (job ∷ jobs) = elim (cases_Bool (e.job == job.id)) [
-  | inl y ↦ rw y (one_settled next job jobs (settle_in e jobs) (settled_as e job) (later_settled next e jobs))
+  | inl y ↦ rw y (one_settled next job jobs (jobs_after_ending e jobs) (settled_as e job) (later_settled next e jobs))
   | inr n ↦ rw n (stays refl refl (later_settled next e jobs))
 ]
 

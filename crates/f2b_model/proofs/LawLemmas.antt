@@ -24,7 +24,7 @@ use Rattle.f2b_model.proofs.StepLemmas.{step_shows, step_good}
 use Rattle.f2b_model.proofs.SoundLemmas.{jail_shows, IsCalmJail}
 use Rattle.f2b_model.proofs.OrderlyLemmas.{orderly_fewer}
 use Rattle.f2b_model.proofs.NameLemmas.{moves_names, step_names, still_distinct, now_names, from_names, fresh_names}
-use Rattle.f2b_model.proofs.EndLemmas.{all_placed_all}
+use Rattle.f2b_model.proofs.EndLemmas.{all_with_placed}
 
 -- what a jail shows is shown again
 pub jail_again : (j : Jail) → jail_now (jail_from (jail_now j)) ≡ jail_now j
@@ -65,8 +65,8 @@ good_again at j good = record {
       let few = orderly_fewer at j.moment (is_recent j.moment j.definition.findtime) (open_of j.failures) (active_of j.bans) (kept_of j.endings) good.orderly in
       rw (open_of-all (in_order comes_before fs), active_of-all (active_of j.bans), kept_of-all (kept_of j.endings))
       (record {
-        by_moment = all_placed_all _ comes_before [] fs tt few.by_moment;
-        not_banned = all_placed_all _ comes_before [] fs tt few.not_banned;
+        by_moment = all_with_placed _ comes_before [] fs tt few.by_moment;
+        not_banned = all_with_placed _ comes_before [] fs tt few.not_banned;
         once = few.once;
         rising = few.rising;
         over = few.over;
@@ -125,9 +125,9 @@ first_sound defs least distinct = record {
 }
 
 -- and its middle state is that of the configuration
-first_all : (ds : List JailDef) → map jail_now (map fresh ds) ≡ map fresh_now ds
-first_all [] = refl
-first_all (d ∷ ds) = ap (λ js. fresh_now d ∷ js) (first_all ds)
+fresh_jails_now : (ds : List JailDef) → map jail_now (map fresh ds) ≡ map fresh_now ds
+fresh_jails_now [] = refl
+fresh_jails_now (d ∷ ds) = ap (λ js. fresh_now d ∷ js) (fresh_jails_now ds)
 
 pub first_shows : (defs : Defs) → jails_now_of (first_jails defs) ≡ first_jails_now defs
-first_shows defs = ap (λ (js : List JailNow). record (first_jails_now defs) { jails = js }) (first_all defs.jails)
+first_shows defs = ap (λ (js : List JailNow). record (first_jails_now defs) { jails = js }) (fresh_jails_now defs.jails)

@@ -12,15 +12,15 @@ use Rattle.f2b_model.specs.declared.jail_now.JailNow.{JailNow}
 use Rattle.f2b_base.specs.Addresses.{same_addr}
 use Rattle.f2b_model.specs.Full.{is_full}
 use Rattle.f2b_model.specs.LaneSound.{follow_told}
-use Rattle.f2b_model.specs.Lists.{AllOf, in_order, placed, placed_all}
+use Rattle.f2b_model.specs.Lists.{AllOf, in_order, placed, with_placed}
 use Rattle.f2b_model.specs.Moves.{counts, ban_of, is_banned, is_near, new_ban}
 use Rattle.f2b_model.specs.NowMoves.{shown_now, counted_now, found_now, banned_now, ended_now}
 use Rattle.f2b_model.specs.Sound.{IsOnceEach}
 use Rattle.f2b_base.specs.declared.jail.Place.{Place}
 use Rattle.f2b_model.specs.Watches.{is_watched}
-use Rattle.f2b_model.specs.Steps.{moves_now, is_due, own_end, ends_before, is_meant, is_meant_jail, end_all, ended_by_time, unbanned, found_in_turn, read_in_jail, banned_in_turn}
+use Rattle.f2b_model.specs.Steps.{moves_now, is_due, own_end, ends_before, is_meant, is_meant_jail, bans_ended, ended_by_time, unbanned, found_in_turn, read_in_jail, banned_in_turn}
 use Rattle.f2b_model.specs.Told.{begins, told_found, told_banned, told_ends, told_unbanned, told_found_in_turn, told_banned_in_turn, told_read}
-use Rattle.f2b_model.proofs.EndLemmas.{all_not, all_placed_all, same_addr_same}
+use Rattle.f2b_model.proofs.EndLemmas.{all_not, all_with_placed, same_addr_same}
 use Rattle.f2b_model.proofs.FollowLemmas.{follow_told-append}
 use Rattle.f2b_model.proofs.FullLemmas.{both_true}
 use Rattle.f2b_model.proofs.ListLemmas.{by_test}
@@ -37,8 +37,8 @@ pub record Leads (name : List ℕ) (told : List Happening) (before after : List 
 pub leads_nothing : (name : List ℕ) (bs : List Ban) → Leads name [] bs bs
 leads_nothing name bs = record { own = λ addr. refl; other = λ of addr b h. refl }
 
-pub leads_both : (name : List ℕ) (xs ys : List Happening) (before mid after : List Ban) → Leads name xs before mid → Leads name ys mid after → Leads name (xs ++ ys) before after
-leads_both name xs ys before mid after one two = record {
+pub leads_both : (name : List ℕ) (xs ys : List Happening) (before between after : List Ban) → Leads name xs before between → Leads name ys between after → Leads name (xs ++ ys) before after
+leads_both name xs ys before between after one two = record {
   own = λ addr. follow_told-append name addr (is_banned addr before) xs ys ∙ ap (option_and_then (λ d. follow_told name addr d ys)) (one.own addr) ∙ two.own addr;
   other = λ of addr b h. follow_told-append of addr b xs ys ∙ ap (option_and_then (λ d. follow_told of addr d ys)) (one.other of addr b h) ∙ two.other of addr b h;
 }
@@ -97,14 +97,14 @@ leads_end name b bs on = record {
 
 -- the bans that end, each of an address that is banned
 leads_ends : (name : List ℕ) (moment : Ban → ℕ) (ds : List Ban) (j : JailNow) → IsOnceEach ds → AllOf (λ (d : Ban). is_banned d.addr j.bans ≡ true) ds
-    → Leads name (map (Ends name) ds) j.bans (end_all moves_now moment ds j).bans
+    → Leads name (map (Ends name) ds) j.bans (bans_ended moves_now moment ds j).bans
 leads_ends name moment [] j once on = leads_nothing name j.bans
 leads_ends name moment (d ∷ ds) j once on =
     let k = ended_now d.addr (moment d) j in
     let left : k.bans ≡ filter (λ c. not (ban_of d.addr c)) j.bans = rw (on.0) refl in
     let others = all_not d.addr ds once.0 in
     let still : AllOf (λ (e : Ban). is_banned e.addr k.bans ≡ true) ds = all_of-two ds others on.1 left in
-    leads_both name (Ends name d ∷ []) (map (Ends name) ds) j.bans k.bans (end_all moves_now moment ds k).bans
+    leads_both name (Ends name d ∷ []) (map (Ends name) ds) j.bans k.bans (bans_ended moves_now moment ds k).bans
     (subst (Leads name (Ends name d ∷ []) j.bans) (sym left) (leads_end name d j.bans on.0))
     (leads_ends name moment ds k once.1 still)
   where
@@ -139,10 +139,10 @@ once_placed less x (y ∷ ys) once free =
     let free2 : is_banned x.addr ys ≡ false = rw (apart.0) at free in
     rw e (head, once_placed less x ys once.1 free2))
 
-once_placed_all : (less : Ban → Ban → Bool) (done xs : List Ban) → IsOnceEach done → IsOnceEach xs → AllOf (λ (x : Ban). is_banned x.addr done ≡ false) xs → IsOnceEach (placed_all less done xs)
-once_placed_all less done [] od ox free = od
-once_placed_all less done (x ∷ xs) od ox free =
-    once_placed_all less (placed less x done) xs (once_placed less x done od free.0) ox.1 (others xs (all_not x.addr xs ox.0) free.1)
+once_with_placed : (less : Ban → Ban → Bool) (done xs : List Ban) → IsOnceEach done → IsOnceEach xs → AllOf (λ (x : Ban). is_banned x.addr done ≡ false) xs → IsOnceEach (with_placed less done xs)
+once_with_placed less done [] od ox free = od
+once_with_placed less done (x ∷ xs) od ox free =
+    once_with_placed less (placed less x done) xs (once_placed less x done od free.0) ox.1 (others xs (all_not x.addr xs ox.0) free.1)
   where
     others : (ys : List Ban) → AllOf (λ (y : Ban). same_addr y.addr x.addr ≡ false) ys → AllOf (λ (y : Ban). is_banned y.addr done ≡ false) ys
         → AllOf (λ (y : Ban). is_banned y.addr (placed less x done) ≡ false) ys
@@ -169,8 +169,8 @@ pub leads_by_time : (at : ℕ) (j : JailNow) → IsOnceEach j.bans → Leads j.d
 leads_by_time at j once =
     let due = filter (is_due at) j.bans in
     leads_ends j.definition.name own_end (in_order ends_before due) j
-    (once_placed_all ends_before [] due tt (once_filter (is_due at) j.bans once) (none_banned due))
-    (all_placed_all (λ (d : Ban). is_banned d.addr j.bans ≡ true) ends_before [] due tt
+    (once_with_placed ends_before [] due tt (once_filter (is_due at) j.bans once) (none_banned due))
+    (all_with_placed (λ (d : Ban). is_banned d.addr j.bans ≡ true) ends_before [] due tt
     (all_of-filter (λ (d : Ban). is_banned d.addr j.bans ≡ true) (is_due at) j.bans (own_banned j.bans)))
 
 pub leads_unbanned : (at : ℕ) (jail : Option (List ℕ)) (addrs : Option (List Addr)) (j : JailNow) → IsOnceEach j.bans
@@ -248,9 +248,9 @@ leads_banned_in_turn at word (addr ∷ addrs) n j =
     (subst (λ name. Leads name rest o.jail.bans after) (moves_now_names.banned at word n addr j) (leads_banned_in_turn at word addrs o.next o.jail))
 
 -- no address is banned twice once bans have ended
-pub once_end_all : (moment : Ban → ℕ) (ds : List Ban) (j : JailNow) → IsOnceEach j.bans → IsOnceEach (end_all moves_now moment ds j).bans
-once_end_all moment [] j once = once
-once_end_all moment (d ∷ ds) j once = once_end_all moment ds (ended_now d.addr (moment d) j) one
+pub once_bans_ended : (moment : Ban → ℕ) (ds : List Ban) (j : JailNow) → IsOnceEach j.bans → IsOnceEach (bans_ended moves_now moment ds j).bans
+once_bans_ended moment [] j once = once
+once_bans_ended moment (d ∷ ds) j once = once_bans_ended moment ds (ended_now d.addr (moment d) j) one
   where
     one : IsOnceEach (ended_now d.addr (moment d) j).bans
     one = by_test (is_banned d.addr j.bans) _ (λ e. rw e (once_filter (λ b. not (ban_of d.addr b)) j.bans once)) (λ e. rw e once)

@@ -21,7 +21,7 @@ pub mod SameLemmas
 pub mod JobLemmas
 pub mod OrderLemmas
 pub mod BackLemmas
-pub mod TurnLemmas
+pub mod InTurnLemmas
 pub mod AlternateLemmas
 pub mod LaneMoveLemmas
 pub mod ToldOrderLemmas

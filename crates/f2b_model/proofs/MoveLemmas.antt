@@ -16,7 +16,7 @@ use Rattle.f2b_model.specs.Nows.{comes_before, jail_now}
 use Rattle.f2b_model.specs.Moves.{is_near, JailAndSerial, counts, counted, begun, judged, found, banned, ended, dropped, limited, ban_of, is_banned, new_ban, is_stale, kept}
 use Rattle.f2b_model.specs.NowMoves.{counted_now, begun_now, judged_now, found_now, banned_now, ended_now, dropped_now, limited_now, kept_now}
 use Rattle.f2b_model.specs.Sound.{IsSoundJail}
-use Rattle.f2b_model.proofs.ListLemmas.{by_test, filter-append, filter_both, filter_swap, in_order_filter, in_order_is, placed_filter, placed_all_push, length_in_order}
+use Rattle.f2b_model.proofs.ListLemmas.{by_test, filter-append, filter_both, filter_swap, in_order_filter, in_order_is, placed_filter, with_placed_push, length_in_order}
 use Rattle.f2b_model.proofs.FullLemmas.{le_true, lt_true, true_lt, le_false, both_true, both_same, full_of_recent, full_of_part, full_in_order, full_of_test, test_of_full, same_test}
 use Rattle.f2b_model.proofs.MarkLemmas.{open_of-push, active_of-push, kept_of-push, open_of-forget, active_of-stop, kept_of-drop, failures_order}
 
@@ -46,7 +46,7 @@ counted_shows at f j h new =
     let e1 : in_order comes_before (filter p (open_of (counted at f j).failures)) ≡ in_order comes_before (filter p fs ++ f ∷ []) =
     ap (λ r. in_order comes_before (filter p r)) (open_of-push j.failures f) ∙ ap (λ r. in_order comes_before r) (filter_push p fs f recent) in
     let e2 : in_order comes_before (filter p fs ++ f ∷ []) ≡ placed comes_before f (in_order comes_before (filter p fs)) =
-    placed_all_push comes_before failures_order [] (filter p fs) f in
+    with_placed_push comes_before failures_order [] (filter p fs) f in
     let e3 : placed comes_before f (in_order comes_before (filter p fs)) ≡ placed comes_before f (filter p old) =
     ap (λ r. placed comes_before f r) (sym (shown_filter j.moment findtime p fs (recent_before j.moment at findtime h))) in
     let e4 : placed comes_before f (filter p old) ≡ filter p (placed comes_before f old) =
@@ -152,8 +152,8 @@ ended_shows addr moment j =
 pub dropped_shows : (at purge : ℕ) (j : Jail) → jail_now (dropped at purge j) ≡ dropped_now at purge (jail_now j)
 dropped_shows at purge j = ap (λ (p : List Past). record (jail_now j) { past = p }) (kept_of-drop (is_stale at purge) j.endings)
 
-pub forget_all : (cs : List Counted) → open_of (forget (λ f. true) cs) ≡ []
-forget_all cs = open_of-forget (λ f. true) cs ∙ nothing (open_of cs)
+pub all_forgotten : (cs : List Counted) → open_of (forget (λ f. true) cs) ≡ []
+all_forgotten cs = open_of-forget (λ f. true) cs ∙ nothing (open_of cs)
   where
     nothing : (fs : List Failure) → filter (λ f. not true) fs ≡ []
     nothing [] = refl
@@ -164,7 +164,7 @@ limited_shows findtime maxretry j =
     by_test ((findtime == j.definition.findtime) && (maxretry == j.definition.maxretry)) _
     (λ e. rw e refl)
     (λ e. rw e (ap (λ (fs : List Failure). record (jail_now j) { definition = record (j.definition) { findtime = findtime; maxretry = maxretry }; failures = in_order comes_before (filter (is_recent j.moment findtime) fs) })
-    (forget_all j.failures)))
+    (all_forgotten j.failures)))
 
 -- under a definition with the same `findtime`
 pub redefined_shows : (d : JailDef) (ws : List WatchView) (j : Jail) → d.findtime ≡ j.definition.findtime

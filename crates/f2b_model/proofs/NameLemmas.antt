@@ -21,7 +21,7 @@ use Rattle.f2b_model.specs.Nows.{jail_now, jail_from}
 use Rattle.f2b_model.specs.Sound.{IsFitWhat}
 use Rattle.f2b_model.specs.State.{Jail, JailsOf, open_of, active_of}
 use Rattle.f2b_model.specs.Watches.{is_watched}
-use Rattle.f2b_model.specs.Steps.{JailOps, moves, moves_now, names, is_spent, is_due, own_end, ends_before, is_meant, is_meant_jail, end_all, ended_by_time, unbanned, in_jail, at_jail, alone, find_jail, kept_or_fresh, configured, done, raised, at_reading, step_by, found_in_turn, read_in_jail, banned_in_turn}
+use Rattle.f2b_model.specs.Steps.{JailOps, moves, moves_now, names, is_spent, is_due, own_end, ends_before, is_meant, is_meant_jail, bans_ended, ended_by_time, unbanned, in_jail, at_jail, alone, find_jail, kept_or_fresh, configured, done, raised, at_reading, step_by, found_in_turn, read_in_jail, banned_in_turn}
 use Rattle.f2b_model.proofs.ListLemmas.{by_test}
 
 -- what is seen of the definition of a jail, and of the definitions of jails
@@ -105,12 +105,12 @@ seen_after see (Config defs) xs = map see defs.jails
 seen_after see _ xs = xs
 
 module _ {J X : Type 0} (m : JailOps J) {see : JailDef → X} (keeps : Keeps m see) where
-  pub end_all_name : (moment : Ban → ℕ) (bs : List Ban) (j : J) → seen m see (end_all m moment bs j) ≡ seen m see j
-  end_all_name moment [] j = refl
-  end_all_name moment (b ∷ bs) j = end_all_name moment bs (m.ended b.addr (moment b) j) ∙ keeps.ended b.addr (moment b) j
+  pub bans_ended_name : (moment : Ban → ℕ) (bs : List Ban) (j : J) → seen m see (bans_ended m moment bs j) ≡ seen m see j
+  bans_ended_name moment [] j = refl
+  bans_ended_name moment (b ∷ bs) j = bans_ended_name moment bs (m.ended b.addr (moment b) j) ∙ keeps.ended b.addr (moment b) j
 
   pub by_time_name : (at : ℕ) (j : J) → seen m see (ended_by_time m at j) ≡ seen m see j
-  by_time_name at j = end_all_name own_end (in_order ends_before (filter (is_due at) (m.active j))) j
+  by_time_name at j = bans_ended_name own_end (in_order ends_before (filter (is_due at) (m.active j))) j
 
   pub each_names : (f : J → J) → ((j : J) → seen m see (f j) ≡ seen m see j) → (js : List J) → all_seen m see (map f js) ≡ all_seen m see js
   each_names f e [] = refl
@@ -154,7 +154,7 @@ module _ {J X : Type 0} (m : JailOps J) {see : JailDef → X} (keeps : Keeps m s
   pub unbanned_name : (at : ℕ) (jail : Option (List ℕ)) (addrs : Option (List Addr)) (j : J)
       → seen m see (cond (is_meant_jail jail (m.definition j)) (unbanned m at addrs j) j) ≡ seen m see j
   unbanned_name at jail addrs j =
-      by_test (is_meant_jail jail (m.definition j)) _ (λ t. rw t (end_all_name (λ b. at) (filter (is_meant addrs) (m.active j)) j)) (λ t. rw t refl)
+      by_test (is_meant_jail jail (m.definition j)) _ (λ t. rw t (bans_ended_name (λ b. at) (filter (is_meant addrs) (m.active j)) j)) (λ t. rw t refl)
 
   pub done_names : (word : ℕ) (what : What) (w : JailsOf J) → all_seen m see (done m word what w).jails ≡ seen_after see what (all_seen m see w.jails)
   done_names word Tick w = refl

@@ -17,7 +17,7 @@ use Rattle.f2b_model.specs.Moves.{JailAndSerial, counts, is_banned, is_near, ban
 use Rattle.f2b_model.specs.NowMoves.{found_now, counted_now, begun_now, banned_now, ended_now, limited_now}
 use Rattle.f2b_base.specs.declared.jail.Place.{Place}
 use Rattle.f2b_model.specs.Watches.{is_watched}
-use Rattle.f2b_model.specs.Steps.{moves_now, is_spent, is_due, own_end, ends_before, is_meant, is_meant_jail, end_all, ended_by_time, unbanned, in_jail, find_jail, kept_or_fresh, configured, at_jail, alone, done, each_jail, raised, jails_step_now, found_in_turn, read_in_jail, banned_in_turn}
+use Rattle.f2b_model.specs.Steps.{moves_now, is_spent, is_due, own_end, ends_before, is_meant, is_meant_jail, bans_ended, ended_by_time, unbanned, in_jail, find_jail, kept_or_fresh, configured, at_jail, alone, done, each_jail, raised, jails_step_now, found_in_turn, read_in_jail, banned_in_turn}
 use Rattle.f2b_model.specs.Sound.{IsNumbered, IsRisingSerials}
 use Rattle.f2b_model.specs.Laws.{AreNumbered}
 use Rattle.f2b_model.proofs.ListLemmas.{by_test}
@@ -67,9 +67,9 @@ banned_numbered : (at word n : ℕ) (addr : Addr) (j : JailNow) → Good n j →
 banned_numbered at word n addr j good =
     by_test (is_banned addr j.bans) _ (λ e. rw e (omega arith, good)) (λ e. rw e (omega arith, begun_numbered at word n addr 0 j good))
 
-end_all_numbered : (n : ℕ) (moment : Ban → ℕ) (ds : List Ban) (j : JailNow) → Good n j → Good n (end_all moves_now moment ds j)
-end_all_numbered n moment [] j good = good
-end_all_numbered n moment (d ∷ ds) j good = end_all_numbered n moment ds (ended_now d.addr (moment d) j) one
+bans_ended_numbered : (n : ℕ) (moment : Ban → ℕ) (ds : List Ban) (j : JailNow) → Good n j → Good n (bans_ended moves_now moment ds j)
+bans_ended_numbered n moment [] j good = good
+bans_ended_numbered n moment (d ∷ ds) j good = bans_ended_numbered n moment ds (ended_now d.addr (moment d) j) one
   where
     one : Good n (ended_now d.addr (moment d) j)
     one = by_test (is_banned d.addr j.bans) _ (λ e. rw e (numbered_filter n (λ b. not (ban_of d.addr b)) j.bans good)) (λ e. rw e good)
@@ -135,7 +135,7 @@ done_numbered word (BanThese jail addrs) w a =
 done_numbered word (Unban jail addrs) w a =
     all_of-map (Good w.next_ban) (Good w.next_ban) (λ j. cond (is_meant_jail jail j.definition) (unbanned moves_now w.at addrs j) j)
     (λ j good. by_test (is_meant_jail jail j.definition) _
-    (λ t. rw t (end_all_numbered w.next_ban (λ b. w.at) (filter (is_meant addrs) j.bans) j good)) (λ t. rw t good))
+    (λ t. rw t (bans_ended_numbered w.next_ban (λ b. w.at) (filter (is_meant addrs) j.bans) j good)) (λ t. rw t good))
     w.jails a
 done_numbered word (Attempt jail addr) w a =
     let fs : List Failure = record { addr = addr; time = w.at; line = [] } ∷ [] in
@@ -161,7 +161,7 @@ step_numbered w input a =
     let now = raised moves_now input.secs w in
     let ended = each_jail moves_now (ended_by_time moves_now now.at) now in
     let ended_is : AreNumbered ended = all_of-map (Good w.next_ban) (Good w.next_ban) (ended_by_time moves_now now.at)
-    (λ j good. end_all_numbered w.next_ban own_end (in_order ends_before (filter (is_due now.at) j.bans)) j good) w.jails a in
+    (λ j good. bans_ended_numbered w.next_ban own_end (in_order ends_before (filter (is_due now.at) j.bans)) j good) w.jails a in
     let after = done moves_now input.word input.what ended in
     let after_is = done_numbered input.word input.what ended ended_is in
     rw t (all_of-map (Good after.next_ban) (Good after.next_ban) (moves_now.dropped after.at after.purge) (λ j good. good) after.jails after_is))

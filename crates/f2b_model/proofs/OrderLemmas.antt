@@ -8,7 +8,7 @@ use Rattle.f2b_base.specs.declared.job.LaneId.{LaneId}
 use Rattle.f2b_base.specs.declared.job.Job.{Job}
 use Rattle.f2b_model.specs.Families.{same_lane}
 use Rattle.f2b_model.specs.Jobs.{Ending, Ledger, endings_of, is_settled, due_after, stands_by, stands, pending, head, has_id, after_ending, with_jobs, with_ending, IsPendingJob, ArePending}
-use Rattle.f2b_model.specs.Turns.{Order, numbered}
+use Rattle.f2b_model.specs.Alternation.{Order, numbered}
 use Rattle.f2b_model.specs.LaneSound.{AreBelow, AreMade, AllStand, AreInOrder, IsOrdered}
 use Rattle.f2b_base.specs.Limits.{last_moment}
 use Rattle.f2b_model.proofs.JobLemmas.{three, stands_more, none_of, AreBelow_more}
@@ -44,16 +44,16 @@ pub ArePending_from : (from more : ℕ) (jobs : List Job) (next : ℕ) → from 
 ArePending_from from more [] next le h = omega (arith, h, le)
 ArePending_from from more (job ∷ jobs) next le h = (omega (arith, h.0, le), h.1, h.2)
 
-pending_one : (from : ℕ) (es : List Ending) (job : Job) (jobs : List Job) (next : ℕ) (o : Option Job) → stands es job ≡ o → from ≤ job.id → job.due ≤ last_moment
+pending_with_job : (from : ℕ) (es : List Ending) (job : Job) (jobs : List Job) (next : ℕ) (o : Option Job) → stands es job ≡ o → from ≤ job.id → job.due ≤ last_moment
     → ArePending (job.id + 1) (filter_map (stands es) jobs) next → ArePending from (cons_option o (filter_map (stands es) jobs)) next
-pending_one from es job jobs next None is le due later = ArePending_from from (job.id + 1) (filter_map (stands es) jobs) next (omega (arith, le)) later
-pending_one from es job jobs next (Some j) is le due later =
+pending_with_job from es job jobs next None is le due later = ArePending_from from (job.id + 1) (filter_map (stands es) jobs) next (omega (arith, le)) later
+pending_with_job from es job jobs next (Some j) is le due later =
     let same = stands_id es job j is in
     (omega (arith, le, same), stands_fine (endings_of job.id es) job j due is, rw same later)
 
 pub pending_made : (from : ℕ) (es : List Ending) (jobs : List Job) (next : ℕ) → AreMade from jobs next → ArePending from (filter_map (stands es) jobs) next
 pending_made from es [] next h = h
-pending_made from es (job ∷ jobs) next h = pending_one from es job jobs next (stands es job) refl h.0 h.2 (pending_made (job.id + 1) es jobs next h.3)
+pending_made from es (job ∷ jobs) next h = pending_with_job from es job jobs next (stands es job) refl h.0 h.2 (pending_made (job.id + 1) es jobs next h.3)
 
 pub pending_ordered : (l : Ledger) (next : ℕ) → IsOrdered l next → ArePending 0 (pending l) next
 pending_ordered l next h = pending_made 0 l.endings l.made next h.made

@@ -102,8 +102,8 @@ not_by_two = refl
 abbrev changed : List Input
 changed = reads 100 (fails 100 ∷ []) ∷ reads 699 (fails 699 ∷ []) ∷ sends 699 (Maxretry (97 ∷ []) 2) ∷ reads 699 (fails 699 ∷ []) ∷ []
 
-changed_one : bans_of (jails_steps start changed) ≡ [] ∷ []
-changed_one = refl
+changed_to_two : bans_of (jails_steps start changed) ≡ [] ∷ []
+changed_to_two = refl
 
 changed_two : bans_of (jails_steps start (changed ++ reads 699 (fails 699 ∷ []) ∷ [])) ≡ (ban 0 699 0 2 ∷ []) ∷ []
 unfolding plain_span span_of

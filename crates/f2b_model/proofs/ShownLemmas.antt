@@ -4,7 +4,7 @@ use Rattle.std.specs.List.{filter}
 use Rattle.f2b_base.specs.declared.addr.Addr.{Addr}
 use Rattle.f2b_base.specs.declared.ban.Failure.{Failure}
 use Rattle.f2b_model.specs.Full.{is_of, is_recent}
-use Rattle.f2b_model.specs.Lists.{AllOf, placed, placed_all, in_order}
+use Rattle.f2b_model.specs.Lists.{AllOf, placed, with_placed, in_order}
 use Rattle.f2b_model.specs.Matches.{matches_of}
 use Rattle.f2b_model.specs.Moves.{counts, counted, earlier, is_near, shown}
 use Rattle.f2b_model.specs.NowMoves.{shown_now}
@@ -24,12 +24,12 @@ placed_agree : {A : Type 0} (P : A → Type 0) (less more : A → A → Bool) �
 placed_agree P less more same x [] p all = refl
 placed_agree P less more same x (y ∷ ys) p all = rw (same x y p all.0, placed_agree P less more same x ys p all.1) refl
 
-placed_all_agree : {A : Type 0} (P : A → Type 0) (less more : A → A → Bool) → ((x y : A) → P x → P y → less x y ≡ more x y) → (done xs : List A) → AllOf P done → AllOf P xs
-    → placed_all less done xs ≡ placed_all more done xs
-placed_all_agree P less more same done [] all new = refl
-placed_all_agree P less more same done (x ∷ xs) all new =
-    ap (λ d. placed_all less d xs) (placed_agree P less more same x done new.0 all)
-    ∙ placed_all_agree P less more same (placed more x done) xs (all_placed P more x done new.0 all) new.1
+with_placed_agree : {A : Type 0} (P : A → Type 0) (less more : A → A → Bool) → ((x y : A) → P x → P y → less x y ≡ more x y) → (done xs : List A) → AllOf P done → AllOf P xs
+    → with_placed less done xs ≡ with_placed more done xs
+with_placed_agree P less more same done [] all new = refl
+with_placed_agree P less more same done (x ∷ xs) all new =
+    ap (λ d. with_placed less d xs) (placed_agree P less more same x done new.0 all)
+    ∙ with_placed_agree P less more same (placed more x done) xs (all_placed P more x done new.0 all) new.1
 
 -- ---- failures of one address stand by time
 
@@ -50,7 +50,7 @@ all_near findtime f (g ∷ gs) =
     (λ e. rw e (all_near findtime f gs))
 
 near_by_time : (findtime : ℕ) (f : Failure) (gs : List Failure) → in_order comes_before (filter (is_near findtime f) gs) ≡ in_order earlier (filter (is_near findtime f) gs)
-near_by_time findtime f gs = placed_all_agree (λ (g : Failure). g.addr ≡ f.addr) comes_before earlier (same_place f.addr) [] (filter (is_near findtime f) gs) tt (all_near findtime f gs)
+near_by_time findtime f gs = with_placed_agree (λ (g : Failure). g.addr ≡ f.addr) comes_before earlier (same_place f.addr) [] (filter (is_near findtime f) gs) tt (all_near findtime f gs)
 
 pub shown_shows : (at : ℕ) (f : Failure) (j : Jail) → j.moment ≤ at → counts at j.definition (active_of j.bans) f ≡ true → shown at f j ≡ shown_now at f (jail_now j)
 shown_shows at f j h e =

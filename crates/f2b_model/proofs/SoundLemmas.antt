@@ -24,11 +24,11 @@ use Rattle.f2b_model.specs.Steps.{moves, moves_now, is_due, own_end, ends_before
 use Rattle.f2b_model.specs.Sound.{IsSoundJail, IsGoodJail, IsNotBefore}
 use Rattle.f2b_model.proofs.ShownLemmas.{shown_shows}
 use Rattle.f2b_model.proofs.OrderlyLemmas.{orderly_later, orderly_counted, orderly_begun, orderly_dropped, orderly_fewer}
-use Rattle.f2b_model.proofs.EndLemmas.{same_addr_same, IsOrderlyJail, IsCalm, by_time_orderly, unbanned_orderly, end_all_sound}
+use Rattle.f2b_model.proofs.EndLemmas.{same_addr_same, IsOrderlyJail, IsCalm, by_time_orderly, unbanned_orderly, bans_ended_sound}
 use Rattle.f2b_model.proofs.ListLemmas.{by_test, filter-append}
 use Rattle.f2b_model.proofs.FullLemmas.{both_true, both_same, le_true, not_true_both, stands, how_many_push, full_of_part, test_of_full}
 use Rattle.f2b_model.proofs.MarkLemmas.{open_of-push, open_of-forget, active_of-push, kept_of-drop}
-use Rattle.f2b_model.proofs.MoveLemmas.{positive, forget_all, found_shows, banned_shows, ended_shows, dropped_shows, limited_shows, kept_shows}
+use Rattle.f2b_model.proofs.MoveLemmas.{positive, all_forgotten, found_shows, banned_shows, ended_shows, dropped_shows, limited_shows, kept_shows}
 use Rattle.f2b_model.proofs.StepLemmas.{Shows}
 
 pub same_addr_true : (a b : Addr) → same_addr a b ≡ true → a ≡ b
@@ -104,7 +104,7 @@ sound_limited at findtime maxretry j one sound =
     by_test ((findtime == j.definition.findtime) && (maxretry == j.definition.maxretry)) _
     (λ e. rw e sound)
     (λ e. rw e (record {
-      none_full = λ addr full. (let full2 : IsFull findtime maxretry addr [] = rw (forget_all j.failures) at full in let many = full2.many in absurd (omega arith));
+      none_full = λ addr full. (let full2 : IsFull findtime maxretry addr [] = rw (all_forgotten j.failures) at full in let many = full2.many in absurd (omega arith));
       moment = sound.moment;
     }))
 
@@ -115,7 +115,7 @@ sound_kept at d j one sound =
     let p = both_same d.findtime j.definition.findtime d.maxretry j.definition.maxretry e in
     rw e (record { none_full = λ addr full. sound.none_full addr (rw (p.0, p.1) at full); moment = sound.moment }))
     (λ e. rw e (record {
-      none_full = λ addr full. (let full2 : IsFull d.findtime d.maxretry addr [] = rw (forget_all j.failures) at full in let many = full2.many in absurd (omega arith));
+      none_full = λ addr full. (let full2 : IsFull d.findtime d.maxretry addr [] = rw (all_forgotten j.failures) at full in let many = full2.many in absurd (omega arith));
       moment = sound.moment;
     }))
 
@@ -202,9 +202,9 @@ jail_shows = record {
   calm_good = λ at j calm. calm.0;
   good_by_time = λ at j good.
       (let r = by_time_orderly at j good.orderly in
-      (record { sound = end_all_sound at own_end (in_order ends_before (filter (is_due at) (active_of j.bans))) j good.sound; orderly = r.0 }, r.1));
+      (record { sound = bans_ended_sound at own_end (in_order ends_before (filter (is_due at) (active_of j.bans))) j good.sound; orderly = r.0 }, r.1));
   good_unbanned = λ at addrs j calm. record {
-    sound = end_all_sound at (λ b. at) (filter (is_meant addrs) (active_of j.bans)) j calm.0.sound;
+    sound = bans_ended_sound at (λ b. at) (filter (is_meant addrs) (active_of j.bans)) j calm.0.sound;
     orderly = unbanned_orderly at (filter (is_meant addrs) (active_of j.bans)) j calm.1 calm.0.orderly;
   };
   good_found = λ at word n f j h good. record { sound = sound_found at word n f j good.sound; orderly = found_orderly at word n f j h good.sound.moment good.orderly };

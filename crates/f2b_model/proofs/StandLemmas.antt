@@ -8,12 +8,12 @@ use Rattle.f2b_model.specs.State.{Jail, open_of}
 use Rattle.f2b_model.specs.Nows.{comes_before, jail_now}
 use Rattle.f2b_model.specs.Sound.{IsGoodJail}
 use Rattle.f2b_model.specs.Stands.{StandsFor, IsShown}
-use Rattle.f2b_model.proofs.ListLemmas.{filter-append, in_order_is, placed_filter, placed_all_push}
+use Rattle.f2b_model.proofs.ListLemmas.{filter-append, in_order_is, placed_filter, with_placed_push}
 use Rattle.f2b_model.proofs.FullLemmas.{true_lt, full_of_recent, full_of_part, full_in_order}
 use Rattle.f2b_model.proofs.MarkLemmas.{failures_order}
 use Rattle.f2b_model.proofs.MoveLemmas.{recent_before, shown_filter}
 use Rattle.f2b_model.proofs.OrderlyLemmas.{all_of-filter, all_of-kept}
-use Rattle.f2b_model.proofs.EndLemmas.{all_placed_all}
+use Rattle.f2b_model.proofs.EndLemmas.{all_with_placed}
 use Rattle.f2b_model.proofs.StepLemmas.{all_of-more, all_of-map}
 
 -- one more failure: it goes in, and what is too old goes
@@ -27,7 +27,7 @@ stands_added last now findtime kept whole f s le new =
     let e2 = placed_filter comes_before failures_order p f recent (in_order comes_before (filter (is_recent last findtime) whole))
     (in_order_is comes_before failures_order (filter (is_recent last findtime) whole)) in
     let e3 = ap (λ r. placed comes_before f r) (shown_filter last findtime p whole (recent_before last now findtime le)) in
-    let e4 = sym (placed_all_push comes_before failures_order [] (filter p whole) f) in
+    let e4 = sym (with_placed_push comes_before failures_order [] (filter p whole) f) in
     let e5 : filter p whole ++ f ∷ [] ≡ filter p (whole ++ f ∷ []) = sym (filter-append p whole (f ∷ []) ∙ ap (λ r. filter p whole ++ r) (rw recent refl)) in
     record { is = e1 ∙ e2 ∙ e3 ∙ e4 ∙ ap (λ r. in_order comes_before r) e5 }
 
@@ -46,9 +46,9 @@ shown_bounds at j good =
     let m = good.sound.moment in
     record {
       in_order = in_order_is comes_before failures_order recent;
-      recent = all_placed_all (λ (f : Failure). is_recent j.moment j.definition.findtime f ≡ true) comes_before [] recent tt
+      recent = all_with_placed (λ (f : Failure). is_recent j.moment j.definition.findtime f ≡ true) comes_before [] recent tt
           (all_of-kept (λ (f : Failure). is_recent j.moment j.definition.findtime f ≡ true) (is_recent j.moment j.definition.findtime) (open_of j.failures) (λ f h. h));
-      none_later = all_placed_all (λ (f : Failure). f.time ≤ at) comes_before [] recent tt
+      none_later = all_with_placed (λ (f : Failure). f.time ≤ at) comes_before [] recent tt
           (all_of-filter (λ (f : Failure). f.time ≤ at) (is_recent j.moment j.definition.findtime) (open_of j.failures)
           (all_of-more (λ (f : Failure). f.time ≤ j.moment) (λ (f : Failure). f.time ≤ at) (λ f h. omega arith) (open_of j.failures) good.orderly.by_moment));
       once = good.orderly.once;

@@ -16,18 +16,18 @@ use Rattle.f2b_base.specs.declared.job.Settled.{Settled}
 use Rattle.f2b_base.specs.declared.job.Settled.TheVariants.{Done, GivenUp, Again}
 use Rattle.f2b_base.specs.declared.job.UpLane.{UpLane}
 use Rattle.f2b_model.specs.Active.{held}
-use Rattle.f2b_model.specs.Checks.{has_check, is_closing, is_stop, lane_of, checked_lane_in, checked_lane, with_check, check_of, void_ids, left_by_check}
+use Rattle.f2b_model.specs.Checks.{has_check, is_closing, is_stop, lane_of, lane_if_checked, checked_lane, with_check, check_of, void_ids, left_by_check}
 use Rattle.f2b_model.specs.Families.{same_lane}
-use Rattle.f2b_model.specs.Jobs.{Ending, Tried, AreById, after_try, has_id, head, is_head, is_head_id, job_by_id, leads, next_due, settle_in, settled_as}
-use Rattle.f2b_model.specs.Lanes.{Lanes, books_now, void_all, restarted, failed_in, lanes_done, lanes_issued, try_ended}
+use Rattle.f2b_model.specs.Jobs.{Ending, Tried, AreById, after_try, has_id, head, is_head, is_head_id, job_by_id, leads, next_due, jobs_after_ending, settled_as}
+use Rattle.f2b_model.specs.Lanes.{Lanes, books_now, with_voided, restarted, lane_failed_if_checked, lanes_done, lanes_issued, try_ended}
 use Rattle.f2b_model.specs.Lists.{AllOf, AreDistinct}
 use Rattle.f2b_model.specs.NowMoves.{dropped_now}
 use Rattle.f2b_model.specs.Nows.{JailsNow}
 use Rattle.f2b_model.specs.Orders.{Held, order, restart_orders, takes, told_orders}
 use Rattle.f2b_model.specs.Starts.{IsStartsLaw, checks_left, jobs_then, tries_left, unchecked, unstarted}
 use Rattle.f2b_model.specs.Steps.{moves_now, at_reading, done, each_jail, ended_by_time, is_due, is_spent, step_by}
-use Rattle.f2b_model.specs.Told.{jails_told, told_done, told_each, told_ends}
-use Rattle.f2b_model.specs.Turns.{Order, numbered}
+use Rattle.f2b_model.specs.Told.{jails_told, told_done, told_by_jails, told_ends}
+use Rattle.f2b_model.specs.Alternation.{Order, numbered}
 use Rattle.f2b_model.specs.Whole.{Now, is_whole_spent, step_now}
 use Rattle.f2b_model.specs.declared.happening.Happening.{Happening}
 use Rattle.f2b_model.specs.declared.jail_now.JailNow.{JailNow}
@@ -52,7 +52,7 @@ filter_none p (x ∷ xs) e = let k = or_none (p x) (list_any p xs) e in rw k.0 (
 abbrev has_due : ℕ → List JailNow → Bool
 has_due at js = list_any (λ (j : JailNow). list_any (is_due at) j.bans) js
 
-told_none : (at : ℕ) (js : List JailNow) → has_due at js ≡ false → told_each (told_ends moves_now at) js ≡ []
+told_none : (at : ℕ) (js : List JailNow) → has_due at js ≡ false → told_by_jails (told_ends moves_now at) js ≡ []
 told_none at [] e = refl
 told_none at (j ∷ js) e =
     let k = or_none (list_any (is_due at) j.bans) (has_due at js) e in
@@ -128,8 +128,8 @@ heads_front : (id : ℕ) (xs ys : List Job) → is_head_id id xs ≡ true → is
 heads_front id xs ys h =
     let some = some_of id xs (job_by_id id xs) h in
     let there : job_by_id id (xs ++ ys) ≡ Some some.0 = find_front (λ (j : Job). j.id == id) xs ys some.0 some.1 in
-    let leads_one : has_id id (head some.0.lane xs) ≡ true = ap (leads id xs) (sym some.1) ∙ h in
-    ap (leads id (xs ++ ys)) there ∙ head_front id some.0.lane xs ys _ refl leads_one
+    let leads_there : has_id id (head some.0.lane xs) ≡ true = ap (leads id xs) (sym some.1) ∙ h in
+    ap (leads id (xs ++ ys)) there ∙ head_front id some.0.lane xs ys _ refl leads_there
 
 -- ---- tries
 
@@ -139,7 +139,7 @@ end_of id at = record { job = id; how = Tried NotStarted; at = at }
 eq_false : (a b : ℕ) → (a == b) ≡ false → (b == a) ≡ false
 eq_false a b e = ne_eqb b a (λ same. eqb-false a b e (sym same))
 
-weak : (id at : ℕ) (js : List Job) → tries_left (settle_in (end_of id at) js) ≤ tries_left js
+weak : (id at : ℕ) (js : List Job) → tries_left (jobs_after_ending (end_of id at) js) ≤ tries_left js
 weak id at [] = omega arith
 weak id at (j ∷ js) =
     by_test (id == j.id) _
@@ -149,7 +149,7 @@ weak id at (j ∷ js) =
 small : (tries : ℕ) → nat_le 2 tries ≡ false → tries < 2
 small tries e = leb-false 2 tries e
 
-strict : (id at : ℕ) (js : List Job) (job : Job) → job_by_id id js ≡ Some job → tries_left (settle_in (end_of id at) js) < tries_left js
+strict : (id at : ℕ) (js : List Job) (job : Job) → job_by_id id js ≡ Some job → tries_left (jobs_after_ending (end_of id at) js) < tries_left js
 strict id at [] job is = absurd (let k : None ≡ Some job = is in cc)
 strict id at (j ∷ js) job is =
     by_test (id == j.id) _
@@ -159,7 +159,7 @@ strict id at (j ∷ js) job is =
 
 -- the jobs after a try of one that did not start
 abbrev end_jobs : ℕ → ℕ → List Job → List Job
-end_jobs id at jobs = cond (is_head_id id jobs) (settle_in (end_of id at) jobs) jobs
+end_jobs id at jobs = cond (is_head_id id jobs) (jobs_after_ending (end_of id at) jobs) jobs
 
 tried_jobs : (at id : ℕ) (l : Lanes (List Job)) → (try_ended books_now at id NotStarted l).jobs ≡ end_jobs id at l.jobs
 tried_jobs at id l = by_test (is_head_id id l.jobs) _ (λ e. rw e refl) (λ e. rw e refl)
@@ -171,12 +171,12 @@ one_settled j Done xs ys le = omega (arith, le)
 one_settled j GivenUp xs ys le = omega (arith, le)
 one_settled j (Again due) xs ys le = omega (arith, le)
 
-checks_no_more : (e : Ending) (js : List Job) → checks_left (settle_in e js) ≤ checks_left js
+checks_no_more : (e : Ending) (js : List Job) → checks_left (jobs_after_ending e js) ≤ checks_left js
 checks_no_more e [] = omega arith
 checks_no_more e (j ∷ js) =
     let le = checks_no_more e js in
     by_test (e.job == j.id) _
-    (λ t. rw t (one_settled j (settled_as e j) (settle_in e js) js le))
+    (λ t. rw t (one_settled j (settled_as e j) (jobs_after_ending e js) js le))
     (λ t. rw t (omega (arith, le)))
 
 left_no_more : (lane : LaneId) (js : List Job) → checks_left (left_by_check lane js) ≤ checks_left js
@@ -229,9 +229,9 @@ restarted_checks at hs (Some lane) l =
     omega (arith, both, none)
 
 failed_checks : (at : ℕ) (hs : List Held) (lane : LaneId) (l : Lanes (List Job)) (job : Job) → AreById 0 l.jobs l.next_job → head lane l.jobs ≡ Some job → has_check job.kind ≡ true
-    → checks_left (failed_in books_now at hs (Some lane) l).jobs < checks_left l.jobs
+    → checks_left (lane_failed_if_checked books_now at hs (Some lane) l).jobs < checks_left l.jobs
 failed_checks at hs lane l job ids is h =
-    let left : Lanes (List Job) = void_all books_now at (void_ids lane l.jobs) l in
+    let left : Lanes (List Job) = with_voided books_now at (void_ids lane l.jobs) l in
     let same : left.jobs ≡ left_by_check lane l.jobs = voids_leave at lane 0 l.next_job l ids in
     let fewer : checks_left left.jobs < checks_left l.jobs = subst (λ (js : List Job). checks_left js < checks_left l.jobs) (sym same) (left_fewer lane l.jobs job is h) in
     let again : checks_left (restarted books_now at hs (lane_of lane l.up) left).jobs ≡ checks_left left.jobs = restarted_checks at hs (lane_of lane l.up) left in
@@ -252,9 +252,9 @@ record IsChecked (id : ℕ) (jobs : List Job) : Type 0 where
   first : is_head jobs job ≡ true
   kind : has_check job.kind ≡ true
 
-checked_one : (id : ℕ) (jobs : List Job) (x : LaneId) (o : Option Job) → job_by_id id jobs ≡ o → checked_lane_in jobs o ≡ Some x → IsChecked id jobs
-checked_one id jobs x None is e = absurd (let k : None ≡ Some x = e in cc)
-checked_one id jobs x (Some job) is e =
+is_checked_where_found : (id : ℕ) (jobs : List Job) (x : LaneId) (o : Option Job) → job_by_id id jobs ≡ o → lane_if_checked jobs o ≡ Some x → IsChecked id jobs
+is_checked_where_found id jobs x None is e = absurd (let k : None ≡ Some x = e in cc)
+is_checked_where_found id jobs x (Some job) is e =
     by_test (is_head jobs job && has_check job.kind) _
     (λ t. let parts = and_parts (is_head jobs job) (has_check job.kind) t in record { job = job; own = is; first = parts.0; kind = parts.1 })
     (λ t. absurd (let k : None ≡ Some x = rw t at e in cc))
@@ -262,7 +262,7 @@ checked_one id jobs x (Some job) is e =
 checked_of : (up : List UpLane) (id : ℕ) (jobs : List Job) (lane : UpLane) → check_of up id jobs ≡ Some lane → IsChecked id jobs
 checked_of up id jobs lane e =
     let some = then_some (λ (x : LaneId). cond (is_closing x jobs) None (with_check (lane_of x up))) (checked_lane id jobs) lane e in
-    checked_one id jobs some.0 (job_by_id id jobs) refl some.1
+    is_checked_where_found id jobs some.0 (job_by_id id jobs) refl some.1
 
 own_id : (id : ℕ) (jobs : List Job) (job : Job) → job_by_id id jobs ≡ Some job → job.id ≡ id
 own_id id [] job is = absurd (let k : None ≡ Some job = is in cc)
@@ -282,7 +282,7 @@ first_is jobs job (Some k) d own is h =
 
 -- the lanes once the bans that are due have ended
 abbrev lanes_then : ℕ → Now → Lanes (List Job)
-lanes_then now n = lanes_issued books_now (max n.jails.at now) (told_each (told_ends moves_now (max n.jails.at now)) n.jails.jails) n.lanes
+lanes_then now n = lanes_issued books_now (max n.jails.at now) (told_by_jails (told_ends moves_now (max n.jails.at now)) n.jails.jails) n.lanes
 
 module _ (n : Now) (now word : ℕ) (what : What) (live : is_whole_spent moves_now books_now n ≡ false)
     (quiet : (w : JailsNow) → done moves_now word what w ≡ w) (silent : (w : JailsNow) → told_done moves_now word what w ≡ []) where
@@ -295,9 +295,9 @@ module _ (n : Now) (now word : ℕ) (what : What) (live : is_whole_spent moves_n
   unspent : is_spent n.jails ≡ false
   unspent = (or_none (is_spent n.jails) (nat_lt (2 ^ 62) n.lanes.next_job) live).0
 
-  tells : jails_told moves_now n.jails input ≡ told_each (told_ends moves_now (max n.jails.at now)) n.jails.jails
+  tells : jails_told moves_now n.jails input ≡ told_by_jails (told_ends moves_now (max n.jails.at now)) n.jails.jails
   tells =
-      let ends = told_each (told_ends moves_now (max n.jails.at now)) n.jails.jails in
+      let ends = told_by_jails (told_ends moves_now (max n.jails.at now)) n.jails.jails in
       rw unspent (ap (λ (rest : List Happening). ends ++ rest) (silent read) ∙ append-nil ends)
 
   after_is : step_by moves_now n.jails input ≡ each_jail moves_now (moves_now.dropped read.at read.purge) read
@@ -311,15 +311,15 @@ module _ (n : Now) (now word : ℕ) (what : What) (live : is_whole_spent moves_n
       let at = max n.jails.at now in
       ap (λ (w : JailsNow). has_due at w.jails) after_is ∙ dropped_due at at n.jails.purge (map (ended_by_time moves_now at) n.jails.jails) ∙ all_none at n.jails.jails
 
-  abbrev mid : List Held
-  mid = held moves_now read
+  abbrev held_at_reading : List Held
+  held_at_reading = held moves_now read
 
   abbrev after : List Held
   after = held moves_now (step_by moves_now n.jails input)
 
-  lanes_are : (step_now n input).lanes ≡ lanes_done books_now (max n.jails.at now) what mid after (lanes_then now n)
+  lanes_are : (step_now n input).lanes ≡ lanes_done books_now (max n.jails.at now) what held_at_reading after (lanes_then now n)
   lanes_are =
-      rw live (ap₂ (λ (at : ℕ) (told : List Happening). lanes_done books_now at what mid after (lanes_issued books_now at told n.lanes)) after_at tells)
+      rw live (ap₂ (λ (at : ℕ) (told : List Happening). lanes_done books_now at what held_at_reading after (lanes_issued books_now at told n.lanes)) after_at tells)
 
   world_at : (step_now n input).jails.at ≡ max n.jails.at now
   world_at = rw live after_at
@@ -334,16 +334,16 @@ module _ (n : Now) (now word : ℕ) (what : What) (live : is_whole_spent moves_n
   jobs_later : jobs_then now (step_now n input) ≡ (step_now n input).lanes.jobs
   jobs_later =
       let m = step_now n input in
-      let none : told_each (told_ends moves_now (max m.jails.at now)) m.jails.jails ≡ [] =
-      ap (λ at. told_each (told_ends moves_now at) m.jails.jails) later_max ∙ told_none (max n.jails.at now) m.jails.jails world_none in
+      let none : told_by_jails (told_ends moves_now (max m.jails.at now)) m.jails.jails ≡ [] =
+      ap (λ at. told_by_jails (told_ends moves_now at) m.jails.jails) later_max ∙ told_none (max n.jails.at now) m.jails.jails world_none in
       ap (λ (told : List Happening). m.lanes.jobs ++ numbered m.lanes.next_job (max m.jails.at now) (told_orders m.lanes.up told)) none ∙ append-nil m.lanes.jobs
 
-  jobs_after : jobs_then now (step_now n input) ≡ (lanes_done books_now (max n.jails.at now) what mid after (lanes_then now n)).jobs
+  jobs_after : jobs_then now (step_now n input) ≡ (lanes_done books_now (max n.jails.at now) what held_at_reading after (lanes_then now n)).jobs
   jobs_after = jobs_later ∙ ap (λ (l : Lanes (List Job)). l.jobs) lanes_are
 
 -- their jobs
 abbrev new_then : ℕ → Now → List Job
-new_then now n = numbered n.lanes.next_job (max n.jails.at now) (told_orders n.lanes.up (told_each (told_ends moves_now (max n.jails.at now)) n.jails.jails))
+new_then now n = numbered n.lanes.next_job (max n.jails.at now) (told_orders n.lanes.up (told_by_jails (told_ends moves_now (max n.jails.at now)) n.jails.jails))
 
 tried_fewer : (n : Now) (now word : ℕ) (running : List ℕ) (job : Job) → is_whole_spent moves_now books_now n ≡ false → AreById 0 n.lanes.jobs n.lanes.next_job
     → next_due now running n.lanes.jobs ≡ Some job
@@ -369,7 +369,7 @@ checked_fewer : (n : Now) (now word id : ℕ) (lane : UpLane) → is_whole_spent
 checked_fewer n now word id lane live ids is =
     let at = max n.jails.at now in
     let what : What = CheckFailed id NotStarted in
-    let told = told_each (told_ends moves_now at) n.jails.jails in
+    let told = told_by_jails (told_ends moves_now at) n.jails.jails in
     let new = numbered n.lanes.next_job at (told_orders n.lanes.up told) in
     let whole = jobs_then now n in
     let checked = checked_of n.lanes.up id n.lanes.jobs lane is in
@@ -380,10 +380,10 @@ checked_fewer n now word id lane live ids is =
     let first : head job.lane whole ≡ Some job = find_front (λ (j : Job). same_lane j.lane job.lane) n.lanes.jobs new job before in
     let there : job_by_id id whole ≡ Some job = find_front (λ (j : Job). j.id == id) n.lanes.jobs new job checked.own in
     let leads_it : is_head whole job ≡ true = ap (has_id job.id) first ∙ eq-eqb job.id job.id refl in
-    let of : checked_lane id whole ≡ Some job.lane = ap (checked_lane_in whole) there ∙ (rw (leads_it, checked.kind) refl) in
+    let of : checked_lane id whole ≡ Some job.lane = ap (lane_if_checked whole) there ∙ (rw (leads_it, checked.kind) refl) in
     let hs = held moves_now (step_by moves_now n.jails (unchecked now word id)) in
-    let same : jobs_then now (step_now n (unchecked now word id)) ≡ (failed_in books_now at hs (Some job.lane) (lanes_then now n)).jobs =
-    jobs_after n now word what live (λ w. refl) (λ w. refl) ∙ ap (λ (o : Option LaneId). (failed_in books_now at hs o (lanes_then now n)).jobs) of in
+    let same : jobs_then now (step_now n (unchecked now word id)) ≡ (lane_failed_if_checked books_now at hs (Some job.lane) (lanes_then now n)).jobs =
+    jobs_after n now word what live (λ w. refl) (λ w. refl) ∙ ap (λ (o : Option LaneId). (lane_failed_if_checked books_now at hs o (lanes_then now n)).jobs) of in
     let fewer = failed_checks at hs job.lane (lanes_then now n) job (by_id_behind 0 n.lanes.jobs n.lanes.next_job at (told_orders n.lanes.up told) ids) first checked.kind in
     subst (λ (js : List Job). checks_left js < checks_left whole) (sym same) fewer
 

@@ -14,7 +14,7 @@ use Rattle.f2b_base.specs.declared.input.What.TheVariants.{Tick, Read, Ended, Co
 use Rattle.f2b_model.specs.Lists.{AllOf, in_order}
 use Rattle.f2b_model.specs.State.{JailsOf, map_jails}
 use Rattle.f2b_model.specs.Moves.{JailAndSerial, counts}
-use Rattle.f2b_model.specs.Steps.{JailOps, JailsAndSerial, with_serial, is_spent, is_due, own_end, ends_before, is_meant, is_meant_jail, end_all, ended_by_time, unbanned, in_jail, find_jail, kept_or_fresh, configured, at_jail, alone, done, each_jail, raised, step_by, found_in_turn, read_in_jail, banned_in_turn}
+use Rattle.f2b_model.specs.Steps.{JailOps, JailsAndSerial, with_serial, is_spent, is_due, own_end, ends_before, is_meant, is_meant_jail, bans_ended, ended_by_time, unbanned, in_jail, find_jail, kept_or_fresh, configured, at_jail, alone, done, each_jail, raised, step_by, found_in_turn, read_in_jail, banned_in_turn}
 use Rattle.f2b_base.specs.Limits.{last_moment}
 use Rattle.f2b_model.specs.Watches.{is_watched}
 use Rattle.f2b_model.specs.Sound.{IsFitWhat, IsFit}
@@ -85,16 +85,16 @@ module _ {J K : Type 0} (m : JailOps J) (k : JailOps K) (h : J → K) (Good Calm
   pub calm_world : (w : JailsOf J) → CalmWorld w → GoodWorld w
   calm_world w a = (a.0, all_of-more (Calm w.at) (Good w.at) (shows.calm_good w.at) w.jails a.1)
 
-  end_all_shows : (moment : Ban → ℕ) (bs : List Ban) (j : J) → h (end_all m moment bs j) ≡ end_all k moment bs (h j)
-  end_all_shows moment [] j = refl
-  end_all_shows moment (b ∷ bs) j =
-      end_all_shows moment bs (m.ended b.addr (moment b) j) ∙ ap (λ r. end_all k moment bs r) (shows.ended b.addr (moment b) j)
+  bans_ended_shows : (moment : Ban → ℕ) (bs : List Ban) (j : J) → h (bans_ended m moment bs j) ≡ bans_ended k moment bs (h j)
+  bans_ended_shows moment [] j = refl
+  bans_ended_shows moment (b ∷ bs) j =
+      bans_ended_shows moment bs (m.ended b.addr (moment b) j) ∙ ap (λ r. bans_ended k moment bs r) (shows.ended b.addr (moment b) j)
 
   pub by_time_shows : (at : ℕ) (j : J) → h (ended_by_time m at j) ≡ ended_by_time k at (h j)
-  by_time_shows at j = rw (shows.active j) (end_all_shows own_end (in_order ends_before (filter (is_due at) (m.active j))) j)
+  by_time_shows at j = rw (shows.active j) (bans_ended_shows own_end (in_order ends_before (filter (is_due at) (m.active j))) j)
 
   unbanned_shows : (at : ℕ) (addrs : Option (List Addr)) (j : J) → h (unbanned m at addrs j) ≡ unbanned k at addrs (h j)
-  unbanned_shows at addrs j = rw (shows.active j) (end_all_shows (λ b. at) (filter (is_meant addrs) (m.active j)) j)
+  unbanned_shows at addrs j = rw (shows.active j) (bans_ended_shows (λ b. at) (filter (is_meant addrs) (m.active j)) j)
 
   in_jail_shows : (at : ℕ) (name : List ℕ) (f : ℕ → J → JailAndSerial J) (g : ℕ → K → JailAndSerial K)
       → ((n : ℕ) (j : J) → Good at j → out_map h (f n j) ≡ g n (h j))

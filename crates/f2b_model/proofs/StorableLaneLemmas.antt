@@ -21,12 +21,12 @@ use Rattle.f2b_base.specs.declared.job.UpLane.{UpLane}
 use Rattle.f2b_model.specs.declared.happening.Happening.{Happening}
 use Rattle.f2b_model.specs.declared.happening.Happening.TheVariants.{Counts, Begins, Ends}
 use Rattle.f2b_model.specs.Checks.{is_closing, lane_of, checked_lane, void_ids, voided_at}
-use Rattle.f2b_model.specs.Jobs.{Ending, Tried, after_try, is_head_id, settle_in, settled_as, settles}
-use Rattle.f2b_model.specs.Lanes.{Lanes, books_now, issue, lane_down, lane_up, all_down, all_up, try_ended, void_all, restarted, failed_in, others_down, lanes_configured, lanes_issued, lanes_done, lanes_step, lanes_of_jail, lanes_of, is_among}
+use Rattle.f2b_model.specs.Jobs.{Ending, Tried, after_try, is_head_id, jobs_after_ending, settled_as, settles}
+use Rattle.f2b_model.specs.Lanes.{Lanes, books_now, issue, lane_down, lane_up, all_down, all_up, try_ended, with_voided, restarted, lane_failed_if_checked, others_down, lanes_configured, lanes_issued, lanes_done, lanes_step, lanes_of_jail, lanes_of, includes_lane}
 use Rattle.f2b_model.specs.Lists.{AllOf}
-use Rattle.f2b_model.specs.Orders.{Held, addr_in, fill_of, template, lane_id, is_lane, is_up, takes, order, order_showing, ban_orders, lane_orders, down_orders, up_orders, restart_orders, told_orders}
+use Rattle.f2b_model.specs.Orders.{Held, held_addr, fill_of, template, lane_id, is_lane, is_up, takes, order, order_showing, ban_orders, lane_orders, down_orders, up_orders, restart_orders, told_orders}
 use Rattle.f2b_model.specs.Storable.{IsSpanOfTime, IsStorableAction, IsStorableAddr, IsStorableBan, IsStorableDef, IsStorableLane, IsStorableUp, IsStorableWhat}
-use Rattle.f2b_model.specs.Turns.{Order, numbered}
+use Rattle.f2b_model.specs.Alternation.{Order, numbered}
 use Rattle.f2b_model.proofs.ListLemmas.{by_test}
 use Rattle.f2b_model.proofs.OrderlyLemmas.{all_of-filter, all_of-push}
 use Rattle.f2b_model.proofs.ShownTextLemmas.{IsStorableOf, values_utf8}
@@ -63,7 +63,7 @@ record IsStorableOrder (o : Order) : Type 0 where
   text : IsUtf8 o.text
   timeout : IsSpanOfTime o.timeout
 
-addr_stored : (of : Option Held) → IsStorableOf of → IsStorableAddr (addr_in of)
+addr_stored : (of : Option Held) → IsStorableOf of → IsStorableAddr (held_addr of)
 addr_stored None s = tt
 addr_stored (Some h) s = s.addr
 
@@ -147,10 +147,10 @@ one_settled e job jobs one a =
     let few : job.tries < 2 = leb-false 2 job.tries u in
     rw u (record { lane = one.lane; addr = one.addr; text = one.text; timeout = one.timeout; tries = omega (arith, few); due = omega arith }, a))))
 
-settle_stored : (e : Ending) (jobs : List Job) → AllOf IsWork jobs → AllOf IsWork (settle_in e jobs)
+settle_stored : (e : Ending) (jobs : List Job) → AllOf IsWork jobs → AllOf IsWork (jobs_after_ending e jobs)
 settle_stored e [] a = tt
 settle_stored e (job ∷ jobs) a = elim (cases_Bool (e.job == job.id)) [
-  | inl y ↦ rw y (one_settled e job (settle_in e jobs) a.0 (settle_stored e jobs a.1))
+  | inl y ↦ rw y (one_settled e job (jobs_after_ending e jobs) a.0 (settle_stored e jobs a.1))
   | inr n ↦ rw n (a.0, settle_stored e jobs a.1)
 ]
 
@@ -168,20 +168,20 @@ all_up_stored at hs (u ∷ ls) l h a b s =
     let issued = issue_stored at (up_orders u hs) l h (up_stored u hs b.0 a) s in
     all_up_stored at hs ls (lane_up books_now at hs u l) h a b.1 (record { up = all_of-push IsStorableUp l.up u s.up b.0; jobs = issued.jobs })
 
-void_all_stored : (at : ℕ) (ids : List ℕ) (l : Lanes (List Job)) → AreWorkLanes l → AreWorkLanes (void_all books_now at ids l)
-void_all_stored at [] l s = s
-void_all_stored at (id ∷ ids) l s = void_all_stored at ids (record l { jobs = settle_in (voided_at id at) l.jobs }) (record { up = s.up; jobs = settle_stored (voided_at id at) l.jobs s.jobs })
+with_voided_stored : (at : ℕ) (ids : List ℕ) (l : Lanes (List Job)) → AreWorkLanes l → AreWorkLanes (with_voided books_now at ids l)
+with_voided_stored at [] l s = s
+with_voided_stored at (id ∷ ids) l s = with_voided_stored at ids (record l { jobs = jobs_after_ending (voided_at id at) l.jobs }) (record { up = s.up; jobs = settle_stored (voided_at id at) l.jobs s.jobs })
 
 restarted_stored : (at : ℕ) (hs : List Held) (o : Option UpLane) (l : Lanes (List Job)) → at ≤ last_moment → AllOf IsStorableHeld hs → ((u : UpLane) → o ≡ Some u → IsStorableUp u) → AreWorkLanes l
     → AreWorkLanes (restarted books_now at hs o l)
 restarted_stored at hs None l h a each s = s
 restarted_stored at hs (Some u) l h a each s = issue_stored at (restart_orders u hs) l h (restart_stored u hs (each u refl) a) s
 
-failed_in_stored : (at : ℕ) (hs : List Held) (o : Option LaneId) (l : Lanes (List Job)) → at ≤ last_moment → AllOf IsStorableHeld hs → AreWorkLanes l → AreWorkLanes (failed_in books_now at hs o l)
-failed_in_stored at hs None l h a s = s
-failed_in_stored at hs (Some lane) l h a s =
-    let left : Lanes (List Job) = void_all books_now at (void_ids lane l.jobs) l in
-    let kept = void_all_stored at (void_ids lane l.jobs) l s in
+lane_failed_if_checked_stored : (at : ℕ) (hs : List Held) (o : Option LaneId) (l : Lanes (List Job)) → at ≤ last_moment → AllOf IsStorableHeld hs → AreWorkLanes l → AreWorkLanes (lane_failed_if_checked books_now at hs o l)
+lane_failed_if_checked_stored at hs None l h a s = s
+lane_failed_if_checked_stored at hs (Some lane) l h a s =
+    let left : Lanes (List Job) = with_voided books_now at (void_ids lane l.jobs) l in
+    let kept = with_voided_stored at (void_ids lane l.jobs) l s in
     elim (cases_Bool (is_closing lane l.jobs)) [
       | inl y ↦ rw y kept
       | inr n ↦ rw n (restarted_stored at hs (lane_of lane l.up) left h a (λ u is. all_found IsStorableUp (is_lane lane) l.up u s.up is) kept)
@@ -200,32 +200,32 @@ lanes_stored : (ds : List JailDef) → AllOf IsStorableDef ds → AllOf IsStorab
 lanes_stored [] a = tt
 lanes_stored (d ∷ ds) a = all_both IsStorableUp (lanes_of_jail d) (flat_map lanes_of_jail ds) (jail_lanes_stored d a.0) (lanes_stored ds a.1)
 
-configured_stored : (at : ℕ) (mid after : List Held) (new : List UpLane) (l : Lanes (List Job)) → at ≤ last_moment → AllOf IsStorableHeld mid → AllOf IsStorableHeld after → AllOf IsStorableUp new → AreWorkLanes l
-    → AreWorkLanes (lanes_configured books_now at mid after new l)
-configured_stored at mid after new l h m a b s =
+configured_stored : (at : ℕ) (held_at_reading after : List Held) (new : List UpLane) (l : Lanes (List Job)) → at ≤ last_moment → AllOf IsStorableHeld held_at_reading → AllOf IsStorableHeld after → AllOf IsStorableUp new → AreWorkLanes l
+    → AreWorkLanes (lanes_configured books_now at held_at_reading after new l)
+configured_stored at held_at_reading after new l h m a b s =
     let open_lanes : Lanes (List Job) = record l { stopping = false } in
-    let fewer : Lanes (List Job) = others_down books_now at mid new open_lanes in
-    let down = all_down_stored at mid (filter (λ lane. not (is_among new lane)) l.up) open_lanes h m (all_of-filter IsStorableUp (λ lane. not (is_among new lane)) l.up s.up) (record { up = s.up; jobs = s.jobs }) in
+    let fewer : Lanes (List Job) = others_down books_now at held_at_reading new open_lanes in
+    let down = all_down_stored at held_at_reading (filter (λ lane. not (includes_lane new lane)) l.up) open_lanes h m (all_of-filter IsStorableUp (λ lane. not (includes_lane new lane)) l.up s.up) (record { up = s.up; jobs = s.jobs }) in
     all_up_stored at after (filter (λ lane. not (is_up fewer.up (lane_id lane))) new) fewer h a (all_of-filter IsStorableUp (λ lane. not (is_up fewer.up (lane_id lane))) new b) down
 
-lanes_done_stored : (at : ℕ) (what : What) (mid after : List Held) (l : Lanes (List Job)) → at ≤ last_moment → AllOf IsStorableHeld mid → AllOf IsStorableHeld after → IsStorableWhat what → AreWorkLanes l
-    → AreWorkLanes (lanes_done books_now at what mid after l)
-lanes_done_stored at (Ended job outcome) mid after l h m a w s = try_stored at job outcome l s
-lanes_done_stored at StopAll mid after l h m a w s = let down = all_down_stored at mid l.up l h m s.up s in record { up = down.up; jobs = down.jobs }
-lanes_done_stored at (Config defs) mid after l h m a w s = configured_stored at mid after (lanes_of defs) l h m a (lanes_stored defs.jails w.jails) s
-lanes_done_stored at (CheckFailed job outcome) mid after l h m a w s = failed_in_stored at after (checked_lane job l.jobs) l h a s
-lanes_done_stored at Tick mid after l h m a w s = s
-lanes_done_stored at (Read jail path place fs) mid after l h m a w s = s
-lanes_done_stored at (BanThese jail addrs) mid after l h m a w s = s
-lanes_done_stored at (UnbanThese jail addrs) mid after l h m a w s = s
-lanes_done_stored at (Attempt jail addr) mid after l h m a w s = s
-lanes_done_stored at (Ignore jail cidr add) mid after l h m a w s = s
-lanes_done_stored at (Findtime jail secs) mid after l h m a w s = s
-lanes_done_stored at (Bantime jail secs) mid after l h m a w s = s
-lanes_done_stored at (Maxretry jail number) mid after l h m a w s = s
-lanes_done_stored at (Idle jail idle) mid after l h m a w s = s
+lanes_done_stored : (at : ℕ) (what : What) (held_at_reading after : List Held) (l : Lanes (List Job)) → at ≤ last_moment → AllOf IsStorableHeld held_at_reading → AllOf IsStorableHeld after → IsStorableWhat what → AreWorkLanes l
+    → AreWorkLanes (lanes_done books_now at what held_at_reading after l)
+lanes_done_stored at (Ended job outcome) held_at_reading after l h m a w s = try_stored at job outcome l s
+lanes_done_stored at StopAll held_at_reading after l h m a w s = let down = all_down_stored at held_at_reading l.up l h m s.up s in record { up = down.up; jobs = down.jobs }
+lanes_done_stored at (Config defs) held_at_reading after l h m a w s = configured_stored at held_at_reading after (lanes_of defs) l h m a (lanes_stored defs.jails w.jails) s
+lanes_done_stored at (CheckFailed job outcome) held_at_reading after l h m a w s = lane_failed_if_checked_stored at after (checked_lane job l.jobs) l h a s
+lanes_done_stored at Tick held_at_reading after l h m a w s = s
+lanes_done_stored at (Read jail path place fs) held_at_reading after l h m a w s = s
+lanes_done_stored at (BanThese jail addrs) held_at_reading after l h m a w s = s
+lanes_done_stored at (UnbanThese jail addrs) held_at_reading after l h m a w s = s
+lanes_done_stored at (Attempt jail addr) held_at_reading after l h m a w s = s
+lanes_done_stored at (Ignore jail cidr add) held_at_reading after l h m a w s = s
+lanes_done_stored at (Findtime jail secs) held_at_reading after l h m a w s = s
+lanes_done_stored at (Bantime jail secs) held_at_reading after l h m a w s = s
+lanes_done_stored at (Maxretry jail number) held_at_reading after l h m a w s = s
+lanes_done_stored at (Idle jail idle) held_at_reading after l h m a w s = s
 
-pub lanes_step_stored : (at : ℕ) (what : What) (mid after : List Held) (told : List Happening) (l : Lanes (List Job)) → at ≤ last_moment → AllOf IsStorableHeld mid → AllOf IsStorableHeld after → AllOf IsToldWell told → IsStorableWhat what → AreWorkLanes l
-    → AreWorkLanes (lanes_step books_now at what mid after told l)
-lanes_step_stored at what mid after told l h m a t w s =
-    lanes_done_stored at what mid after (lanes_issued books_now at told l) h m a w (issue_stored at (told_orders l.up told) l h (told_orders_stored l.up told s.up t) s)
+pub lanes_step_stored : (at : ℕ) (what : What) (held_at_reading after : List Held) (told : List Happening) (l : Lanes (List Job)) → at ≤ last_moment → AllOf IsStorableHeld held_at_reading → AllOf IsStorableHeld after → AllOf IsToldWell told → IsStorableWhat what → AreWorkLanes l
+    → AreWorkLanes (lanes_step books_now at what held_at_reading after told l)
+lanes_step_stored at what held_at_reading after told l h m a t w s =
+    lanes_done_stored at what held_at_reading after (lanes_issued books_now at told l) h m a w (issue_stored at (told_orders l.up told) l h (told_orders_stored l.up told s.up t) s)

@@ -31,11 +31,11 @@ use Rattle.f2b_model.specs.Lists.{AllOf, in_order, placed}
 use Rattle.f2b_model.specs.Moves.{JailAndSerial, plus_one_capped, up_to_32, counts, is_banned, is_near, is_stale, ban_of, new_ban, past_of, same_cidr, spanned, ignored, is_timely}
 use Rattle.f2b_model.specs.NowMoves.{found_now, counted_now, begun_now, banned_now, ended_now, dropped_now, limited_now, kept_now, fresh_now}
 use Rattle.f2b_model.specs.Nows.{comes_before, JailsNow}
-use Rattle.f2b_model.specs.Steps.{moves_now, is_spent, is_due, own_end, end_of, ends_before, is_meant, is_meant_jail, end_all, ended_by_time, unbanned, in_jail, find_jail, kept_or_fresh, configured, at_jail, alone, done, each_jail, raised, jails_step_now, found_in_turn, read_in_jail, banned_in_turn}
+use Rattle.f2b_model.specs.Steps.{moves_now, is_spent, is_due, own_end, end_of, ends_before, is_meant, is_meant_jail, bans_ended, ended_by_time, unbanned, in_jail, find_jail, kept_or_fresh, configured, at_jail, alone, done, each_jail, raised, jails_step_now, found_in_turn, read_in_jail, banned_in_turn}
 use Rattle.f2b_model.specs.Storable.{most_numbers, IsSpanOfTime, IsWithin, IsBase, IsStorableFailure, IsStorableUntil, IsStorableBan, IsStorablePast, IsStorablePlace, IsStorableWatch, IsStorableDef, IsStorableJail, IsStorableWhat, IsStorableInput}
 use Rattle.f2b_model.specs.Until.{until_after}
-use Rattle.f2b_model.specs.Watches.{first_place, place_in, watches_of, with_place, is_watched}
-use Rattle.f2b_model.proofs.EndLemmas.{all_placed, all_placed_all}
+use Rattle.f2b_model.specs.Watches.{first_place, place_or_first, watches_of, with_place, is_watched}
+use Rattle.f2b_model.proofs.EndLemmas.{all_placed, all_with_placed}
 use Rattle.f2b_model.proofs.ListLemmas.{by_test, filter_in_order, placed_in_order}
 use Rattle.f2b_model.proofs.MarkLemmas.{failures_order}
 use Rattle.f2b_model.proofs.OrderlyLemmas.{all_of-filter, all_of-push, once_filter, once_push}
@@ -131,21 +131,21 @@ ended_stored addr moment j a h p =
 abbrev EndsWell : (Ban → ℕ) → Ban → Type 0
 EndsWell moment b = IsAddr b.addr × (moment b ≤ last_moment)
 
-end_all_stored : (moment : Ban → ℕ) (ds : List Ban) (j : JailNow) → AllOf (EndsWell moment) ds → IsStorableJail j → IsStorableJail (end_all moves_now moment ds j)
-end_all_stored moment [] j all p = p
-end_all_stored moment (d ∷ ds) j all p = end_all_stored moment ds (ended_now d.addr (moment d) j) all.1 (ended_stored d.addr (moment d) j all.0.0 all.0.1 p)
+bans_ended_stored : (moment : Ban → ℕ) (ds : List Ban) (j : JailNow) → AllOf (EndsWell moment) ds → IsStorableJail j → IsStorableJail (bans_ended moves_now moment ds j)
+bans_ended_stored moment [] j all p = p
+bans_ended_stored moment (d ∷ ds) j all p = bans_ended_stored moment ds (ended_now d.addr (moment d) j) all.1 (ended_stored d.addr (moment d) j all.0.0 all.0.1 p)
 
 pub by_time_stored : (at : ℕ) (j : JailNow) → IsStorableJail j → IsStorableJail (ended_by_time moves_now at j)
 by_time_stored at j p =
     let due = filter (is_due at) j.bans in
     let well : AllOf (EndsWell own_end) due =
     all_of-more IsStorableBan (EndsWell own_end) (λ (b : Ban) s. (s.addr, end_last b.until s.until)) due (all_of-filter IsStorableBan (is_due at) j.bans p.bans) in
-    end_all_stored own_end (in_order ends_before due) j (all_placed_all (EndsWell own_end) ends_before [] due tt well) p
+    bans_ended_stored own_end (in_order ends_before due) j (all_with_placed (EndsWell own_end) ends_before [] due tt well) p
 
 unbanned_stored : (at : ℕ) (addrs : Option (List Addr)) (j : JailNow) → at ≤ last_moment → IsStorableJail j → IsStorableJail (unbanned moves_now at addrs j)
 unbanned_stored at addrs j h p =
     let these = filter (is_meant addrs) j.bans in
-    end_all_stored (λ b. at) these j (all_of-more IsStorableBan (EndsWell (λ b. at)) (λ (b : Ban) s. (s.addr, h)) these (all_of-filter IsStorableBan (is_meant addrs) j.bans p.bans)) p
+    bans_ended_stored (λ b. at) these j (all_of-more IsStorableBan (EndsWell (λ b. at)) (λ (b : Ban) s. (s.addr, h)) these (all_of-filter IsStorableBan (is_meant addrs) j.bans p.bans)) p
 
 dropped_stored : (at purge : ℕ) (j : JailNow) → IsStorableJail j → IsStorableJail (dropped_now at purge j)
 dropped_stored at purge j p = record {
@@ -295,13 +295,13 @@ first_stored : (tail : Bool) → IsStorablePlace (first_place tail)
 first_stored true = tt
 first_stored false = (omega arith, refl)
 
-place_in_stored : (ws : List WatchView) (d : WatchDef) → AllOf IsStorableWatch ws → IsStorablePlace (place_in ws d)
-place_in_stored [] d all = first_stored d.tail
-place_in_stored (w ∷ ws) d all = by_test (bytes_eq w.path d.path) _ (λ e. rw e (all.0.place)) (λ e. rw e (place_in_stored ws d all.1))
+place_or_first_stored : (ws : List WatchView) (d : WatchDef) → AllOf IsStorableWatch ws → IsStorablePlace (place_or_first ws d)
+place_or_first_stored [] d all = first_stored d.tail
+place_or_first_stored (w ∷ ws) d all = by_test (bytes_eq w.path d.path) _ (λ e. rw e (all.0.place)) (λ e. rw e (place_or_first_stored ws d all.1))
 
 watches_of_stored : (ds : List WatchDef) (ws : List WatchView) → AllOf (λ (w : WatchDef). IsUtf8 w.path) ds → AllOf IsStorableWatch ws → AllOf IsStorableWatch (watches_of ds ws)
 watches_of_stored [] ws paths all = tt
-watches_of_stored (d ∷ ds) ws paths all = (record { path = paths.0; place = place_in_stored ws d all }, watches_of_stored ds ws paths.1 all)
+watches_of_stored (d ∷ ds) ws paths all = (record { path = paths.0; place = place_or_first_stored ws d all }, watches_of_stored ds ws paths.1 all)
 
 kept_stored : (d : JailDef) (j : JailNow) → IsStorableDef d → IsStorableJail j → IsStorableJail (kept_now d j)
 kept_stored d j s p =

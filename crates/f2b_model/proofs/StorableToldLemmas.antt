@@ -14,7 +14,7 @@ use Rattle.f2b_base.specs.declared.input.What.TheVariants.{Tick, Read, Ended, Co
 use Rattle.f2b_model.specs.declared.happening.Happening.{Happening}
 use Rattle.f2b_model.specs.declared.happening.Happening.TheVariants.{Counts, Ends}
 use Rattle.f2b_model.specs.declared.jail_now.JailNow.{JailNow}
-use Rattle.f2b_model.specs.Active.{held_by, held_in}
+use Rattle.f2b_model.specs.Active.{held_by, held_by_jail}
 use Rattle.f2b_model.specs.Lists.{AllOf, in_order}
 use Rattle.f2b_model.specs.Moves.{counts, is_near}
 use Rattle.f2b_model.specs.NowMoves.{counted_now, found_now, banned_now, shown_now}
@@ -22,9 +22,9 @@ use Rattle.f2b_model.specs.Nows.{JailsNow}
 use Rattle.f2b_base.specs.declared.jail.Place.{Place}
 use Rattle.f2b_model.specs.Steps.{moves_now, named, is_spent, is_due, ends_before, is_meant, is_meant_jail, at_reading, ended_by_time}
 use Rattle.f2b_model.specs.Storable.{most_numbers, IsStorableBan, IsStorableFailure, IsStorableInput, IsStorableJail, IsStorableWhat, IsStorablePlace}
-use Rattle.f2b_model.specs.Told.{begins, told_each, told_new, told_found, told_banned, told_ends, told_unbanned, told_in, told_done, jails_told, told_found_in_turn, told_banned_in_turn, told_read}
+use Rattle.f2b_model.specs.Told.{begins, told_by_jails, told_new, told_found, told_banned, told_ends, told_unbanned, told_by_name, told_done, jails_told, told_found_in_turn, told_banned_in_turn, told_read}
 use Rattle.f2b_model.specs.Watches.{is_watched}
-use Rattle.f2b_model.proofs.EndLemmas.{all_placed_all}
+use Rattle.f2b_model.proofs.EndLemmas.{all_with_placed}
 use Rattle.f2b_model.proofs.ListLemmas.{by_test}
 use Rattle.f2b_model.proofs.OrderlyLemmas.{all_of-filter}
 use Rattle.f2b_model.proofs.SerialLemmas.{few_taken, banned_next, found_next}
@@ -38,7 +38,7 @@ use Rattle.f2b_model.proofs.StorableLaneLemmas.{all_both, all_drop, IsStorableHe
 pub held_stored : (js : List JailNow) → AllOf IsStorableJail js → AllOf IsStorableHeld (held_by moves_now js)
 held_stored [] a = tt
 held_stored (j ∷ js) a =
-    all_both IsStorableHeld (held_in moves_now j) (held_by moves_now js)
+    all_both IsStorableHeld (held_by_jail moves_now j) (held_by moves_now js)
     (all_of-map IsStorableBan IsStorableHeld (λ (b : Banned). record { jail = named moves_now j; ban = b }) (λ b s. s) j.bans a.0.bans) (held_stored js a.1)
 
 told_new_well : (lines : List ℕ) (old new : JailNow) → IsUtf8 lines → IsStorableJail new → AllOf IsToldWell (told_new moves_now lines old new)
@@ -56,13 +56,13 @@ told_found_well at word n f j h few one s =
     where_told (counts at j.definition j.bans f) (Counts (named moves_now j) f.addr ∷ told_new moves_now (shown_now at f j) j (found_now at word n f j).jail)
     (tt, told_new_well (shown_now at f j) j (found_now at word n f j).jail (shown_utf8 at f j) (found_stored at word n f j h few one s))
 
-told_in_well : (name : List ℕ) (t : JailNow → List Happening) → ((j : JailNow) → IsStorableJail j → AllOf IsToldWell (t j)) → (js : List JailNow) → AllOf IsStorableJail js → AllOf IsToldWell (told_in moves_now name t js)
-told_in_well name t each [] a = tt
-told_in_well name t each (j ∷ js) a = by_test (bytes_eq j.definition.name name) _ (λ e. rw e (each j a.0)) (λ e. rw e (told_in_well name t each js a.1))
+told_by_name_well : (name : List ℕ) (t : JailNow → List Happening) → ((j : JailNow) → IsStorableJail j → AllOf IsToldWell (t j)) → (js : List JailNow) → AllOf IsStorableJail js → AllOf IsToldWell (told_by_name moves_now name t js)
+told_by_name_well name t each [] a = tt
+told_by_name_well name t each (j ∷ js) a = by_test (bytes_eq j.definition.name name) _ (λ e. rw e (each j a.0)) (λ e. rw e (told_by_name_well name t each js a.1))
 
-told_each_well : (t : JailNow → List Happening) → ((j : JailNow) → IsStorableJail j → AllOf IsToldWell (t j)) → (js : List JailNow) → AllOf IsStorableJail js → AllOf IsToldWell (told_each t js)
-told_each_well t each [] a = tt
-told_each_well t each (j ∷ js) a = all_both IsToldWell (t j) (told_each t js) (each j a.0) (told_each_well t each js a.1)
+told_by_jails_well : (t : JailNow → List Happening) → ((j : JailNow) → IsStorableJail j → AllOf IsToldWell (t j)) → (js : List JailNow) → AllOf IsStorableJail js → AllOf IsToldWell (told_by_jails t js)
+told_by_jails_well t each [] a = tt
+told_by_jails_well t each (j ∷ js) a = all_both IsToldWell (t j) (told_by_jails t js) (each j a.0) (told_by_jails_well t each js a.1)
 
 found_in_turn_well : (at word : ℕ) (fs : List Failure) (n : ℕ) (j : JailNow) → at ≤ last_moment → n + length fs ≤ most_numbers → AllOf IsStorableFailure fs
     → IsStorableJail j → AllOf IsToldWell (told_found_in_turn moves_now at word fs n j)
@@ -96,7 +96,7 @@ ends_well name bs a = all_of-map IsStorableBan IsToldWell (Ends name) (λ b s. s
 
 told_ends_well : (at : ℕ) (j : JailNow) → IsStorableJail j → AllOf IsToldWell (told_ends moves_now at j)
 told_ends_well at j s =
-    ends_well j.definition.name (in_order ends_before (filter (is_due at) j.bans)) (all_placed_all IsStorableBan ends_before [] (filter (is_due at) j.bans) tt (all_of-filter IsStorableBan (is_due at) j.bans s.bans))
+    ends_well j.definition.name (in_order ends_before (filter (is_due at) j.bans)) (all_with_placed IsStorableBan ends_before [] (filter (is_due at) j.bans) tt (all_of-filter IsStorableBan (is_due at) j.bans s.bans))
 
 told_unbanned_well : (jail : Option (List ℕ)) (addrs : Option (List Addr)) (j : JailNow) → IsStorableJail j → AllOf IsToldWell (told_unbanned moves_now jail addrs j)
 told_unbanned_well jail addrs j s =
@@ -107,17 +107,17 @@ told_unbanned_well jail addrs j s =
 told_done_well : (word : ℕ) (what : What) (w : JailsNow) → w.at ≤ last_moment → w.next_ban ≤ 2 ^ 62 → IsStorableWhat what → AllOf IsStorableJail w.jails → AllOf IsToldWell (told_done moves_now word what w)
 told_done_well word (Read jail path place fs) w h few b a =
     let most = b.4 in
-    told_in_well jail (told_read moves_now w.at word path place fs w.next_ban)
+    told_by_name_well jail (told_read moves_now w.at word path place fs w.next_ban)
     (λ j s. told_read_well w.at word path place fs w.next_ban j h (omega (arith, few, most)) b.2 b.3 s) w.jails a
 told_done_well word (Attempt jail addr) w h few b a =
     let fs : List Failure = record { addr = addr; time = w.at; line = [] } ∷ [] in
-    told_in_well jail (told_found_in_turn moves_now w.at word fs w.next_ban)
+    told_by_name_well jail (told_found_in_turn moves_now w.at word fs w.next_ban)
     (λ j s. found_in_turn_well w.at word fs w.next_ban j h (omega (arith, few)) (attempt_stored addr w.at b.1 h, tt) s) w.jails a
 told_done_well word (BanThese jail addrs) w h few b a =
     let most = b.3 in
-    told_in_well jail (told_banned_in_turn moves_now w.at word addrs w.next_ban)
+    told_by_name_well jail (told_banned_in_turn moves_now w.at word addrs w.next_ban)
     (λ j s. banned_in_turn_well w.at word addrs w.next_ban j h (omega (arith, few, most)) b.1 s) w.jails a
-told_done_well word (UnbanThese jail addrs) w h few b a = told_each_well (told_unbanned moves_now jail addrs) (told_unbanned_well jail addrs) w.jails a
+told_done_well word (UnbanThese jail addrs) w h few b a = told_by_jails_well (told_unbanned moves_now jail addrs) (told_unbanned_well jail addrs) w.jails a
 told_done_well word Tick w h few b a = tt
 told_done_well word (Ended job outcome) w h few b a = tt
 told_done_well word (Config defs) w h few b a = tt
@@ -140,6 +140,6 @@ told_well w input h b a =
     (λ e. rw e tt)
     (λ e.
     let at : max w.at input.secs ≤ last_moment = (let k = b.secs in omega (arith, h, k)) in
-    rw e (all_both IsToldWell (told_each (told_ends moves_now (max w.at input.secs)) w.jails) (told_done moves_now input.word input.what (at_reading moves_now input.secs w))
-    (told_each_well (told_ends moves_now (max w.at input.secs)) (told_ends_well (max w.at input.secs)) w.jails a)
+    rw e (all_both IsToldWell (told_by_jails (told_ends moves_now (max w.at input.secs)) w.jails) (told_done moves_now input.word input.what (at_reading moves_now input.secs w))
+    (told_by_jails_well (told_ends moves_now (max w.at input.secs)) (told_ends_well (max w.at input.secs)) w.jails a)
     (told_done_well input.word input.what (at_reading moves_now input.secs w) at (few_taken w e) b.what (read_stored w (max w.at input.secs) a))))

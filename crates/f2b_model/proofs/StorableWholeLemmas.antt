@@ -43,9 +43,9 @@ whole_stored n input b few s =
     let jails = step_stored n.jails input s.at b s.jails in
     let beside = step_beside n.jails input b (s.at, s.purge) in
     let ids = ids_rise n input s.by_id in
-    let reading = read_stored n.jails (max n.jails.at input.secs) s.jails in
+    let stored_at_reading = read_stored n.jails (max n.jails.at input.secs) s.jails in
     let work = lanes_step_stored (step_by moves_now n.jails input).at input.what (held moves_now (at_reading moves_now input.secs n.jails)) (held moves_now (step_by moves_now n.jails input))
-    (jails_told moves_now n.jails input) n.lanes beside.0 (held_stored (map (ended_by_time moves_now (max n.jails.at input.secs)) n.jails.jails) reading)
+    (jails_told moves_now n.jails input) n.lanes beside.0 (held_stored (map (ended_by_time moves_now (max n.jails.at input.secs)) n.jails.jails) stored_at_reading)
     (held_stored (step_by moves_now n.jails input).jails jails) (told_well n.jails input s.at b s.jails) b.what (record { up = s.lanes.up; jobs = without_ids n.lanes.jobs s.lanes.jobs }) in
     let apart = step_apart books_now (step_by moves_now n.jails input).at input.what (held moves_now (at_reading moves_now input.secs n.jails)) (held moves_now (step_by moves_now n.jails input))
     (jails_told moves_now n.jails input) n.lanes b.what s.lanes.apart in

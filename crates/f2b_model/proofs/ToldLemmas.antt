@@ -19,7 +19,7 @@ use Rattle.f2b_model.specs.Watches.{is_watched}
 use Rattle.f2b_model.specs.Steps.{JailOps, moves, moves_now, is_spent, is_due, ends_before, is_meant, is_meant_jail, ended_by_time, each_jail, raised}
 use Rattle.f2b_model.specs.Sound.{IsFit, IsGoodJail, AreSoundJails}
 use Rattle.f2b_model.specs.declared.happening.Happening.{Happening}
-use Rattle.f2b_model.specs.Told.{begins, told_each, told_new, told_found, told_ends, told_unbanned, told_in, told_done, jails_told, told_found_in_turn, told_banned_in_turn, told_read}
+use Rattle.f2b_model.specs.Told.{begins, told_by_jails, told_new, told_found, told_ends, told_unbanned, told_by_name, told_done, jails_told, told_found_in_turn, told_banned_in_turn, told_read}
 use Rattle.f2b_model.specs.declared.happening.Happening.TheVariants.{Counts, Ends}
 use Rattle.f2b_model.proofs.ListLemmas.{by_test}
 use Rattle.f2b_model.proofs.StepLemmas.{Shows, out_map, GoodWorld, each_shows, by_time_shows, calm_world, raised_good, ended_good}
@@ -36,16 +36,16 @@ module _ {J K : Type 0} (m : JailOps J) (k : JailOps K) (h : J → K) (Good Calm
       ∙ ap (λ (bs : List Ban). map (begins lines (k.definition (h o.jail)).name) (drop (length bs) (k.active (h o.jail)))) (sym b) in
       same ∙ ap (λ (r : JailAndSerial K). told_new k lines (h j) r.jail) e
 
-  told_each_shows : (t : J → List Happening) (u : K → List Happening) → ((j : J) → t j ≡ u (h j)) → (js : List J) → told_each t js ≡ told_each u (map h js)
-  told_each_shows t u e [] = refl
-  told_each_shows t u e (j ∷ js) = ap₂ (λ a b. a ++ b) (e j) (told_each_shows t u e js)
+  told_by_jails_shows : (t : J → List Happening) (u : K → List Happening) → ((j : J) → t j ≡ u (h j)) → (js : List J) → told_by_jails t js ≡ told_by_jails u (map h js)
+  told_by_jails_shows t u e [] = refl
+  told_by_jails_shows t u e (j ∷ js) = ap₂ (λ a b. a ++ b) (e j) (told_by_jails_shows t u e js)
 
-  told_in_shows : (at : ℕ) (name : List ℕ) (t : J → List Happening) (u : K → List Happening) → ((j : J) → Good at j → t j ≡ u (h j))
-      → (js : List J) → AllOf (Good at) js → told_in m name t js ≡ told_in k name u (map h js)
-  told_in_shows at name t u e [] a = refl
-  told_in_shows at name t u e (j ∷ js) a =
+  told_by_name_shows : (at : ℕ) (name : List ℕ) (t : J → List Happening) (u : K → List Happening) → ((j : J) → Good at j → t j ≡ u (h j))
+      → (js : List J) → AllOf (Good at) js → told_by_name m name t js ≡ told_by_name k name u (map h js)
+  told_by_name_shows at name t u e [] a = refl
+  told_by_name_shows at name t u e (j ∷ js) a =
       let d = shows.definition j in
-      by_test (bytes_eq (m.definition j).name name) _ (λ q. rw (d, q) (e j a.0)) (λ q. rw (d, q) (told_in_shows at name t u e js a.1))
+      by_test (bytes_eq (m.definition j).name name) _ (λ q. rw (d, q) (e j a.0)) (λ q. rw (d, q) (told_by_name_shows at name t u e js a.1))
 
   told_found_shows : (at word : ℕ) (f : Failure) (n : ℕ) (j : J) → Good at j → told_found m at word f n j ≡ told_found k at word f n (h j)
   told_found_shows at word f n j good =
@@ -98,15 +98,15 @@ module _ {J K : Type 0} (m : JailOps J) (k : JailOps K) (h : J → K) (Good Calm
   done_told : (word : ℕ) (what : What) (w : JailsOf J) → GoodWorld m k h Good Calm shows w → told_done m word what w ≡ told_done k word what (map_jails h w)
   done_told word Tick w a = refl
   done_told word (Read jail path place fs) w a =
-      told_in_shows w.at jail (told_read m w.at word path place fs w.next_ban) (told_read k w.at word path place fs w.next_ban)
+      told_by_name_shows w.at jail (told_read m w.at word path place fs w.next_ban) (told_read k w.at word path place fs w.next_ban)
       (λ j good. told_read_shows w.at word path place fs w.next_ban j a.0 good) w.jails a.1
   done_told word (BanThese jail addrs) w a =
-      told_in_shows w.at jail (told_banned_in_turn m w.at word addrs w.next_ban) (told_banned_in_turn k w.at word addrs w.next_ban)
+      told_by_name_shows w.at jail (told_banned_in_turn m w.at word addrs w.next_ban) (told_banned_in_turn k w.at word addrs w.next_ban)
       (λ j good. banned_in_turn_told w.at word addrs w.next_ban j) w.jails a.1
-  done_told word (Unban jail addrs) w a = told_each_shows (told_unbanned m jail addrs) (told_unbanned k jail addrs) (told_unbanned_shows jail addrs) w.jails
+  done_told word (Unban jail addrs) w a = told_by_jails_shows (told_unbanned m jail addrs) (told_unbanned k jail addrs) (told_unbanned_shows jail addrs) w.jails
   done_told word (Attempt jail addr) w a =
       let fs : List Failure = record { addr = addr; time = w.at; line = [] } ∷ [] in
-      told_in_shows w.at jail (told_found_in_turn m w.at word fs w.next_ban) (told_found_in_turn k w.at word fs w.next_ban)
+      told_by_name_shows w.at jail (told_found_in_turn m w.at word fs w.next_ban) (told_found_in_turn k w.at word fs w.next_ban)
       (λ j good. found_in_turn_told w.at word fs w.next_ban j a.0 good) w.jails a.1
   done_told word (Findtime jail secs) w a = refl
   done_told word (Bantime jail secs) w a = refl
@@ -130,7 +130,7 @@ module _ {J K : Type 0} (m : JailOps J) (k : JailOps K) (h : J → K) (Good Calm
       let e : map_jails h ended ≡ each_jail k (ended_by_time k now.at) (map_jails h now) =
       each_shows m k h Good Calm shows (ended_by_time m now.at) (ended_by_time k now.at) now (λ j good. by_time_shows m k h Good Calm shows now.at j) now_good in
       rw q (ap₂ (λ x y. x ++ y)
-      (told_each_shows (told_ends m now.at) (told_ends k now.at) (told_ends_shows now.at) w.jails)
+      (told_by_jails_shows (told_ends m now.at) (told_ends k now.at) (told_ends_shows now.at) w.jails)
       (done_told input.word input.what ended ended_is ∙ ap (told_done k input.word input.what) e)))
 
 -- what a step tells is told by the middle state

@@ -15,8 +15,8 @@ use Rattle.f2b_model.specs.Jobs.{Ledger}
 use Rattle.f2b_model.specs.LaneSound.{AreApart, Follows, follow_told, IsInTurn}
 use Rattle.f2b_model.specs.Lanes.{Lanes, books, issue}
 use Rattle.f2b_model.specs.Orders.{Held, is_held_of, is_active, is_up, order_showing, ban_orders, told_orders}
-use Rattle.f2b_model.specs.Turns.{Order, banned_after, follow}
-use Rattle.f2b_model.proofs.TurnLemmas.{follow-append, follow_none, follow_of_one}
+use Rattle.f2b_model.specs.Alternation.{Order, banned_after, follow}
+use Rattle.f2b_model.proofs.InTurnLemmas.{follow-append, follow_none, follow_of_kind}
 use Rattle.f2b_model.proofs.LaneMoveLemmas.{all_of_kind, any_ban_orders, one_ban_orders, issue_turns}
 
 -- an order that touches the lane and the address is of an address of its family in a lane that is up
@@ -41,7 +41,7 @@ one_told lines kind h up id addr a c apart now = elim (cases_Bool (is_up up id &
       let here : is_held_of id.jail addr h ≡ true = (and_parts (is_held_of id.jail addr h) _ (and_parts (is_up up id) _ y).1).0 in
       let may : banned_after kind a ≡ Some c = rw here at now in
       rw (touched (is_up up id) (is_held_of id.jail addr h) (in_family id.family addr) a y, touched (is_up up id) (is_held_of id.jail addr h) (in_family id.family addr) c y)
-      (follow_of_one id addr kind a c (ban_orders lines kind h up) (all_of_kind kind (order_showing lines kind (Some h)) (λ lane. refl) _) (one_ban_orders lines kind h up id addr (apart.one id)) (any_ban_orders lines kind h up id addr ∙ y) may)
+      (follow_of_kind id addr kind a c (ban_orders lines kind h up) (all_of_kind kind (order_showing lines kind (Some h)) (λ lane. refl) _) (one_ban_orders lines kind h up id addr (apart.one id)) (any_ban_orders lines kind h up id addr ∙ y) may)
   | inr n ↦
       follow_none id addr _ (ban_orders lines kind h up) (any_ban_orders lines kind h up id addr ∙ n)
       ∙ ap (λ b. Some b) (untouched (is_up up id) (is_held_of id.jail addr h) (in_family id.family addr) a c n (λ no. same_Some a c (rw no at now)))

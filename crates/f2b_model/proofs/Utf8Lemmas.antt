@@ -69,9 +69,9 @@ behind_tag part u less =
     IsUtf8-drop part (i + 1) u (IsCharBoundary-after_ascii part i u less (end_at part less))
 
 module _ (f : Fill) (all : AreUtf8 (values f)) where
-  filled_one : (before part : List ℕ) (o : Option (List ℕ)) → part_value f before part ≡ o → IsUtf8 part → IsUtf8 (filled o part)
-  filled_one before part None is u = IsUtf8-append (60 ∷ []) part (IsUtf8-from_ascii (60 ∷ []) (IsAscii-cons 60 [] (omega arith) IsAscii-nil)) u
-  filled_one before part (Some value) is u = elim (cases_Bool (opens_group before)) [
+  filled_part : (before part : List ℕ) (o : Option (List ℕ)) → part_value f before part ≡ o → IsUtf8 part → IsUtf8 (filled o part)
+  filled_part before part None is u = IsUtf8-append (60 ∷ []) part (IsUtf8-from_ascii (60 ∷ []) (IsAscii-cons 60 [] (omega arith) IsAscii-nil)) u
+  filled_part before part (Some value) is u = elim (cases_Bool (opens_group before)) [
     | inl y ↦ absurd (let e : None ≡ Some value = rw y at is in cc)
     | inr n ↦
         let front : front_value f part ≡ Some value = rw n at is in
@@ -87,7 +87,7 @@ module _ (f : Fill) (all : AreUtf8 (values f)) where
   after_utf8 : (before : List ℕ) (parts : List (List ℕ)) → AllOf IsUtf8 parts → IsUtf8 (filled_after f before parts)
   after_utf8 before [] each = IsUtf8-nil
   after_utf8 before (part ∷ parts) each =
-      IsUtf8-append (filled (part_value f before part) part) (filled_after f part parts) (filled_one before part (part_value f before part) refl each.0) (after_utf8 part parts each.1)
+      IsUtf8-append (filled (part_value f before part) part) (filled_after f part parts) (filled_part before part (part_value f before part) refl each.0) (after_utf8 part parts each.1)
 
   all_utf8 : (parts : List (List ℕ)) → AllOf IsUtf8 parts → IsUtf8 (filled_parts f parts)
   all_utf8 [] each = IsUtf8-nil

@@ -20,7 +20,7 @@ use Rattle.f2b_model.specs.Lists.{AllOf, in_order}
 use Rattle.f2b_model.specs.Moves.{JailAndSerial, counts, is_banned}
 use Rattle.f2b_model.specs.NowMoves.{counted_now, found_now, banned_now, ended_now, limited_now, followed_now, dropped_now}
 use Rattle.f2b_model.specs.Nows.{JailsNow}
-use Rattle.f2b_model.specs.Steps.{moves_now, is_spent, is_due, own_end, ends_before, is_meant, is_meant_jail, end_all, ended_by_time, unbanned, in_jail, at_jail, alone, find_jail, kept_or_fresh, configured, done, at_reading, jails_step_now, found_in_turn, read_in_jail, banned_in_turn}
+use Rattle.f2b_model.specs.Steps.{moves_now, is_spent, is_due, own_end, ends_before, is_meant, is_meant_jail, bans_ended, ended_by_time, unbanned, in_jail, at_jail, alone, find_jail, kept_or_fresh, configured, done, at_reading, jails_step_now, found_in_turn, read_in_jail, banned_in_turn}
 use Rattle.f2b_model.specs.Watches.{watches_of, with_place, is_watched}
 use Rattle.f2b_model.proofs.ListLemmas.{by_test}
 use Rattle.f2b_model.proofs.StepLemmas.{all_of-map}
@@ -51,9 +51,9 @@ found_good at word n f j good =
 banned_good : (at word n : ℕ) (addr : Addr) (j : JailNow) → Good j → Good (banned_now at word n addr j).jail
 banned_good at word n addr j good = by_test (is_banned addr j.bans) _ (λ e. rw e good) (λ e. rw e good)
 
-end_all_good : (moment : Ban → ℕ) (bs : List Ban) (j : JailNow) → Good j → Good (end_all moves_now moment bs j)
-end_all_good moment [] j good = good
-end_all_good moment (b ∷ bs) j good = end_all_good moment bs (ended_now b.addr (moment b) j) (by_test (is_banned b.addr j.bans) _ (λ e. rw e good) (λ e. rw e good))
+bans_ended_good : (moment : Ban → ℕ) (bs : List Ban) (j : JailNow) → Good j → Good (bans_ended moves_now moment bs j)
+bans_ended_good moment [] j good = good
+bans_ended_good moment (b ∷ bs) j good = bans_ended_good moment bs (ended_now b.addr (moment b) j) (by_test (is_banned b.addr j.bans) _ (λ e. rw e good) (λ e. rw e good))
 
 limited_good : (findtime maxretry : ℕ) (j : JailNow) → Good j → Good (limited_now findtime maxretry j)
 limited_good findtime maxretry j good = by_test ((findtime == j.definition.findtime) && (maxretry == j.definition.maxretry)) _ (λ e. rw e good) (λ e. rw e good)
@@ -106,7 +106,7 @@ done_good word (Read jail path place fs) w a =
 done_good word (BanThese jail addrs) w a = in_jail_good jail (banned_in_turn moves_now w.at word addrs) (banned_in_turn_good w.at word addrs) w.next_ban w.jails a
 done_good word (Unban jail addrs) w a =
     all_of-map Good Good (λ j. cond (is_meant_jail jail j.definition) (unbanned moves_now w.at addrs j) j)
-    (λ j good. by_test (is_meant_jail jail j.definition) _ (λ t. rw t (end_all_good (λ b. w.at) (filter (is_meant addrs) j.bans) j good)) (λ t. rw t good)) w.jails a
+    (λ j good. by_test (is_meant_jail jail j.definition) _ (λ t. rw t (bans_ended_good (λ b. w.at) (filter (is_meant addrs) j.bans) j good)) (λ t. rw t good)) w.jails a
 done_good word (Attempt jail addr) w a =
     let fs : List Failure = record { addr = addr; time = w.at; line = [] } ∷ [] in
     in_jail_good jail (found_in_turn moves_now w.at word fs) (found_in_turn_good w.at word fs) w.next_ban w.jails a
@@ -126,8 +126,8 @@ step_watched w input a =
     by_test (is_spent w) _
     (λ t. rw t a)
     (λ t.
-    let mid = at_reading moves_now input.secs w in
-    let mid_is : AreWatched mid = all_of-map Good Good (ended_by_time moves_now mid.at)
-    (λ j good. end_all_good own_end (in_order ends_before (filter (is_due mid.at) j.bans)) j good) w.jails a in
-    let after = done moves_now input.word input.what mid in
-    rw t (all_of-map Good Good (dropped_now after.at after.purge) (λ j good. good) after.jails (done_good input.word input.what mid mid_is)))
+    let jails_at_reading = at_reading moves_now input.secs w in
+    let watched_at_reading : AreWatched jails_at_reading = all_of-map Good Good (ended_by_time moves_now jails_at_reading.at)
+    (λ j good. bans_ended_good own_end (in_order ends_before (filter (is_due jails_at_reading.at) j.bans)) j good) w.jails a in
+    let after = done moves_now input.word input.what jails_at_reading in
+    rw t (all_of-map Good Good (dropped_now after.at after.purge) (λ j good. good) after.jails (done_good input.word input.what jails_at_reading watched_at_reading)))

@@ -7,7 +7,7 @@ use Rattle.f2b_base.specs.declared.view.View.{View}
 use Rattle.f2b_model.specs.declared.jail_now.JailNow.{JailNow}
 use Rattle.f2b_model.specs.Active.{held}
 use Rattle.f2b_model.specs.Jobs.{pending, settled, head}
-use Rattle.f2b_model.specs.LaneSound.{AreSoundLanes, is_banned_in, never}
+use Rattle.f2b_model.specs.LaneSound.{AreSoundLanes, is_banned_by_lane, never}
 use Rattle.f2b_model.specs.Lanes.{books, books_now, lanes_issued, lanes_step, lanes_now, lanes_from}
 use Rattle.f2b_model.specs.LanesTold.{lanes_told}
 use Rattle.f2b_model.specs.Lists.{AllOf}
@@ -16,7 +16,7 @@ use Rattle.f2b_model.specs.Orders.{Held}
 use Rattle.f2b_model.specs.Sound.{IsFit, IsSound, IsSoundFrom, IsSoundView}
 use Rattle.f2b_model.specs.Steps.{moves, moves_now, is_spent, at_reading, jails_step, jails_step_now}
 use Rattle.f2b_model.specs.Told.{jails_told}
-use Rattle.f2b_model.specs.Turns.{kinds_of, Alternate, last_is_ban}
+use Rattle.f2b_model.specs.Alternation.{kinds_of, Alternate, last_is_ban}
 use Rattle.f2b_model.specs.Views.{jail_view, spread, jails_of, gathered, view_of, back}
 use Rattle.f2b_model.specs.Whole.{State, Now, is_whole_spent, now_of, state_from, step, steps, step_now, steps_now, told, told_now, empty_state}
 use Rattle.f2b_model.proofs.BanStepLemmas.{ban_step, held_shows, held_back, reading_held, step_held}
@@ -41,17 +41,17 @@ step_shows base s input fit sound =
     (λ t. rw t refl)
     (λ t.
     let jails = now_step s.jails input fit sound.jails in
-    let mid = held moves (at_reading moves input.secs s.jails) in
+    let held_at_reading = held moves (at_reading moves input.secs s.jails) in
     let after = held moves (jails_step s.jails input) in
     let tells = jails_told moves s.jails input in
-    let lanes = lanes_now_step (jails_step s.jails input).at input.what mid after tells s.lanes (ordered_below s.lanes sound.lanes.jobs) in
-    let mid_is = reading_held s.jails input fit sound.jails in
+    let lanes = lanes_now_step (jails_step s.jails input).at input.what held_at_reading after tells s.lanes (ordered_below s.lanes sound.lanes.jobs) in
+    let held_at_reading_is = reading_held s.jails input fit sound.jails in
     let after_is = step_held s.jails input fit sound.jails in
     let tells_is = told_by_now s.jails input fit sound.jails in
-    let rest : lanes_step books_now (jails_step s.jails input).at input.what mid after tells (lanes_now s.lanes)
+    let rest : lanes_step books_now (jails_step s.jails input).at input.what held_at_reading after tells (lanes_now s.lanes)
     ≡ lanes_step books_now (jails_step_now (jails_now_of s.jails) input).at input.what (held moves_now (at_reading moves_now input.secs (jails_now_of s.jails)))
     (held moves_now (jails_step_now (jails_now_of s.jails) input)) (jails_told moves_now (jails_now_of s.jails) input) (lanes_now s.lanes) =
-    λ i. lanes_step books_now (jails i).at input.what (mid_is i) (after_is i) (tells_is i) (lanes_now s.lanes) in
+    λ i. lanes_step books_now (jails i).at input.what (held_at_reading_is i) (after_is i) (tells_is i) (lanes_now s.lanes) in
     let both = lanes ∙ rest in
     rw t (λ i. record { jails = jails i; lanes = both i }))
 
@@ -186,6 +186,6 @@ all_alternate inputs fit id addr =
 
 pub all_settled : (inputs : List Input) → AllOf IsFit inputs → (id : LaneId) (addr : Addr) → head id (pending (steps empty_state inputs).lanes.jobs) ≡ None
     → last_is_ban false (kinds_of id addr (settled (steps empty_state inputs).lanes.jobs))
-    ≡ is_banned_in (steps empty_state inputs).lanes.up (held moves (steps empty_state inputs).jails) id addr
+    ≡ is_banned_by_lane (steps empty_state inputs).lanes.up (held moves (steps empty_state inputs).jails) id addr
 all_settled inputs fit id addr none =
     let s = steps empty_state inputs in settled_bans (held moves s.jails) s.lanes (steps_keep never empty_state inputs fit empty_sound).lanes id addr none

@@ -144,8 +144,8 @@ short findtime maxretry now ts pos not_full a =
         )
 
 -- one address of a list
-pub of_one : (findtime maxretry : ℕ) (addr : Addr) (fs : List Failure) → IsFull findtime maxretry addr fs ↔ IsFullBy findtime maxretry (map (λ (f : Failure). f.time) (filter (is_of addr) fs))
-of_one findtime maxretry addr fs = (
+pub full_by_own_times : (findtime maxretry : ℕ) (addr : Addr) (fs : List Failure) → IsFull findtime maxretry addr fs ↔ IsFullBy findtime maxretry (map (λ (f : Failure). f.time) (filter (is_of addr) fs))
+full_by_own_times findtime maxretry addr fs = (
   λ full. record { start = full.start; many = let e = same fs full.start in let many = full.many in omega arith },
   λ full. record { start = full.start; many = let e = same fs full.start in let many = full.many in omega arith },
 )

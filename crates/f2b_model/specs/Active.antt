@@ -8,13 +8,13 @@ use Rattle.f2b_model.specs.Steps.{JailOps, named}
 
 module _ {J : Type 0} (m : JailOps J) where
   -- the active bans of a jail
-  abbrev pub held_in : J → List Held
-  held_in j = map (λ (b : Ban). record { jail = named m j; ban = b }) (m.active j)
+  abbrev pub held_by_jail : J → List Held
+  held_by_jail j = map (λ (b : Ban). record { jail = named m j; ban = b }) (m.active j)
 
   -- the active bans of jails, jail by jail
   abbrev pub held_by : List J → List Held
   held_by [] = []
-  held_by (j ∷ js) = held_in j ++ held_by js
+  held_by (j ∷ js) = held_by_jail j ++ held_by js
 
   -- the active bans of all jails
   abbrev pub held : JailsOf J → List Held

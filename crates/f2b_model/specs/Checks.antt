@@ -37,13 +37,13 @@ lane_of id up = find (is_lane id) up
 -- ---- the check before a try
 
 -- the lane of a job that is checked, where it is the first of it
-abbrev pub checked_lane_in : List Job → Option Job → Option LaneId
-checked_lane_in jobs None = None
-checked_lane_in jobs (Some job) = if is_head jobs job && has_check job.kind then Some job.lane else None
+abbrev pub lane_if_checked : List Job → Option Job → Option LaneId
+lane_if_checked jobs None = None
+lane_if_checked jobs (Some job) = if is_head jobs job && has_check job.kind then Some job.lane else None
 
 -- the lane of the job of an id that is checked, where it is the first of it
 abbrev pub checked_lane : ℕ → List Job → Option LaneId
-checked_lane id jobs = checked_lane_in jobs (job_by_id id jobs)
+checked_lane id jobs = lane_if_checked jobs (job_by_id id jobs)
 
 -- a lane that is up, if it has a check
 abbrev pub with_check : Option UpLane → Option UpLane

@@ -10,12 +10,12 @@ use Rattle.f2b_base.specs.declared.job.LaneId.{LaneId}
 use Rattle.f2b_base.specs.declared.job.UpLane.{UpLane}
 use Rattle.f2b_model.specs.declared.happening.Happening.{Happening}
 use Rattle.f2b_model.specs.Checks.{void_ids, left_by_check}
-use Rattle.f2b_model.specs.Jobs.{Ending, Ledger, pending, settled, head, next_due, settle_in, with_jobs, with_ending, StandFor, ArePending, AreById}
-use Rattle.f2b_model.specs.LaneSound.{AreApart, AreSoundLanes, IsBanStep, IsFitForLanes, IsOrdered, is_banned_in, never}
-use Rattle.f2b_model.specs.Lanes.{Lanes, books, books_now, void_all, lanes_step, first_lanes, lanes_of, lanes_now, lanes_from}
+use Rattle.f2b_model.specs.Jobs.{Ending, Ledger, pending, settled, head, next_due, jobs_after_ending, with_jobs, with_ending, StandFor, ArePending, AreById}
+use Rattle.f2b_model.specs.LaneSound.{AreApart, AreSoundLanes, IsBanStep, IsFitForLanes, IsOrdered, is_banned_by_lane, never}
+use Rattle.f2b_model.specs.Lanes.{Lanes, books, books_now, with_voided, lanes_step, first_lanes, lanes_of, lanes_now, lanes_from}
 use Rattle.f2b_model.specs.Lists.{IsIn}
 use Rattle.f2b_model.specs.Orders.{Held}
-use Rattle.f2b_model.specs.Turns.{Order, numbered, kinds_of, Alternate, last_is_ban}
+use Rattle.f2b_model.specs.Alternation.{Order, numbered, kinds_of, Alternate, last_is_ban}
 use Rattle.f2b_base.specs.Limits.{last_moment}
 
 -- a job may be tried: it is the first pending job of its lane, due, and not running
@@ -40,13 +40,13 @@ pub record JobLaw : Type 0 where
   pub alternate : (held : List Held) (l : Lanes Ledger) → AreSoundLanes never held l → (id : LaneId) (addr : Addr) → Alternate false (kinds_of id addr l.jobs.made)
   -- where a lane has no pending job, the addresses whose last settled job of its last epoch is a Ban or Reban are the active ones of its family where it is up, and none where it is down
   pub settled : (held : List Held) (l : Lanes Ledger) → AreSoundLanes never held l → (id : LaneId) (addr : Addr) → head id (pending l.jobs) ≡ None
-      → last_is_ban false (kinds_of id addr (settled l.jobs)) ≡ is_banned_in l.up held id addr
+      → last_is_ban false (kinds_of id addr (settled l.jobs)) ≡ is_banned_by_lane l.up held id addr
   -- what stands for the pending jobs does so after new jobs and after an ending, with their tries and due moments
   pub pushed : (jobs : List Job) (l : Ledger) (next at : ℕ) (os : List Order) → IsOrdered l next → StandFor jobs l
       → StandFor (jobs ++ numbered next at os) (with_jobs l (numbered next at os))
-  pub ended : (jobs : List Job) (l : Ledger) (e : Ending) → StandFor jobs l → StandFor (settle_in e jobs) (with_ending l e)
+  pub ended : (jobs : List Job) (l : Ledger) (e : Ending) → StandFor jobs l → StandFor (jobs_after_ending e jobs) (with_ending l e)
   -- a check that fails voids the jobs of its lane up to its first Stop, and leaves all others as they are
-  pub voids : (at : ℕ) (lane : LaneId) (from top : ℕ) (n : Lanes (List Job)) → AreById from n.jobs top → (void_all books_now at (void_ids lane n.jobs) n).jobs ≡ left_by_check lane n.jobs
+  pub voids : (at : ℕ) (lane : LaneId) (from top : ℕ) (n : Lanes (List Job)) → AreById from n.jobs top → (with_voided books_now at (void_ids lane n.jobs) n).jobs ≡ left_by_check lane n.jobs
   -- the job that is tried next is the least of those that may be
   pub next : (now : ℕ) (running : List ℕ) (jobs : List Job) (from top : ℕ) → ArePending from jobs top → IsNext now running jobs (next_due now running jobs)
   -- the step of lanes is seen in their pending jobs as its step

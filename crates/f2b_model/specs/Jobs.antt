@@ -156,8 +156,8 @@ abbrev pub after_ending : Ending → Job → Option Job
 after_ending e job = if e.job == job.id then after_try job (settled_as e job) else Some job
 
 -- the pending jobs after an ending
-abbrev pub settle_in : Ending → List Job → List Job
-settle_in e jobs = filter_map (after_ending e) jobs
+abbrev pub jobs_after_ending : Ending → List Job → List Job
+jobs_after_ending e jobs = filter_map (after_ending e) jobs
 
 -- ---- back from pending jobs
 

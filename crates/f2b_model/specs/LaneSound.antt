@@ -16,7 +16,7 @@ use Rattle.f2b_model.specs.Families.{same_lane, in_family}
 use Rattle.f2b_model.specs.Jobs.{Ending, Ledger, stands}
 use Rattle.f2b_model.specs.Lanes.{Lanes, lanes_of}
 use Rattle.f2b_model.specs.Orders.{Held, is_held_of, is_active, is_lane, is_up}
-use Rattle.f2b_model.specs.Turns.{order_of, banned_after, follow}
+use Rattle.f2b_model.specs.Alternation.{order_of, banned_after, follow}
 use Rattle.f2b_base.specs.Limits.{last_moment}
 
 -- ---- at most one
@@ -42,15 +42,15 @@ pub record IsHeldOnce (held : List Held) : Type 0 where
 
 -- Whether the address is banned in the jail after one thing was told, where `b` says whether it was so before: a ban begins where
 -- the address is not banned, and ends where it is.
-abbrev pub follow_one : List ℕ → Addr → Bool → Happening → Option Bool
-follow_one jail addr b (Counts of a) = Some b
-follow_one jail addr b (Begins of ban matches) = if is_held_of jail addr (record { jail = of; ban = ban }) then banned_after Ban b else Some b
-follow_one jail addr b (Ends of ban) = if is_held_of jail addr (record { jail = of; ban = ban }) then banned_after Unban b else Some b
+abbrev pub banned_after_happening : List ℕ → Addr → Bool → Happening → Option Bool
+banned_after_happening jail addr b (Counts of a) = Some b
+banned_after_happening jail addr b (Begins of ban matches) = if is_held_of jail addr (record { jail = of; ban = ban }) then banned_after Ban b else Some b
+banned_after_happening jail addr b (Ends of ban) = if is_held_of jail addr (record { jail = of; ban = ban }) then banned_after Unban b else Some b
 
 -- the same after all that was told
 abbrev pub follow_told : List ℕ → Addr → Bool → List Happening → Option Bool
 follow_told jail addr b [] = Some b
-follow_told jail addr b (happening ∷ told) = option_and_then (λ c. follow_told jail addr c told) (follow_one jail addr b happening)
+follow_told jail addr b (happening ∷ told) = option_and_then (λ c. follow_told jail addr c told) (banned_after_happening jail addr b happening)
 
 -- what was told leads from these active bans to those
 pub record Follows (told : List Happening) (before after : List Held) : Type 0 where
@@ -86,12 +86,12 @@ IsFitForLanes _ = Unit {0}
 -- ---- in turn
 
 -- banned in the lane: the lane is up, and the address is of its family and active in its jail
-abbrev pub is_banned_in : List UpLane → List Held → LaneId → Addr → Bool
-is_banned_in up held id addr = is_up up id && (in_family id.family addr && is_active held id.jail addr)
+abbrev pub is_banned_by_lane : List UpLane → List Held → LaneId → Addr → Bool
+is_banned_by_lane up held id addr = is_up up id && (in_family id.family addr && is_active held id.jail addr)
 
 -- The jobs of each address go in turn in each lane, and lead to what is so. `base` says what was so before the first job.
 pub record IsInTurn (base : LaneId → Addr → Bool) (held : List Held) (l : Lanes Ledger) : Type 0 where
-  pub turns : (id : LaneId) (addr : Addr) → follow id addr (base id addr) (map order_of l.jobs.made) ≡ Some (is_banned_in l.up held id addr)
+  pub turns : (id : LaneId) (addr : Addr) → follow id addr (base id addr) (map order_of l.jobs.made) ≡ Some (is_banned_by_lane l.up held id addr)
   pub apart : AreApart l.up
 
 -- nothing is banned before the first job
@@ -130,6 +130,6 @@ pub record IsOrdered (l : Ledger) (next : ℕ) : Type 0 where
 
 -- Jobs go in turn and in order, and after a stop no lane is up until a configuration comes.
 pub record AreSoundLanes (base : LaneId → Addr → Bool) (held : List Held) (l : Lanes Ledger) : Type 0 where
-  pub turn : IsInTurn base held l
+  pub in_turn : IsInTurn base held l
   pub jobs : IsOrdered l.jobs l.next_job
   pub stop : l.stopping ≡ true → l.up ≡ []

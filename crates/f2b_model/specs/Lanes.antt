@@ -13,9 +13,9 @@ use Rattle.f2b_base.specs.declared.job.UpLane.{UpLane}
 use Rattle.f2b_model.specs.declared.happening.Happening.{Happening}
 use Rattle.f2b_model.specs.Families.{same_up}
 use Rattle.f2b_model.specs.Checks.{is_closing, lane_of, checked_lane, void_ids, voided_at}
-use Rattle.f2b_model.specs.Jobs.{Ending, Tried, Ledger, with_jobs, with_ending, pending, is_head_id, settle_in, back_from}
+use Rattle.f2b_model.specs.Jobs.{Ending, Tried, Ledger, with_jobs, with_ending, pending, is_head_id, jobs_after_ending, back_from}
 use Rattle.f2b_model.specs.Orders.{Held, lane_id, is_lane, is_up, down_orders, up_orders, restart_orders, told_orders}
-use Rattle.f2b_model.specs.Turns.{Order, numbered}
+use Rattle.f2b_model.specs.Alternation.{Order, numbered}
 
 -- the lanes that are up, in order of coming up; whether a stop was asked for; the jobs; and the id of the job to come
 pub record Lanes (L : Type 0) : Type 0 where
@@ -36,7 +36,7 @@ books = record { push = with_jobs; settle = with_ending; pending = pending }
 
 -- the pending jobs alone are kept
 abbrev pub books_now : Books (List Job)
-books_now = record { push = λ jobs new. jobs ++ new; settle = λ jobs e. settle_in e jobs; pending = λ jobs. jobs }
+books_now = record { push = λ jobs new. jobs ++ new; settle = λ jobs e. jobs_after_ending e jobs; pending = λ jobs. jobs }
 
 -- the lanes of a jail
 abbrev pub lanes_of_jail : JailDef → List UpLane
@@ -47,12 +47,12 @@ abbrev pub lanes_of : Defs → List UpLane
 lanes_of defs = flat_map lanes_of_jail defs.jails
 
 -- whether a lane is among these, with the same jail and the same action
-abbrev pub is_among : List UpLane → UpLane → Bool
-is_among lanes lane = list_any (same_up lane) lanes
+abbrev pub includes_lane : List UpLane → UpLane → Bool
+includes_lane lanes lane = list_any (same_up lane) lanes
 
 -- whether the lanes that are up are just these: none has to go down, and none to come up
 abbrev pub are_just : List UpLane → List UpLane → Bool
-are_just new up = not (list_any (λ lane. not (is_among new lane)) up) && not (list_any (λ lane. not (is_up up (lane_id lane))) new)
+are_just new up = not (list_any (λ lane. not (includes_lane new lane)) up) && not (list_any (λ lane. not (is_up up (lane_id lane))) new)
 
 module _ {L : Type 0} (b : Books L) where
   -- the orders become jobs, due at `at`
@@ -83,9 +83,9 @@ module _ {L : Type 0} (b : Books L) where
       if is_head_id job (b.pending l.jobs) then record l { jobs = b.settle l.jobs (record { job = job; how = Tried outcome; at = at }) } else l
 
   -- these jobs are voided, one after the other
-  abbrev pub void_all : ℕ → List ℕ → Lanes L → Lanes L
-  void_all at [] l = l
-  void_all at (id ∷ ids) l = void_all at ids (record l { jobs = b.settle l.jobs (voided_at id at) })
+  abbrev pub with_voided : ℕ → List ℕ → Lanes L → Lanes L
+  with_voided at [] l = l
+  with_voided at (id ∷ ids) l = with_voided at ids (record l { jobs = b.settle l.jobs (voided_at id at) })
 
   -- a lane starts anew where it is up, and these are its bans
   abbrev pub restarted : ℕ → List Held → Option UpLane → Lanes L → Lanes L
@@ -96,17 +96,17 @@ module _ {L : Type 0} (b : Books L) where
   abbrev pub lane_failed : ℕ → List Held → LaneId → Lanes L → Lanes L
   lane_failed at held lane l =
       let jobs = b.pending l.jobs in
-      let left = void_all at (void_ids lane jobs) l in
+      let left = with_voided at (void_ids lane jobs) l in
       if is_closing lane jobs then left else restarted at held (lane_of lane l.up) left
 
   -- the same of the lane of a job that was checked, if it was
-  abbrev pub failed_in : ℕ → List Held → Option LaneId → Lanes L → Lanes L
-  failed_in at held None l = l
-  failed_in at held (Some lane) l = lane_failed at held lane l
+  abbrev pub lane_failed_if_checked : ℕ → List Held → Option LaneId → Lanes L → Lanes L
+  lane_failed_if_checked at held None l = l
+  lane_failed_if_checked at held (Some lane) l = lane_failed at held lane l
 
   -- the check of a job failed: it counts where the job is a Ban or an Unban and the first of its lane
   abbrev pub check_failed : ℕ → List Held → ℕ → Lanes L → Lanes L
-  check_failed at held job l = failed_in at held (checked_lane job (b.pending l.jobs)) l
+  check_failed at held job l = lane_failed_if_checked at held (checked_lane job (b.pending l.jobs)) l
 
   -- a stop: each lane goes down
   abbrev pub stopped : ℕ → List Held → Lanes L → Lanes L
@@ -114,7 +114,7 @@ module _ {L : Type 0} (b : Books L) where
 
   -- the lanes that a configuration does not keep go down
   abbrev pub others_down : ℕ → List Held → List UpLane → Lanes L → Lanes L
-  others_down at held new l = all_down at held (filter (λ lane. not (is_among new lane)) l.up) l
+  others_down at held new l = all_down at held (filter (λ lane. not (includes_lane new lane)) l.up) l
 
   -- the lanes of a configuration that are not up come up
   abbrev pub missing_up : ℕ → List Held → List UpLane → Lanes L → Lanes L

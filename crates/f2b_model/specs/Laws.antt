@@ -21,9 +21,9 @@ use Rattle.f2b_model.specs.Stands.{StandsFor, IsShown}
 use Rattle.f2b_model.specs.Storable.{most_numbers, IsStorable, IsStorableJail, IsStorableInput}
 use Rattle.f2b_model.specs.Told.{jails_told}
 use Rattle.f2b_model.specs.Active.{held}
-use Rattle.f2b_model.specs.LaneSound.{IsBanStep, is_banned_in}
+use Rattle.f2b_model.specs.LaneSound.{IsBanStep, is_banned_by_lane}
 use Rattle.f2b_model.specs.Jobs.{AreById, pending, settled, head, is_head_id, job_by_id}
-use Rattle.f2b_model.specs.Turns.{kinds_of, Alternate, last_is_ban}
+use Rattle.f2b_model.specs.Alternation.{kinds_of, Alternate, last_is_ban}
 use Rattle.f2b_model.specs.Views.{spread, gathered, view_of, back, empty_view}
 use Rattle.f2b_model.specs.Whole.{State, Now, now_of, step, steps, step_now, told, told_now, empty_state}
 use Rattle.f2b_model.specs.Windows.{IsRising, IsFullBy, HasRun, times_of}
@@ -106,7 +106,7 @@ pub record WholeLaw : Type 0 where
   -- where a lane has no pending job, the addresses whose last settled job of its last epoch bans are the active ones of its family where it is up, and none where it is down
   pub settled : (inputs : List Input) → AllOf IsFit inputs → (id : LaneId) (addr : Addr) → head id (pending (steps empty_state inputs).lanes.jobs) ≡ None
       → last_is_ban false (kinds_of id addr (settled (steps empty_state inputs).lanes.jobs))
-      ≡ is_banned_in (steps empty_state inputs).lanes.up (held moves (steps empty_state inputs).jails) id addr
+      ≡ is_banned_by_lane (steps empty_state inputs).lanes.up (held moves (steps empty_state inputs).jails) id addr
   -- starts that fail come to an end: each leaves fewer tries or fewer checks
   pub starts : IsStartsLaw
   -- the first job of its lane stays so through each step after which it is pending, that is, until it is settled or voided: so a child of it may run on

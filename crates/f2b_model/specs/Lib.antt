@@ -16,7 +16,7 @@ pub mod Stands
 pub mod Laws
 pub mod Families
 pub mod Jobs
-pub mod Turns
+pub mod Alternation
 pub mod Render
 pub mod Orders
 pub mod Checks

@@ -20,7 +20,7 @@ use Rattle.f2b_model.specs.declared.happening.Happening.TheVariants.{Counts, Beg
 use Rattle.f2b_model.specs.Families.{in_family, same_lane}
 use Rattle.f2b_base.specs.Addresses.{same_addr}
 use Rattle.f2b_model.specs.Render.{rendered}
-use Rattle.f2b_model.specs.Turns.{Order}
+use Rattle.f2b_model.specs.Alternation.{Order}
 
 -- ---- active bans and lanes
 
@@ -64,9 +64,9 @@ template Unban action = action.unban
 template Reban action = action.ban
 
 -- the address of a ban, if there is one
-abbrev pub addr_in : Option Held → Option Addr
-addr_in None = None
-addr_in (Some h) = Some h.ban.addr
+abbrev pub held_addr : Option Held → Option Addr
+held_addr None = None
+held_addr (Some h) = Some h.ban.addr
 
 -- the family of an address
 abbrev pub family_of : Addr → Family
@@ -102,7 +102,7 @@ abbrev pub order_showing : List ℕ → JobKind → Option Held → UpLane → O
 order_showing lines kind of lane = record {
   lane = lane_id lane;
   kind = kind;
-  addr = addr_in of;
+  addr = held_addr of;
   text = rendered (template kind lane.action) (record (fill_of lane.action.family of) { matches = lines });
   timeout = lane.action.timeout;
 }

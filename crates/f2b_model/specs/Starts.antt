@@ -11,8 +11,8 @@ use Rattle.f2b_model.specs.Jobs.{AreById, next_due}
 use Rattle.f2b_model.specs.Lanes.{books_now}
 use Rattle.f2b_model.specs.Orders.{told_orders}
 use Rattle.f2b_model.specs.Steps.{moves_now}
-use Rattle.f2b_model.specs.Told.{told_each, told_ends}
-use Rattle.f2b_model.specs.Turns.{numbered}
+use Rattle.f2b_model.specs.Told.{told_by_jails, told_ends}
+use Rattle.f2b_model.specs.Alternation.{numbered}
 use Rattle.f2b_model.specs.Whole.{Now, is_whole_spent, step_now}
 
 -- how many tries are left of jobs that are pending
@@ -27,7 +27,7 @@ checks_left (job ∷ jobs) = (if has_check job.kind then 1 else 0) + checks_left
 
 -- the pending jobs once the bans that are due at a reading have ended
 abbrev pub jobs_then : ℕ → Now → List Job
-jobs_then now n = n.lanes.jobs ++ numbered n.lanes.next_job (max n.jails.at now) (told_orders n.lanes.up (told_each (told_ends moves_now (max n.jails.at now)) n.jails.jails))
+jobs_then now n = n.lanes.jobs ++ numbered n.lanes.next_job (max n.jails.at now) (told_orders n.lanes.up (told_by_jails (told_ends moves_now (max n.jails.at now)) n.jails.jails))
 
 -- a try of a job did not start
 abbrev pub unstarted : ℕ → ℕ → ℕ → Input

@@ -39,7 +39,7 @@ pub record Jail : Type 0 where
 
 -- the jails, of any kind, and what stands beside them
 pub record JailsOf (J : Type 0) : Type 0 where
-  -- the greatest moment so far
+  -- now: the greatest reading so far
   pub at : ℕ
   -- how many seconds a ban that is over still counts
   pub purge : ℕ

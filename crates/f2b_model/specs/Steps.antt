@@ -143,17 +143,17 @@ module _ {J : Type 0} (m : JailOps J) where
   names js = map named js
 
   -- ends these bans, each at the moment that is given for it
-  abbrev pub end_all : (Ban → ℕ) → List Ban → J → J
-  end_all moment [] j = j
-  end_all moment (b ∷ bs) j = end_all moment bs (m.ended b.addr (moment b) j)
+  abbrev pub bans_ended : (Ban → ℕ) → List Ban → J → J
+  bans_ended moment [] j = j
+  bans_ended moment (b ∷ bs) j = bans_ended moment bs (m.ended b.addr (moment b) j)
 
   -- each active ban whose end is at most `at` ends at its end, by end and serial
   abbrev pub ended_by_time : ℕ → J → J
-  ended_by_time at j = end_all own_end (in_order ends_before (filter (is_due at) (m.active j))) j
+  ended_by_time at j = bans_ended own_end (in_order ends_before (filter (is_due at) (m.active j))) j
 
   -- an unban ends its bans by serial, each at `at`
   abbrev pub unbanned : ℕ → Option (List Addr) → J → J
-  unbanned at addrs j = end_all (λ b. at) (filter (is_meant addrs) (m.active j)) j
+  unbanned at addrs j = bans_ended (λ b. at) (filter (is_meant addrs) (m.active j)) j
 
   -- the jails after a move on the first one of that name, if there is one
   abbrev pub in_jail : List ℕ → (ℕ → J → JailAndSerial J) → ℕ → List J → JailsAndSerial J
@@ -223,7 +223,7 @@ module _ {J : Type 0} (m : JailOps J) where
   abbrev pub each_jail : (J → J) → JailsOf J → JailsOf J
   each_jail f w = record w { jails = map f w.jails }
 
-  -- at a reading: the moment never falls
+  -- at a reading: now never falls
   abbrev pub raised : ℕ → JailsOf J → JailsOf J
   raised secs w = record w { at = max w.at secs }
 
@@ -231,7 +231,7 @@ module _ {J : Type 0} (m : JailOps J) where
   abbrev pub at_reading : ℕ → JailsOf J → JailsOf J
   at_reading secs w = let now = raised secs w in each_jail (ended_by_time now.at) now
 
-  -- The step: the moment is raised, due bans end, what happened is done, and what is over for long is dropped.
+  -- The step: now is raised, due bans end, what happened is done, and what is over for long is dropped.
   abbrev pub step_by : JailsOf J → Input → JailsOf J
   step_by w input =
       cond (is_spent w) w (

@@ -16,9 +16,9 @@ use Rattle.f2b_model.specs.Watches.{is_watched}
 use Rattle.f2b_model.specs.Steps.{JailOps, named, is_spent, is_due, ends_before, is_meant, is_meant_jail, at_reading}
 
 -- what each jail tells, jail by jail
-abbrev pub told_each : {J : Type 0} → (J → List Happening) → List J → List Happening
-told_each t [] = []
-told_each t (j ∷ js) = t j ++ told_each t js
+abbrev pub told_by_jails : {J : Type 0} → (J → List Happening) → List J → List Happening
+told_by_jails t [] = []
+told_by_jails t (j ∷ js) = t j ++ told_by_jails t js
 
 -- a ban began in the jail of a name, which shows these lines
 abbrev pub begins : List ℕ → List ℕ → Ban → Happening
@@ -46,9 +46,9 @@ module _ {J : Type 0} (m : JailOps J) where
   told_unbanned jail addrs j = cond (is_meant_jail jail (m.definition j)) (map (Ends (named m j)) (filter (is_meant addrs) (m.active j))) []
 
   -- what the first jail of a name tells
-  abbrev pub told_in : List ℕ → (J → List Happening) → List J → List Happening
-  told_in name t [] = []
-  told_in name t (j ∷ js) = cond (bytes_eq (m.definition j).name name) (t j) (told_in name t js)
+  abbrev pub told_by_name : List ℕ → (J → List Happening) → List J → List Happening
+  told_by_name name t [] = []
+  told_by_name name t (j ∷ js) = cond (bytes_eq (m.definition j).name name) (t j) (told_by_name name t js)
 
   -- failures that were found in one jail, each told of the jail after those before
   abbrev pub told_found_in_turn : ℕ → ℕ → List Failure → ℕ → J → List Happening
@@ -68,14 +68,14 @@ module _ {J : Type 0} (m : JailOps J) where
 
   -- what happened. A configuration tells nothing, also of the bans that go with a lost jail
   abbrev pub told_done : ℕ → What → JailsOf J → List Happening
-  told_done word (Read jail path place fs) w = told_in jail (told_read w.at word path place fs w.next_ban) w.jails
-  told_done word (Attempt jail addr) w = told_in jail (told_found_in_turn w.at word (record { addr = addr; time = w.at; line = [] } ∷ []) w.next_ban) w.jails
-  told_done word (BanThese jail addrs) w = told_in jail (told_banned_in_turn w.at word addrs w.next_ban) w.jails
-  told_done word (Unban jail addrs) w = told_each (told_unbanned jail addrs) w.jails
+  told_done word (Read jail path place fs) w = told_by_name jail (told_read w.at word path place fs w.next_ban) w.jails
+  told_done word (Attempt jail addr) w = told_by_name jail (told_found_in_turn w.at word (record { addr = addr; time = w.at; line = [] } ∷ []) w.next_ban) w.jails
+  told_done word (BanThese jail addrs) w = told_by_name jail (told_banned_in_turn w.at word addrs w.next_ban) w.jails
+  told_done word (Unban jail addrs) w = told_by_jails (told_unbanned jail addrs) w.jails
   told_done word _ w = []
 
   -- what a step tells: ends by time, then what happened
   abbrev pub jails_told : JailsOf J → Input → List Happening
   jails_told w input =
       cond (is_spent w) [] (
-      told_each (told_ends (max w.at input.secs)) w.jails ++ told_done input.word input.what (at_reading m input.secs w))
+      told_by_jails (told_ends (max w.at input.secs)) w.jails ++ told_done input.word input.what (at_reading m input.secs w))

@@ -12,13 +12,13 @@ first_place true = Tail
 first_place false = Pos 0 []
 
 -- the place of a path that was watched, or that of a new log
-abbrev pub place_in : List WatchView → WatchDef → Place
-place_in [] d = first_place d.tail
-place_in (w ∷ ws) d = cond (bytes_eq w.path d.path) w.place (place_in ws d)
+abbrev pub place_or_first : List WatchView → WatchDef → Place
+place_or_first [] d = first_place d.tail
+place_or_first (w ∷ ws) d = cond (bytes_eq w.path d.path) w.place (place_or_first ws d)
 
 -- the watches of a definition: the paths that were watched keep their places, and the others are new
 abbrev pub watches_of : List WatchDef → List WatchView → List WatchView
-watches_of ds ws = map (λ (d : WatchDef). record { path = d.path; place = place_in ws d }) ds
+watches_of ds ws = map (λ (d : WatchDef). record { path = d.path; place = place_or_first ws d }) ds
 
 -- whether a path is watched
 abbrev pub is_watched : List ℕ → List WatchView → Bool

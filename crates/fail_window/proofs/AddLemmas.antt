@@ -80,7 +80,7 @@ module _ (findtime maxretry now p : ℕ) (fs xs ys : List Failure) (f : Failure)
   after_tidy forward = record {
     positive = tidy.positive;
     in_order = after_order;
-    of_one = (f.addr, after_own);
+    one_address = (f.addr, after_own);
     recent = (now, rw after_is (all_placed (IsRecent now findtime) by_time f _ (not_later, omega arith) (all_recent now findtime fs forward)));
   }
 
@@ -131,8 +131,8 @@ none_passes p [] none = refl
 none_passes p (f ∷ fs) none =
     by_test (p f) _ (λ e. absurd (let clash : true ≡ false = rw e at none in cc)) (λ e. let rest : list_any p fs ≡ false = rw e at none in rw e (none_passes p fs rest))
 
-only_one : (maxretry k : ℕ) → 1 ≤ maxretry → k + maxretry ≤ 1 → nat_eq maxretry 1 ≡ true
-only_one maxretry k one le = let e : maxretry ≡ 1 = omega arith in rw e refl
+single_failure_fills : (maxretry k : ℕ) → 1 ≤ maxretry → k + maxretry ≤ 1 → nat_eq maxretry 1 ≡ true
+single_failure_fills maxretry k one le = let e : maxretry ≡ 1 = omega arith in rw e refl
 
 alone_run : (findtime maxretry : ℕ) (f : Failure) → 1 ≤ findtime → nat_eq maxretry 1 ≡ true → IsRunAt findtime maxretry (f ∷ []) 0
 alone_run findtime maxretry f one t = let e : maxretry ≡ 1 = grind (arith, nat_tests) in rw e (omega arith, omega arith)
@@ -143,8 +143,8 @@ pub added_alone : (findtime maxretry now : ℕ) (fs : List Failure) (f : Failure
     → IsAdded findtime maxretry now fs (f ∷ []) f (nat_eq maxretry 1)
 added_alone findtime maxretry now fs f tidy own not_later recent forward none =
     added findtime maxretry now 0 fs [] (f ∷ []) f tidy own not_later recent (none_passes (is_recent now findtime) fs none) refl refl (nat_eq maxretry 1) forward (omega arith)
-    (λ t. (0, alone_run findtime maxretry f (omega arith) t)) (λ k front behind run. only_one maxretry k tidy.positive run.0)
+    (λ t. (0, alone_run findtime maxretry f (omega arith) t)) (λ k front behind run. single_failure_fills maxretry k tidy.positive run.0)
 
 -- a window with no failures
 pub none_tidy : (findtime maxretry : ℕ) → 1 ≤ maxretry → IsTidy findtime maxretry []
-none_tidy findtime maxretry one = record { positive = one; in_order = tt; of_one = (V4 0, tt); recent = (0, tt) }
+none_tidy findtime maxretry one = record { positive = one; in_order = tt; one_address = (V4 0, tt); recent = (0, tt) }

@@ -7,7 +7,7 @@ use Rattle.f2b_model.specs.Full.{is_of, is_recent}
 use Rattle.f2b_model.specs.Lists.{AllOf}
 use Rattle.f2b_model.specs.Nows.{comes_before}
 use Rattle.f2b_model.specs.Stands.{StandsFor}
-use Rattle.f2b_model.proofs.EndLemmas.{all_placed_all}
+use Rattle.f2b_model.proofs.EndLemmas.{all_with_placed}
 use Rattle.f2b_model.proofs.OrderlyLemmas.{all_of-filter, all_of-push}
 use Rattle.fail_window.specs.Opened.{Opened, GoesOn, KeepsLimits}
 
@@ -21,7 +21,7 @@ pub record Follows (addr : Addr) (last : ℕ) (w : Opened) : Type 0 where
 -- what holds of all failures holds of those that the window keeps
 kept_too : (P : Failure → Type 0) (last findtime : ℕ) (kept whole : List Failure) → StandsFor last findtime kept whole → AllOf P whole → AllOf P kept
 kept_too P last findtime kept whole s a =
-    rw (s.is) (all_placed_all P comes_before [] (filter (is_recent last findtime) whole) tt (all_of-filter P (is_recent last findtime) whole a))
+    rw (s.is) (all_with_placed P comes_before [] (filter (is_recent last findtime) whole) tt (all_of-filter P (is_recent last findtime) whole a))
 
 later : (last now : ℕ) (fs : List Failure) → last ≤ now → AllOf (λ (f : Failure). f.time ≤ last) fs → AllOf (λ (f : Failure). f.time ≤ now) fs
 later last now [] le a = tt

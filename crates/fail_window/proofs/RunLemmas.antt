@@ -10,7 +10,7 @@ use Rattle.f2b_model.specs.Lists.{AllOf, IsInOrder, NoneBefore}
 use Rattle.f2b_model.specs.Windows.{IsRising, IsFullBy, HasRun}
 use Rattle.f2b_model.proofs.FullLemmas.{le_true, le_false}
 use Rattle.f2b_model.proofs.ListLemmas.{by_test}
-use Rattle.f2b_model.proofs.WindowLemmas.{run_iff_full, of_one, short}
+use Rattle.f2b_model.proofs.WindowLemmas.{run_iff_full, full_by_own_times, short}
 use Rattle.fail_window.specs.Opened.{IsRecent}
 use Rattle.fail_window.specs.Times.{by_time, times_of, IsRunAt}
 
@@ -53,7 +53,7 @@ all_of_it addr (f ∷ fs) a = rw (a.0) (ap (λ r. f ∷ r) (all_of_it addr fs a.
 pub full_by_times : (findtime maxretry : ℕ) (addr : Addr) (fs : List Failure) → AllOf (λ (f : Failure). is_of addr f ≡ true) fs
     → IsFull findtime maxretry addr fs ↔ IsFullBy findtime maxretry (times_of fs)
 full_by_times findtime maxretry addr fs own =
-    let times = of_one findtime maxretry addr fs in
+    let times = full_by_own_times findtime maxretry addr fs in
     let same = all_of_it addr fs own in
     let P : List Failure → Type 0 = λ gs. IsFullBy findtime maxretry (times_of gs) in
     (λ full. subst P same (times.0 full), λ full. times.1 (subst P (sym same) full))

@@ -21,7 +21,7 @@ IsRecent now findtime f = (f.time ≤ now) × (now < f.time + 2 * findtime)
 pub record IsTidy (findtime maxretry : ℕ) (fs : List Failure) : Type 0 where
   pub positive : 1 ≤ maxretry
   pub in_order : IsInOrder by_time fs
-  pub of_one : (addr : Addr) × AllOf (λ (f : Failure). is_of addr f ≡ true) fs
+  pub one_address : (addr : Addr) × AllOf (λ (f : Failure). is_of addr f ≡ true) fs
   pub recent : (now : ℕ) × AllOf (IsRecent now findtime) fs
 
 -- no address is full by the failures that the window keeps

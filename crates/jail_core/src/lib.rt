@@ -14,8 +14,8 @@
 //! ```
 #![tactic(auto)]
 
-mod after;
 mod again;
+mod effects;
 mod state;
 
 pub use again::view_after;

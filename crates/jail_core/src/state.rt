@@ -14,10 +14,10 @@ ghost use Rattle.f2b_model.specs.Whole.{is_whole_spent, step_now, told_now};
 ghost use Rattle.f2b_model.specs.declared.jail_now.JailNow.{JailNow};
 ghost use Rattle.f2b_model.specs.Configured.{configured_now};
 ghost use Rattle.f2b_model.specs.Bounds.{IsTakenInput};
-ghost use Rattle.jail_rooms.specs.Shown.{ban_from, defs_of, lately_in, totals_of};
+ghost use Rattle.jail_rooms.specs.Shown.{ban_from, defs_of, jail_failed_lately, totals_of};
 ghost use Rattle.lane_moves.specs.CheckText.{check_text_of};
 
-use crate::after::{Aftermath, after};
+use crate::effects::{Aftermath, after};
 use action_queue::Lanes;
 use f2b_base::{Ban, Defs, Input, JailDef, NoMemory, Plain, Seq, Text, UpLane, View};
 use f2b_model::Told;
@@ -125,7 +125,7 @@ impl Core {
         })
     }
 
-    /// The greatest moment so far, in seconds since 1970. Takes no memory.
+    /// The greatest reading so far, in seconds since 1970. Takes no memory.
     pub fn now(&self) -> u64
         ensures { result ≡ self.now.jails.at }
     {
@@ -196,7 +196,7 @@ impl Core {
     /// such jail. It takes time by the addresses that have failures, and no memory.
     pub fn failed_lately(&self, name: &str, now: u64) -> u64
         requires { self.now.jails.at ≤ now }
-        ensures { result ≡ option_map_or (lately_in now) (find_jail moves_now name.now self.now.jails.jails) 0 }
+        ensures { result ≡ option_map_or (jail_failed_lately now) (find_jail moves_now name.now self.now.jails.jails) 0 }
     {
         self.jails.failed_lately(name, now)
     }

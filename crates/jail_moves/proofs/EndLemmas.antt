@@ -10,7 +10,7 @@ use Rattle.f2b_base.specs.declared.ban.Ban.{Ban}
 use Rattle.f2b_model.specs.declared.happening.Happening.{Happening}
 use Rattle.f2b_model.specs.declared.happening.Happening.TheVariants.{Ends}
 use Rattle.f2b_base.specs.Addresses.{same_addr}
-use Rattle.f2b_model.specs.Lists.{AllOf, IsIn, NoneBefore, in_order, placed, placed_all}
+use Rattle.f2b_model.specs.Lists.{AllOf, IsIn, NoneBefore, in_order, placed, with_placed}
 use Rattle.f2b_model.specs.Moves.{ban_of, is_banned}
 use Rattle.f2b_model.specs.Sound.{IsOnceEach, IsRisingSerials}
 use Rattle.f2b_model.specs.Steps.{ends_before, is_due, own_end}
@@ -52,7 +52,7 @@ in_front ban [] later = refl
 in_front ban (b ∷ bs) later = let e = later.0 in rw e refl
 
 -- and stays there, whatever is placed that does not end before it
-stays_in_front : (ban : Ban) (done bans : List Ban) → NoneBefore ends_before ban bans → placed_all ends_before (ban ∷ done) bans ≡ ban ∷ placed_all ends_before done bans
+stays_in_front : (ban : Ban) (done bans : List Ban) → NoneBefore ends_before ban bans → with_placed ends_before (ban ∷ done) bans ≡ ban ∷ with_placed ends_before done bans
 stays_in_front ban done [] h = refl
 stays_in_front ban done (b ∷ bs) h = let e = h.0 in rw e (stays_in_front ban (placed ends_before b done) bs h.1)
 
@@ -64,22 +64,22 @@ later_placed ban b (d ∷ ds) e later = by_test (ends_before b d) _ (λ t. rw t 
 
 -- the first ban of the list ends first
 first_is_next : (ban : Ban) (done bans : List Ban) → AllOf (λ (b : Ban). ends_before ban b ≡ true) done → AllOf (IsSooner ban) bans → is_banned ban.addr bans ≡ false
-    → placed_all ends_before done (ban ∷ bans) ≡ ban ∷ placed_all ends_before done (without ban (ban ∷ bans))
+    → with_placed ends_before done (ban ∷ bans) ≡ ban ∷ with_placed ends_before done (without ban (ban ∷ bans))
 first_is_next ban done bans later first free =
     let own = same_addr_same ban.addr in
     let rest : without ban (ban ∷ bans) ≡ bans = rw own (all_others ban.addr bans free) in
-    ap (λ r. placed_all ends_before r bans) (in_front ban done later) ∙ stays_in_front ban done bans (none_sooner ban bans first)
-    ∙ ap (λ r. ban ∷ placed_all ends_before done r) (sym rest)
+    ap (λ r. with_placed ends_before r bans) (in_front ban done later) ∙ stays_in_front ban done bans (none_sooner ban bans first)
+    ∙ ap (λ r. ban ∷ with_placed ends_before done r) (sym rest)
 
 -- the ban that ends first, wherever it stands in the list
 next_is_first : (ban : Ban) (done bans : List Ban) → AllOf (λ (b : Ban). ends_before ban b ≡ true) done → IsIn ban bans → IsRisingSerials bans → IsOnceEach bans
-    → AllOf (IsSooner ban) bans → placed_all ends_before done bans ≡ ban ∷ placed_all ends_before done (without ban bans)
+    → AllOf (IsSooner ban) bans → with_placed ends_before done bans ≡ ban ∷ with_placed ends_before done (without ban bans)
 next_is_first ban done [] later within rising once first = absurd within
 next_is_first ban done (b ∷ bs) later within rising once first =
     elim within [
       | inl same ↦
           (let P : Ban → Type 0 = λ c. AllOf (λ (d : Ban). ends_before c d ≡ true) done → AllOf (IsSooner c) bs
-          → placed_all ends_before done (b ∷ bs) ≡ c ∷ placed_all ends_before done (without c (b ∷ bs)) in
+          → with_placed ends_before done (b ∷ bs) ≡ c ∷ with_placed ends_before done (without c (b ∷ bs)) in
           let own : P b = λ l f. first_is_next b done bs l f once.0 in
           subst P (sym same) own later first.1)
       | inr behind ↦
@@ -109,12 +109,12 @@ in_kept p x (y ∷ ys) i =
     (λ e. let j : IsIn x (filter p ys) = rw e at i in let r = in_kept p x ys j in (inr r.0, r.1))
 
 -- and what was in it and passes is kept
-kept_in : {A : Type 0} (p : A → Bool) (x : A) (xs : List A) → IsIn x xs → p x ≡ true → IsIn x (filter p xs)
-kept_in p x [] i h = i
-kept_in p x (y ∷ ys) i h =
+passing_is_kept : {A : Type 0} (p : A → Bool) (x : A) (xs : List A) → IsIn x xs → p x ≡ true → IsIn x (filter p xs)
+passing_is_kept p x [] i h = i
+passing_is_kept p x (y ∷ ys) i h =
     by_test (p y) _
-    (λ e. rw e (elim i [ inl d ↦ inl d | inr j ↦ inr (kept_in p x ys j h) ]))
-    (λ e. rw e (elim i [ inl d ↦ absurd (let k : true ≡ false = sym h ∙ ap p d ∙ e in cc) | inr j ↦ kept_in p x ys j h ]))
+    (λ e. rw e (elim i [ inl d ↦ inl d | inr j ↦ inr (passing_is_kept p x ys j h) ]))
+    (λ e. rw e (elim i [ inl d ↦ absurd (let k : true ≡ false = sym h ∙ ap p d ∙ e in cc) | inr j ↦ passing_is_kept p x ys j h ]))
 
 -- the ban that is due next is the first in order, and what is left once it ended is the rest
 pub due_next : (at : ℕ) (ban : Ban) (bans : List Ban) → IsRisingSerials bans → IsOnceEach bans → IsNextDue at bans ban
@@ -122,7 +122,7 @@ pub due_next : (at : ℕ) (ban : Ban) (bans : List Ban) → IsRisingSerials bans
 due_next at ban bans rising once next =
     let due = filter (is_due at) bans in
     let first : AllOf (IsSooner ban) due = all_are (IsSooner ban) due (λ other i. (let r = in_kept (is_due at) other bans i in next.first other r.0 r.1)) in
-    next_is_first ban [] due tt (kept_in (is_due at) ban bans next.active next.due) (rising_filter (is_due at) bans rising) (once_filter (is_due at) bans once) first
+    next_is_first ban [] due tt (passing_is_kept (is_due at) ban bans next.active next.due) (rising_filter (is_due at) bans rising) (once_filter (is_due at) bans once) first
     ∙ ap (λ r. ban ∷ in_order ends_before r) (filter_swap (is_due at) (λ b. not (ban_of ban.addr b)) bans)
 
 -- where no ban is due, none ends
@@ -146,7 +146,7 @@ pub record IsOneLess (at : ℕ) (ban : Ban) (before after : BanLists) : Type 0 w
   pub ended : all_ended own_end (due_in_order at before.active) before ≡ all_ended own_end (due_in_order at after.active) after
   pub fewer : length (filter (is_due at) after.active) < length (filter (is_due at) before.active)
 
--- the end of the ban that is due next is such a turn
+-- the end of the ban that is due next is such a change
 pub one_less : (at : ℕ) (ban : Ban) (before after : BanLists) → IsRisingSerials before.active → IsOnceEach before.active → IsNextDue at before.active ban
     → after ≡ ended ban.addr (own_end ban) before → IsOneLess at ban before after
 one_less at ban before after rising once next ends =

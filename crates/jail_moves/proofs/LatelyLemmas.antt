@@ -17,9 +17,9 @@ use Rattle.f2b_model.proofs.ListLemmas.{by_test, filter_both}
 use Rattle.f2b_model.proofs.OrderlyLemmas.{same_addr_sym}
 use Rattle.f2b_model.proofs.StepLemmas.{all_of-more}
 use Rattle.jail_moves.specs.declared.addresses.AddrWindow.{AddrWindow}
-use Rattle.jail_moves.specs.Addresses.{Entry, failures_in, AreWindows}
+use Rattle.jail_moves.specs.Addresses.{Entry, failures_of_windows, AreWindows}
 use Rattle.jail_moves.specs.Lately.{each_once, failed_lately}
-use Rattle.jail_moves.specs.Rooms.{Contents, jail_in}
+use Rattle.jail_moves.specs.Rooms.{Contents, jail_of_contents}
 use Rattle.jail_moves.proofs.WindowEntries.{above, not_own, IsSome}
 use Rattle.jail_moves.proofs.WindowLists.{one_addr}
 
@@ -61,16 +61,16 @@ abbrev pub is_lately : ℕ → AddrWindow → Bool
 is_lately now w = list_any (is_within_findtime now w.window.findtime) w.window.failures
 
 entries_lately : (findtime maxretry now : ℕ) (es : List Entry) → AllOf (IsSome findtime maxretry) es → IsStrictlySortedBy pair_cmp (keys_of es)
-    → length (filter (is_lately now) (values_of es)) ≡ failed_lately now findtime (failures_in es)
+    → length (filter (is_lately now) (values_of es)) ≡ failed_lately now findtime (failures_of_windows es)
 unfolding IsStrictlySortedBy
 entries_lately findtime maxretry now [] each rising = refl
 entries_lately findtime maxretry now (e ∷ es) each rising =
     let addr = each.0.0 in
     let o = each.0.1 in
     let rest = entries_lately findtime maxretry now es each.1 rising.1 in
-    let others = all_of-more (λ (f : Failure). addr_before addr f.addr ≡ true) (λ (f : Failure). is_of addr f ≡ false) (λ f h. not_own addr f h) (failures_in es)
+    let others = all_of-more (λ (f : Failure). addr_before addr f.addr ≡ true) (λ (f : Failure). is_of addr f ≡ false) (λ f h. not_own addr f h) (failures_of_windows es)
     (above findtime maxretry addr e.0 es o.key each.1 rising.0) in
-    let more = lately_more now findtime addr e.1.window.failures (failures_in es) o.own others in
+    let more = lately_more now findtime addr e.1.window.failures (failures_of_windows es) o.own others in
     let span : is_lately now e.1 ≡ list_any (is_within_findtime now findtime) e.1.window.failures = ap (λ n. list_any (is_within_findtime now n) e.1.window.failures) o.span in
     by_test (is_lately now e.1) _
     (λ t. rw t (ap suc rest ∙ sym (rw (sym span ∙ t) at more)))
@@ -78,7 +78,7 @@ entries_lately findtime maxretry now (e ∷ es) each rising =
 
 -- of windows those that failed lately are as many as the addresses
 pub windows_lately : (findtime maxretry now : ℕ) (es : List Entry) → AreWindows findtime maxretry es
-    → length (filter (is_lately now) (values_of es)) ≡ failed_lately now findtime (failures_in es)
+    → length (filter (is_lately now) (values_of es)) ≡ failed_lately now findtime (failures_of_windows es)
 windows_lately findtime maxretry now es w = entries_lately findtime maxretry now es w.each w.rising
 
 -- what is recent at a moment was recent at each one before
@@ -92,6 +92,6 @@ lately_of_recent moment now findtime fs le =
 
 -- nor among those of a jail's middle state
 pub room_lately : (now : ℕ) (d : JailDef) (c : Contents) → c.windows.findtime ≡ d.findtime → c.moment ≤ now
-    → failed_lately now c.windows.findtime c.windows.failures ≡ failed_lately now d.findtime (jail_in d c).failures
+    → failed_lately now c.windows.findtime c.windows.failures ≡ failed_lately now d.findtime (jail_of_contents d c).failures
 room_lately now d c limits later =
     ap (λ n. failed_lately now n c.windows.failures) limits ∙ sym (lately_of_recent c.moment now d.findtime c.windows.failures later)

@@ -10,7 +10,7 @@ pub mod WindowEntries
 pub mod WindowCounts
 pub mod WindowLosses
 pub mod WindowAlone
-pub mod WindowTurns
+pub mod WindowChanges
 pub mod WindowReads
 pub mod LineLemmas
 pub mod LatelyLemmas

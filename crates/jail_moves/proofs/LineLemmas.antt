@@ -161,9 +161,9 @@ left_by_none most place fs f left was within is empty =
     }
 
 -- one with a line that fits takes its room
-pub left_by_one : (most place : ℕ) (fs : List Failure) (f : Failure) (left next : Left) → IsLeft most fs left (place + 1) → place < length fs → f ≡ get_or fs place f → 0 < length f.line
+pub left_by_line : (most place : ℕ) (fs : List Failure) (f : Failure) (left next : Left) → IsLeft most fs left (place + 1) → place < length fs → f ≡ get_or fs place f → 0 < length f.line
     → left_after left f.line ≡ Some next → IsLeft most fs next place
-left_by_one most place fs f left next was within is some fits =
+left_by_line most place fs f left next was within is some fits =
     let rest : drop place fs ≡ f ∷ drop (place + 1) fs = drop_more fs place f within ∙ ap (λ g. g ∷ drop (place + 1) fs) (sym is) in
     let same : lines_of (drop place fs) ≡ f.line ∷ lines_of (drop (place + 1) fs) = ap lines_of rest ∙ line_of f (drop (place + 1) fs) some in
     let room = some_left left next f.line fits in

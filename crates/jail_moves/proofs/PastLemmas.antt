@@ -55,8 +55,8 @@ none_left (b ∷ bans) zero all = absurd (omega (arith, all))
 none_left (b ∷ bans) (suc i) all = none_left bans i (omega (arith, all))
 
 -- where none is left
-pub last_all : (at last : ℕ) (bans : List Ban) (i : ℕ) → length bans ≤ i → IsLast at bans last (drop i bans) → (p : Past) → is_over at bans p ≡ nat_le p.end last
-last_all at last bans i all is p = subst (IsLast at bans last) (none_left bans i all) is p ∙ alone (nat_le p.end last)
+pub last_at_the_end : (at last : ℕ) (bans : List Ban) (i : ℕ) → length bans ≤ i → IsLast at bans last (drop i bans) → (p : Past) → is_over at bans p ≡ nat_le p.end last
+last_at_the_end at last bans i all is p = subst (IsLast at bans last) (none_left bans i all) is p ∙ alone (nat_le p.end last)
   where
     alone : (b : Bool) → (b && true) ≡ b
     alone b = by_test b _ (λ e. rw e refl) (λ e. rw e refl)

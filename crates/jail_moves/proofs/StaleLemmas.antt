@@ -15,7 +15,7 @@ use Rattle.f2b_model.proofs.ListLemmas.{by_test}
 use Rattle.f2b_model.proofs.OrderlyLemmas.{same_addr_sym}
 use Rattle.f2b_model.proofs.SoundLemmas.{same_addr_true}
 use Rattle.f2b_model.proofs.StepLemmas.{all_of-more}
-use Rattle.jail_moves.specs.Addresses.{Entry, failures_in, is_live, is_stale, AreNotBefore, AreWindows, IsOwn}
+use Rattle.jail_moves.specs.Addresses.{Entry, failures_of_windows, is_live, is_stale, AreNotBefore, AreWindows, IsOwn}
 use Rattle.jail_moves.specs.Lately.{each_once}
 use Rattle.jail_moves.specs.Stale.{has_recent, stale_addrs}
 use Rattle.jail_moves.proofs.WindowCounts.{any_weaker}
@@ -52,15 +52,15 @@ recent_own now findtime addr [] rest mine others = recent_none now findtime addr
 recent_own now findtime addr (f ∷ own) rest mine others = rw (mine.0) (ap (λ b. is_recent now findtime f || b) (recent_own now findtime addr own rest mine.1 others))
 
 -- an address of which no failure is there is not among theirs
-not_among : (addr : Addr) (fs : List Failure) → AllOf (λ (f : Failure). is_of addr f ≡ false) fs → list_any (same_addr addr) (addrs_of fs) ≡ false
-not_among addr [] others = refl
-not_among addr (f ∷ fs) others = let apart : same_addr addr f.addr ≡ false = same_addr_sym addr f.addr ∙ others.0 in rw apart (not_among addr fs others.1)
+not_listed : (addr : Addr) (fs : List Failure) → AllOf (λ (f : Failure). is_of addr f ≡ false) fs → list_any (same_addr addr) (addrs_of fs) ≡ false
+not_listed addr [] others = refl
+not_listed addr (f ∷ fs) others = let apart : same_addr addr f.addr ≡ false = same_addr_sym addr f.addr ∙ others.0 in rw apart (not_listed addr fs others.1)
 
 -- an address's failures in front of others tell one address more
 once_more : (addr : Addr) (f : Failure) (own rest : List Failure) → AllOf (λ (g : Failure). is_of addr g ≡ true) (f ∷ own) → AllOf (λ (g : Failure). is_of addr g ≡ false) rest
     → each_once (addrs_of ((f ∷ own) ++ rest)) ≡ addr ∷ each_once (addrs_of rest)
 once_more addr f [] rest mine others =
-    let none : list_any (same_addr f.addr) (addrs_of rest) ≡ false = one_addr (λ a. list_any (same_addr a) (addrs_of rest)) f.addr addr mine.0 ∙ not_among addr rest others in
+    let none : list_any (same_addr f.addr) (addrs_of rest) ≡ false = one_addr (λ a. list_any (same_addr a) (addrs_of rest)) f.addr addr mine.0 ∙ not_listed addr rest others in
     rw none (ap (λ a. a ∷ each_once (addrs_of rest)) (same_addr_true f.addr addr mine.0))
 once_more addr f (g ∷ own) rest mine others =
     let there : same_addr f.addr g.addr ≡ true = one_addr (λ a. same_addr a g.addr) f.addr addr mine.0 ∙ (same_addr_sym addr g.addr ∙ mine.1.0) in
@@ -139,16 +139,16 @@ own_live findtime maxretry now addr e own =
         recent time latest t h = grind (arith, nat_tests)
 
 entries_stale : (findtime maxretry now : ℕ) (es : List Entry) → AllOf (IsSome findtime maxretry) es → IsStrictlySortedBy pair_cmp (keys_of es)
-    → length (stale_addrs now findtime (failures_in es)) ≡ length (filter (is_stale now findtime) es)
+    → length (stale_addrs now findtime (failures_of_windows es)) ≡ length (filter (is_stale now findtime) es)
 unfolding IsStrictlySortedBy
 entries_stale findtime maxretry now [] each rising = refl
 entries_stale findtime maxretry now (e ∷ es) each rising =
     let addr = each.0.0 in
     let o = each.0.1 in
     let rest = entries_stale findtime maxretry now es each.1 rising.1 in
-    let others = all_of-more (λ (f : Failure). addr_before addr f.addr ≡ true) (λ (f : Failure). is_of addr f ≡ false) (λ f h. not_own addr f h) (failures_in es)
+    let others = all_of-more (λ (f : Failure). addr_before addr f.addr ≡ true) (λ (f : Failure). is_of addr f ≡ false) (λ f h. not_own addr f h) (failures_of_windows es)
     (above findtime maxretry addr e.0 es o.key each.1 rising.0) in
-    let more = stale_more now findtime addr e.1.window.failures (failures_in es) (λ (f : Failure). f.time == e.1.latest) o.own others o.last in
+    let more = stale_more now findtime addr e.1.window.failures (failures_of_windows es) (λ (f : Failure). f.time == e.1.latest) o.own others o.last in
     let live = own_live findtime maxretry now addr e o in
     by_test (is_live now findtime e) _
     (λ t. rw t (rw (live ∙ t) at more ∙ rest))
@@ -156,7 +156,7 @@ entries_stale findtime maxretry now (e ∷ es) each rising =
 
 -- of windows those of which nothing is recent are as many as the addresses
 pub windows_stale : (findtime maxretry now : ℕ) (es : List Entry) → AreWindows findtime maxretry es
-    → length (stale_addrs now findtime (failures_in es)) ≡ length (filter (is_stale now findtime) es)
+    → length (stale_addrs now findtime (failures_of_windows es)) ≡ length (filter (is_stale now findtime) es)
 windows_stale findtime maxretry now es w = entries_stale findtime maxretry now es w.each w.rising
 
 -- a list without length
@@ -165,8 +165,8 @@ length_none [] e = refl
 length_none (x ∷ xs) e = absurd (omega arith)
 
 -- so where there are none of these, there is none of those
-pub none_stale : (findtime maxretry now : ℕ) (es : List Entry) → AreWindows findtime maxretry es → filter (is_stale now findtime) es ≡ [] → stale_addrs now findtime (failures_in es) ≡ []
-none_stale findtime maxretry now es w none = length_none (stale_addrs now findtime (failures_in es)) (windows_stale findtime maxretry now es w ∙ ap length none)
+pub none_stale : (findtime maxretry now : ℕ) (es : List Entry) → AreWindows findtime maxretry es → filter (is_stale now findtime) es ≡ [] → stale_addrs now findtime (failures_of_windows es) ≡ []
+none_stale findtime maxretry now es w none = length_none (stale_addrs now findtime (failures_of_windows es)) (windows_stale findtime maxretry now es w ∙ ap length none)
 
 -- there is none where no latest failure is before a time that is recent
 pub not_before_stale : (findtime now time : ℕ) (es : List Entry) → nat_lt now (time + 2 * findtime) ≡ true → AreNotBefore time es → filter (is_stale now findtime) es ≡ []

@@ -20,13 +20,13 @@ use Rattle.f2b_model.specs.Lists.{AllOf}
 use Rattle.f2b_model.proofs.ListLemmas.{by_test, filter-append}
 use Rattle.f2b_model.proofs.OrderlyLemmas.{all_of-filter}
 use Rattle.jail_moves.specs.declared.addresses.AddrWindow.{AddrWindow}
-use Rattle.jail_moves.specs.Addresses.{Entry, failures_in, is_live, is_stale, windows_from, AreNotBefore, IsHeld, Sweeps}
+use Rattle.jail_moves.specs.Addresses.{Entry, failures_of_windows, is_live, is_stale, windows_from, AreNotBefore, IsHeld, Sweeps}
 use Rattle.jail_moves.specs.Stale.{stale_addrs}
 use Rattle.jail_moves.proofs.StaleLemmas.{none_stale, windows_stale}
 use Rattle.jail_moves.proofs.WindowEntries.{IsSome}
 use Rattle.jail_moves.proofs.WindowLists.{filter_none}
 use Rattle.jail_moves.proofs.WindowLosses.{lost, none_recent}
-use Rattle.jail_moves.proofs.WindowTurns.{held_without}
+use Rattle.jail_moves.proofs.WindowChanges.{held_without}
 
 -- ---- what is found in a list
 
@@ -46,10 +46,10 @@ one_found : {A : Type 0} (x y : A) → Some x ≡ Some y → x ≡ y
 one_found x y e = cc
 
 -- what holds of each holds of the one that is found
-find_all : {A : Type 0} (P : A → Type 0) (p : A → Bool) (xs : List A) (x : A) → AllOf P xs → find p xs ≡ Some x → P x
-find_all {A} P p [] x a h = absurd (let nothing : Option A = None in let k : nothing ≡ Some x = h in cc)
-find_all P p (y ∷ ys) x a h =
-    by_test (p y) _ (λ e. subst P (one_found y x (rw e at h)) a.0) (λ e. find_all P p ys x a.1 (rw e at h))
+holds_of_found : {A : Type 0} (P : A → Type 0) (p : A → Bool) (xs : List A) (x : A) → AllOf P xs → find p xs ≡ Some x → P x
+holds_of_found {A} P p [] x a h = absurd (let nothing : Option A = None in let k : nothing ≡ Some x = h in cc)
+holds_of_found P p (y ∷ ys) x a h =
+    by_test (p y) _ (λ e. subst P (one_found y x (rw e at h)) a.0) (λ e. holds_of_found P p ys x a.1 (rw e at h))
 
 -- ---- keys in order
 
@@ -83,9 +83,9 @@ from_least q = by_test (nat_lt 0 q.0) _ (λ e. rw e refl) (λ e. least q.0 q.1 e
         let same : (0 == a) ≡ true = grind (arith, nat_tests) in
         by_test (nat_lt 0 b) _ (λ f. rw (e, same, f) refl) (λ f. let zero : (0 == b) ≡ true = grind (arith, nat_tests) in rw (e, same, f, zero) refl)
 
-windows_all : (es : List Entry) → windows_from (0, 0) es ≡ es
-windows_all [] = refl
-windows_all (e ∷ es) = rw (from_least e.0) (ap (λ r. e ∷ r) (windows_all es))
+windows_from_start : (es : List Entry) → windows_from (0, 0) es ≡ es
+windows_from_start [] = refl
+windows_from_start (e ∷ es) = rw (from_least e.0) (ap (λ r. e ∷ r) (windows_from_start es))
 
 -- the same for entries
 behind_it : (k : ℕ × ℕ) (es : List Entry) → AllByRecursion (λ (q : ℕ × ℕ). pair_cmp k q ≡ Less) (keys_of es) → AllOf (λ (e : Entry). pair_cmp k e.0 ≡ Less) es
@@ -102,7 +102,7 @@ pass_by p k e es not_it = by_test (range_contains pair_cmp (Included k) Unbounde
 other_key : (p : Entry → Bool) (e first : Entry) (es : List Entry) → AllByRecursion (λ (q : ℕ × ℕ). pair_cmp e.0 q ≡ Less) (keys_of es) → find p es ≡ Some first
     → is_eq (pair_cmp first.0 e.0) ≡ false
 other_key p e first es above h =
-    not_before_it first.0 e.0 (find_all (λ (x : Entry). pair_cmp e.0 x.0 ≡ Less) p es first (behind_it e.0 es above) h)
+    not_before_it first.0 e.0 (holds_of_found (λ (x : Entry). pair_cmp e.0 x.0 ≡ Less) p es first (behind_it e.0 es above) h)
 
 -- one fewer passes then
 one_fewer : (p : Entry → Bool) (es : List Entry) (first : Entry) → IsStrictlySortedBy pair_cmp (keys_of es) → find p es ≡ Some first
@@ -138,7 +138,7 @@ none_before_it p (e ∷ es) first rising h =
 -- where nothing of it is recent, what is recent stays
 recent_stays : (findtime maxretry now : ℕ) (es : List Entry) (first : Entry) → AllOf (IsSome findtime maxretry) es → IsStrictlySortedBy pair_cmp (keys_of es)
     → find (is_stale now findtime) es ≡ Some first
-    → filter (is_recent now findtime) (failures_in (remove_entry (is_at (pair_cmp first.0)) es)) ≡ filter (is_recent now findtime) (failures_in es)
+    → filter (is_recent now findtime) (failures_of_windows (remove_entry (is_at (pair_cmp first.0)) es)) ≡ filter (is_recent now findtime) (failures_of_windows es)
 unfolding IsStrictlySortedBy
 recent_stays findtime maxretry now [] first each rising h = absurd (let nothing : Option Entry = None in let k : nothing ≡ Some first = h in cc)
 recent_stays findtime maxretry now (e ∷ es) first each rising h =
@@ -147,23 +147,23 @@ recent_stays findtime maxretry now (e ∷ es) first each rising h =
     stale
   where
     apart : (r : List Entry)
-        → filter (is_recent now findtime) (e.1.window.failures ++ failures_in r) ≡ filter (is_recent now findtime) e.1.window.failures ++ filter (is_recent now findtime) (failures_in r)
-    apart r = filter-append (is_recent now findtime) e.1.window.failures (failures_in r)
+        → filter (is_recent now findtime) (e.1.window.failures ++ failures_of_windows r) ≡ filter (is_recent now findtime) e.1.window.failures ++ filter (is_recent now findtime) (failures_of_windows r)
+    apart r = filter-append (is_recent now findtime) e.1.window.failures (failures_of_windows r)
 
     live : is_live now findtime e ≡ true → find (is_stale now findtime) es ≡ Some first
-        → filter (is_recent now findtime) (failures_in (remove_entry (is_at (pair_cmp first.0)) es)) ≡ filter (is_recent now findtime) (failures_in es)
-        → filter (is_recent now findtime) (failures_in (remove_entry (is_at (pair_cmp first.0)) (e ∷ es))) ≡ filter (is_recent now findtime) (failures_in (e ∷ es))
+        → filter (is_recent now findtime) (failures_of_windows (remove_entry (is_at (pair_cmp first.0)) es)) ≡ filter (is_recent now findtime) (failures_of_windows es)
+        → filter (is_recent now findtime) (failures_of_windows (remove_entry (is_at (pair_cmp first.0)) (e ∷ es))) ≡ filter (is_recent now findtime) (failures_of_windows (e ∷ es))
     live t rest same =
         let other = other_key (is_stale now findtime) e first es rising.0 rest in
         rw other (apart (remove_entry (is_at (pair_cmp first.0)) es) ∙ ap (λ r. filter (is_recent now findtime) e.1.window.failures ++ r) same ∙ sym (apart es))
 
     stale : is_live now findtime e ≡ false
-        → filter (is_recent now findtime) (failures_in (remove_entry (is_at (pair_cmp first.0)) (e ∷ es))) ≡ filter (is_recent now findtime) (failures_in (e ∷ es))
+        → filter (is_recent now findtime) (failures_of_windows (remove_entry (is_at (pair_cmp first.0)) (e ∷ es))) ≡ filter (is_recent now findtime) (failures_of_windows (e ∷ es))
     stale t =
         let none = filter_none (is_recent now findtime) e.1.window.failures (none_recent now findtime e.1.latest e.1.window.failures t each.0.1.latest) in
         subst
-        (λ (x : Entry). filter (is_recent now findtime) (failures_in (remove_entry (is_at (pair_cmp x.0)) (e ∷ es))) ≡ filter (is_recent now findtime) (failures_in (e ∷ es)))
-        (one_found e first (rw t at h)) (rw (at_itself e.0) (sym (apart es ∙ ap (λ r. r ++ filter (is_recent now findtime) (failures_in es)) none)))
+        (λ (x : Entry). filter (is_recent now findtime) (failures_of_windows (remove_entry (is_at (pair_cmp x.0)) (e ∷ es))) ≡ filter (is_recent now findtime) (failures_of_windows (e ∷ es)))
+        (one_found e first (rw t at h)) (rw (at_itself e.0) (sym (apart es ∙ ap (λ r. r ++ filter (is_recent now findtime) (failures_of_windows es)) none)))
 
 -- ---- one after the other
 
@@ -178,7 +178,7 @@ pub dropped_none : (findtime maxretry now : ℕ) (es : List Entry) → IsHeld fi
 dropped_none findtime maxretry now es held = record {
   sweeps = record { held = held; recent = refl; times = λ moment a. a };
   left = omega arith;
-  front = ap (λ r. filter (is_stale now findtime) r) (windows_all es);
+  front = ap (λ r. filter (is_stale now findtime) r) (windows_from_start es);
 }
 
 -- the entry whose key was found
@@ -187,48 +187,48 @@ found_entry None key h = absurd (let nothing : Option (ℕ × ℕ) = None in let
 found_entry (Some e) key h = (e, refl, sym (one_found key e.0 h))
 
 -- the first of all is the first from the key on
-first_of_all : (now findtime : ℕ) (from : ℕ × ℕ) (es : List Entry) → filter (is_stale now findtime) (windows_from from es) ≡ filter (is_stale now findtime) es
+first_from_key : (now findtime : ℕ) (from : ℕ × ℕ) (es : List Entry) → filter (is_stale now findtime) (windows_from from es) ≡ filter (is_stale now findtime) es
     → find (is_stale now findtime) es ≡ find (is_stale now findtime) (windows_from from es)
-first_of_all now findtime from es front =
+first_from_key now findtime from es front =
     sym (find_kept (is_stale now findtime) es) ∙ ap (λ r. find (is_stale now findtime) r) (sym front) ∙ find_kept (is_stale now findtime) (windows_from from es)
 
 -- one more window was taken out
-pub dropped_more : (findtime maxretry now count : ℕ) (from key : ℕ × ℕ) (old mid new : List Entry) → AreDropped findtime maxretry now count from old mid
-    → Some key ≡ option_map (λ (e : Entry). e.0) (find (is_stale now findtime) (windows_from from mid)) → new ≡ remove_entry (is_at (pair_cmp key)) mid
-    → IsStrictlySortedBy pair_cmp (keys_of new) → ((q : ℕ × ℕ) → lookup (is_at (pair_cmp q)) new ≡ cond (is_eq (pair_cmp key q)) None (lookup (is_at (pair_cmp q)) mid))
+pub dropped_more : (findtime maxretry now count : ℕ) (from key : ℕ × ℕ) (old between new : List Entry) → AreDropped findtime maxretry now count from old between
+    → Some key ≡ option_map (λ (e : Entry). e.0) (find (is_stale now findtime) (windows_from from between)) → new ≡ remove_entry (is_at (pair_cmp key)) between
+    → IsStrictlySortedBy pair_cmp (keys_of new) → ((q : ℕ × ℕ) → lookup (is_at (pair_cmp q)) new ≡ cond (is_eq (pair_cmp key q)) None (lookup (is_at (pair_cmp q)) between))
     → AreDropped findtime maxretry now (count + 1) key old new
-dropped_more findtime maxretry now count from key old mid new so_far found is rising changes =
+dropped_more findtime maxretry now count from key old between new so_far found is rising changes =
     let held = so_far.sweeps.held in
-    let at = found_entry (find (is_stale now findtime) (windows_from from mid)) key found in
+    let at = found_entry (find (is_stale now findtime) (windows_from from between)) key found in
     let first = at.0 in
-    let there : find (is_stale now findtime) mid ≡ Some first = first_of_all now findtime from mid so_far.front ∙ at.1 in
-    let own = find_all (IsSome findtime maxretry) (is_stale now findtime) mid first held.windows.each there in
+    let there : find (is_stale now findtime) between ≡ Some first = first_from_key now findtime from between so_far.front ∙ at.1 in
+    let own = holds_of_found (IsSome findtime maxretry) (is_stale now findtime) between first held.windows.each there in
     let addr = own.0 in
     let key_is : key ≡ key_of addr = sym at.2 ∙ own.1.key in
-    let gone : new ≡ remove_entry (is_at (pair_cmp first.0)) mid = subst (λ (k : ℕ × ℕ). new ≡ remove_entry (is_at (pair_cmp k)) mid) (sym at.2) is in
-    let loses = lost findtime maxretry addr mid new held.windows (subst (λ (k : ℕ × ℕ). new ≡ remove_entry (is_at (pair_cmp k)) mid) key_is is) rising
-    (subst (λ (k : ℕ × ℕ). (q : ℕ × ℕ) → lookup (is_at (pair_cmp q)) new ≡ cond (is_eq (pair_cmp k q)) None (lookup (is_at (pair_cmp q)) mid)) key_is changes) in
-    let fewer = ap (λ (r : List Entry). length r) (one_fewer (is_stale now findtime) mid first held.windows.rising there)
+    let gone : new ≡ remove_entry (is_at (pair_cmp first.0)) between = subst (λ (k : ℕ × ℕ). new ≡ remove_entry (is_at (pair_cmp k)) between) (sym at.2) is in
+    let loses = lost findtime maxretry addr between new held.windows (subst (λ (k : ℕ × ℕ). new ≡ remove_entry (is_at (pair_cmp k)) between) key_is is) rising
+    (subst (λ (k : ℕ × ℕ). (q : ℕ × ℕ) → lookup (is_at (pair_cmp q)) new ≡ cond (is_eq (pair_cmp k q)) None (lookup (is_at (pair_cmp q)) between)) key_is changes) in
+    let fewer = ap (λ (r : List Entry). length r) (one_fewer (is_stale now findtime) between first held.windows.rising there)
     ∙ ap (λ (r : List Entry). suc (length (filter (is_stale now findtime) r))) (sym gone) in
     let left = so_far.left in
     record {
       sweeps = record {
-        held = held_without findtime maxretry addr mid new held loses;
-        recent = ap (λ (r : List Entry). filter (is_recent now findtime) (failures_in r)) gone ∙ recent_stays findtime maxretry now mid first held.windows.each held.windows.rising there
+        held = held_without findtime maxretry addr between new held loses;
+        recent = ap (λ (r : List Entry). filter (is_recent now findtime) (failures_of_windows r)) gone ∙ recent_stays findtime maxretry now between first held.windows.each held.windows.rising there
             ∙ so_far.sweeps.recent;
         times = λ moment a. subst (λ (fs : List Failure). AllOf (λ (f : Failure). f.time ≤ moment) fs) (sym loses.failures)
-            (all_of-filter (λ (f : Failure). f.time ≤ moment) (λ (f : Failure). not (is_of addr f)) (failures_in mid) (so_far.sweeps.times moment a));
+            (all_of-filter (λ (f : Failure). f.time ≤ moment) (λ (f : Failure). not (is_of addr f)) (failures_of_windows between) (so_far.sweeps.times moment a));
       };
       left = omega arith;
       front = subst (λ (k : ℕ × ℕ). filter (is_stale now findtime) (windows_from k new) ≡ filter (is_stale now findtime) new) at.2
           (subst (λ (r : List Entry). filter (is_stale now findtime) (windows_from first.0 r) ≡ filter (is_stale now findtime) r) (sym gone)
-          (none_before_it (is_stale now findtime) mid first held.windows.rising there));
+          (none_before_it (is_stale now findtime) between first held.windows.rising there));
     }
 
 -- where no more is found, none is left
-pub dropped_all : (findtime maxretry now count : ℕ) (from : ℕ × ℕ) (old new : List Entry) → AreDropped findtime maxretry now count from old new
-    → None ≡ option_map (λ (e : Entry). e.0) (find (is_stale now findtime) (windows_from from new)) → stale_addrs now findtime (failures_in new) ≡ []
-dropped_all findtime maxretry now count from old new so_far nothing =
+pub swept_at_the_end : (findtime maxretry now count : ℕ) (from : ℕ × ℕ) (old new : List Entry) → AreDropped findtime maxretry now count from old new
+    → None ≡ option_map (λ (e : Entry). e.0) (find (is_stale now findtime) (windows_from from new)) → stale_addrs now findtime (failures_of_windows new) ≡ []
+swept_at_the_end findtime maxretry now count from old new so_far nothing =
     none_stale findtime maxretry now new so_far.sweeps.held.windows
     (sym so_far.front ∙ find_none (is_stale now findtime) (windows_from from new) (none_found (find (is_stale now findtime) (windows_from from new)) nothing))
   where
@@ -238,7 +238,7 @@ dropped_all findtime maxretry now count from old new so_far nothing =
 
 -- the addresses of which nothing is recent are fewer by so many
 pub dropped_left : (findtime maxretry now count : ℕ) (from : ℕ × ℕ) (old new : List Entry) → IsHeld findtime maxretry old → AreDropped findtime maxretry now count from old new
-    → length (stale_addrs now findtime (failures_in new)) + count ≡ length (stale_addrs now findtime (failures_in old))
+    → length (stale_addrs now findtime (failures_of_windows new)) + count ≡ length (stale_addrs now findtime (failures_of_windows old))
 dropped_left findtime maxretry now count from old new held so_far =
     let left = so_far.left in
     let before = windows_stale findtime maxretry now old held.windows in

@@ -8,7 +8,7 @@ use Rattle.f2b_base.specs.Addresses.{same_addr}
 use Rattle.f2b_model.specs.Full.{is_of, in_span, IsFull, is_full}
 use Rattle.f2b_model.specs.Moves.{is_near}
 use Rattle.f2b_model.proofs.EndLemmas.{same_addr_same}
-use Rattle.jail_moves.specs.Addresses.{Entry, failures_in, own_after, Counts, IsHeld}
+use Rattle.jail_moves.specs.Addresses.{Entry, failures_of_windows, own_after, Counts, IsHeld}
 use Rattle.jail_moves.proofs.WindowLists.{new_is_recent}
 
 -- a failure is in the span that it begins
@@ -44,13 +44,13 @@ own_alone findtime now f fs recent empty = ap (λ gs. own_after now findtime f g
 -- a failure is counted, and no window is made or taken out
 pub counted_alone : (findtime maxretry now : ℕ) (f : Failure) (es : List Entry) → IsHeld findtime maxretry es → maxretry ≡ 1 → now < f.time + findtime
     → Counts findtime maxretry now f es es (Some (f ∷ []))
-counted_alone findtime maxretry now f es held is_one recent =
-    subst (λ (n : ℕ). Counts findtime n now f es es (Some (f ∷ []))) (sym is_one) (here (subst (λ (n : ℕ). IsHeld findtime n es) is_one held))
+counted_alone findtime maxretry now f es held fills_at_once recent =
+    subst (λ (n : ℕ). Counts findtime n now f es es (Some (f ∷ []))) (sym fills_at_once) (here (subst (λ (n : ℕ). IsHeld findtime n es) fills_at_once held))
   where
     here : IsHeld findtime 1 es → Counts findtime 1 now f es es (Some (f ∷ []))
     here one =
-        let empty : failures_in es ≡ [] = none_kept findtime (failures_in es) one.span one.none_full in
-        let own : own_after now findtime f (failures_in es) ≡ f ∷ [] = own_alone findtime now f (failures_in es) recent empty in
+        let empty : failures_of_windows es ≡ [] = none_kept findtime (failures_of_windows es) one.span one.none_full in
+        let own : own_after now findtime f (failures_of_windows es) ≡ f ∷ [] = own_alone findtime now f (failures_of_windows es) recent empty in
         let near : filter (is_near findtime f) (f ∷ []) ≡ f ∷ [] = rw (near_itself findtime f one.span) refl in
         record {
           held = one;

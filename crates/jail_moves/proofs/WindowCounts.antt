@@ -17,9 +17,9 @@ use Rattle.f2b_model.specs.Full.{is_of, IsFull, is_recent}
 use Rattle.f2b_model.specs.Lists.{AllOf, IsInOrder, in_order, placed}
 use Rattle.f2b_model.specs.Nows.{comes_before}
 use Rattle.f2b_model.specs.Stands.{StandsFor}
-use Rattle.f2b_model.proofs.EndLemmas.{same_addr_same, all_placed_all}
+use Rattle.f2b_model.proofs.EndLemmas.{same_addr_same, all_with_placed}
 use Rattle.f2b_model.proofs.FullLemmas.{full_of_part, lt_true, true_lt}
-use Rattle.f2b_model.proofs.ListLemmas.{by_test, filter_in_order, in_order_filter, in_order_same, placed_all_push, placed_in_order}
+use Rattle.f2b_model.proofs.ListLemmas.{by_test, filter_in_order, in_order_filter, in_order_same, with_placed_push, placed_in_order}
 use Rattle.f2b_model.proofs.MarkLemmas.{failures_order}
 use Rattle.f2b_model.proofs.OrderlyLemmas.{all_of-filter, all_of-kept}
 use Rattle.f2b_model.proofs.PassLemmas.{any_filter}
@@ -27,18 +27,18 @@ use Rattle.f2b_model.proofs.StandLemmas.{stands_full}
 use Rattle.f2b_model.proofs.StepLemmas.{all_of-more}
 use Rattle.fail_window.specs.Opened.{Opened}
 use Rattle.jail_moves.specs.declared.addresses.AddrWindow.{AddrWindow}
-use Rattle.jail_moves.specs.Addresses.{Entry, failures_in, window_at, AreNotBefore, AreWindows, Enters, Grows, IsHeld, IsOwn}
-use Rattle.jail_moves.proofs.WindowLists.{filter_all, full_to_own}
+use Rattle.jail_moves.specs.Addresses.{Entry, failures_of_windows, window_at, AreNotBefore, AreWindows, Enters, Grows, IsHeld, IsOwn}
+use Rattle.jail_moves.proofs.WindowLists.{filter_keeps_passing, full_to_own}
 use Rattle.jail_moves.proofs.WindowEntries.{ChangesAt, IsSome, all_insert, all_remove, all_set, changed_others, changed_own, failures_of, in_order_of, own_of, own_under}
 
 -- what holds of a failure and of the others holds of all with it in its place
 pub all_placed : (P : Failure → Type 0) (f : Failure) (fs : List Failure) → P f → AllOf P fs → AllOf P (placed comes_before f fs)
-all_placed P f fs here a = all_placed_all P comes_before fs (f ∷ []) a (here, tt)
+all_placed P f fs here a = all_with_placed P comes_before fs (f ∷ []) a (here, tt)
 
 -- a list in order stands for itself at a moment at which all of it is recent, as it is at the first
 stands_itself : (findtime : ℕ) (fs : List Failure) → 1 ≤ findtime → IsInOrder comes_before fs → StandsFor 0 findtime fs fs
 stands_itself findtime fs long order =
-    let all = filter_all (is_recent 0 findtime) fs (every fs) in
+    let all = filter_keeps_passing (is_recent 0 findtime) fs (every fs) in
     record { is = sym (ap (λ r. in_order comes_before r) all ∙ in_order_same comes_before failures_order fs order) }
   where
     every : (gs : List Failure) → AllOf (λ (g : Failure). is_recent 0 findtime g ≡ true) gs
@@ -48,7 +48,7 @@ stands_itself findtime fs long order =
 -- the list in order with one more failure at its end
 pub placed_last : (f : Failure) (fs : List Failure) → IsInOrder comes_before fs → in_order comes_before (fs ++ f ∷ []) ≡ placed comes_before f fs
 placed_last f fs order =
-    placed_all_push comes_before failures_order [] fs f ∙ ap (λ r. placed comes_before f r) (in_order_same comes_before failures_order fs order)
+    with_placed_push comes_before failures_order [] fs f ∙ ap (λ r. placed comes_before f r) (in_order_same comes_before failures_order fs order)
 
 -- where one passes a test, one passes a weaker one
 pub any_weaker : {A : Type 0} (p q : A → Bool) → ((x : A) → p x ≡ true → q x ≡ true) → (xs : List A) → list_any p xs ≡ true → list_any q xs ≡ true
@@ -139,45 +139,45 @@ module _ (findtime maxretry now : ℕ) (f : Failure) (fs : List Failure) (old ne
       let not_full : IsFull old.window.findtime old.window.maxretry f.addr fs → ⊥ = λ full. unfilled
       (subst (λ (n : ℕ). IsFull n maxretry f.addr fs) span (subst (λ (n : ℕ). IsFull old.window.findtime n f.addr fs) most full)) in
       let tells = grows.tells 0 fs itself (omega arith) not_full in
-      let with_one = stands_full now findtime maxretry new.window.failures fs f unfilled recent stands in (
-        λ t. with_one.0 (subst (λ (n : ℕ). IsFull n maxretry f.addr (fs ++ f ∷ [])) span
+      let full_with_it = stands_full now findtime maxretry new.window.failures fs f unfilled recent stands in (
+        λ t. full_with_it.0 (subst (λ (n : ℕ). IsFull n maxretry f.addr (fs ++ f ∷ [])) span
             (subst (λ (n : ℕ). IsFull old.window.findtime n f.addr (fs ++ f ∷ [])) most (tells.0 t))),
         λ full. tells.1 (subst (λ (n : ℕ). IsFull n old.window.maxretry f.addr (fs ++ f ∷ [])) (sym span)
-            (subst (λ (n : ℕ). IsFull findtime n f.addr (fs ++ f ∷ [])) (sym most) (with_one.1 full))),
+            (subst (λ (n : ℕ). IsFull findtime n f.addr (fs ++ f ∷ [])) (sym most) (full_with_it.1 full))),
       )
 
 -- the address's failures in all windows
-abbrev pub own_in : Addr → List Entry → List Failure
-own_in addr es = filter (is_of addr) (failures_in es)
+abbrev pub own_failures : Addr → List Entry → List Failure
+own_failures addr es = filter (is_of addr) (failures_of_windows es)
 
 -- an address's failures in all windows are in order
-pub own_in_order : (findtime maxretry : ℕ) (addr : Addr) (es : List Entry) → AreWindows findtime maxretry es → IsInOrder comes_before (own_in addr es)
-own_in_order findtime maxretry addr es w = filter_in_order comes_before failures_order (is_of addr) (failures_in es) (in_order_of findtime maxretry es w)
+pub own_in_order : (findtime maxretry : ℕ) (addr : Addr) (es : List Entry) → AreWindows findtime maxretry es → IsInOrder comes_before (own_failures addr es)
+own_in_order findtime maxretry addr es w = filter_in_order comes_before failures_order (is_of addr) (failures_of_windows es) (in_order_of findtime maxretry es w)
 
 -- and they are all the address's
-pub own_in_own : (addr : Addr) (es : List Entry) → AllOf (λ (g : Failure). is_of addr g ≡ true) (own_in addr es)
-own_in_own addr es = all_of-kept (λ (g : Failure). is_of addr g ≡ true) (is_of addr) (failures_in es) (λ g h. h)
+pub own_failures_own : (addr : Addr) (es : List Entry) → AllOf (λ (g : Failure). is_of addr g ≡ true) (own_failures addr es)
+own_failures_own addr es = all_of-kept (λ (g : Failure). is_of addr g ≡ true) (is_of addr) (failures_of_windows es) (λ g h. h)
 
 -- where the address's window grew and nothing else changed, one more failure went in
 pub entered : (findtime maxretry now : ℕ) (f : Failure) (es new_es : List Entry) (old new : AddrWindow) (full : Bool) → IsHeld findtime maxretry es → now < f.time + findtime
-    → old.window.findtime ≡ findtime → old.window.maxretry ≡ maxretry → old.window.failures ≡ own_in f.addr es → AllOf (λ (g : Failure). g.time ≤ old.latest) (own_in f.addr es)
+    → old.window.findtime ≡ findtime → old.window.maxretry ≡ maxretry → old.window.failures ≡ own_failures f.addr es → AllOf (λ (g : Failure). g.time ≤ old.latest) (own_failures f.addr es)
     → Grows now f old new full → AreWindows findtime maxretry new_es → ChangesAt f.addr (Some new) es new_es
     → Enters findtime maxretry now f es new_es full
 entered findtime maxretry now f es new_es old new full held recent span most there latest grows windows changes =
     let order = own_in_order findtime maxretry f.addr es held.windows in
-    let own = own_in_own f.addr es in
-    let is = grown_is findtime maxretry now f (own_in f.addr es) old new full held.span recent order own span most there latest grows in
+    let own = own_failures_own f.addr es in
+    let is = grown_is findtime maxretry now f (own_failures f.addr es) old new full held.span recent order own span most there latest grows in
     let after = changed_own findtime maxretry f.addr (Some new) es new_es windows changes in
-    let unfilled : IsFull findtime maxretry f.addr (own_in f.addr es) → ⊥ = λ full. held.none_full f.addr (full_of_part (is_of f.addr) findtime maxretry f.addr (failures_in es) full) in
-    let tells = grown_tells findtime maxretry now f (own_in f.addr es) old new full held.span recent order own span most there latest grows unfilled in
+    let unfilled : IsFull findtime maxretry f.addr (own_failures f.addr es) → ⊥ = λ full. held.none_full f.addr (full_of_part (is_of f.addr) findtime maxretry f.addr (failures_of_windows es) full) in
+    let tells = grown_tells findtime maxretry now f (own_failures f.addr es) old new full held.span recent order own span most there latest grows unfilled in
     record {
       windows = windows;
       own = after ∙ is;
       others = changed_others findtime maxretry f.addr (Some new) es new_es held.windows windows changes;
       tells = (
-        λ t. full_of_part (is_of f.addr) findtime maxretry f.addr (failures_in new_es)
+        λ t. full_of_part (is_of f.addr) findtime maxretry f.addr (failures_of_windows new_es)
             (subst (λ (gs : List Failure). IsFull findtime maxretry f.addr gs) (sym after) (tells.0 t)),
-        λ full. tells.1 (subst (λ (gs : List Failure). IsFull findtime maxretry f.addr gs) after (full_to_own findtime maxretry f.addr (failures_in new_es) full)),
+        λ full. tells.1 (subst (λ (gs : List Failure). IsFull findtime maxretry f.addr gs) after (full_to_own findtime maxretry f.addr (failures_of_windows new_es) full)),
       );
     }
 
@@ -187,9 +187,9 @@ entered findtime maxretry now f es new_es old new full held recent span most the
 pub record Found (findtime maxretry : ℕ) (addr : Addr) (es : List Entry) (w : AddrWindow) : Type 0 where
   pub span : w.window.findtime ≡ findtime
   pub most : w.window.maxretry ≡ maxretry
-  pub there : w.window.failures ≡ own_in addr es
-  pub latest : AllOf (λ (g : Failure). g.time ≤ w.latest) (own_in addr es)
-  pub last : list_any (λ (g : Failure). g.time == w.latest) (own_in addr es) ≡ true
+  pub there : w.window.failures ≡ own_failures addr es
+  pub latest : AllOf (λ (g : Failure). g.time ≤ w.latest) (own_failures addr es)
+  pub last : list_any (λ (g : Failure). g.time == w.latest) (own_failures addr es) ≡ true
 
 -- a window that is there is the one that was found
 some_same : (v w : AddrWindow) → Some v ≡ Some w → v ≡ w
@@ -213,7 +213,7 @@ pub found : (findtime maxretry : ℕ) (addr : Addr) (es : List Entry) (w : AddrW
     → Found findtime maxretry addr es w
 found findtime maxretry addr es w windows at =
     let limits = limits_at findtime maxretry (key_of addr) es w windows.each at in
-    let own : own_in addr es ≡ w.window.failures = own_of findtime maxretry addr es windows ∙ ap failures_of at in
+    let own : own_failures addr es ≡ w.window.failures = own_of findtime maxretry addr es windows ∙ ap failures_of at in
     record {
       span = limits.0;
       most = limits.1;
@@ -228,8 +228,8 @@ pub entered_there : (findtime maxretry now : ℕ) (f : Failure) (es new_es : Lis
     → ChangesAt f.addr (Some new) es new_es → Enters findtime maxretry now f es new_es full
 entered_there findtime maxretry now f es new_es w new full held recent at grows is keys changes =
     let known = found findtime maxretry f.addr es w held.windows at in
-    let own = grown_own findtime maxretry now f (own_in f.addr es) w new full held.span recent (own_in_order findtime maxretry f.addr es held.windows)
-    (own_in_own f.addr es) known.span known.most known.there known.latest grows (inr known.last) in
+    let own = grown_own findtime maxretry now f (own_failures f.addr es) w new full held.span recent (own_in_order findtime maxretry f.addr es held.windows)
+    (own_failures_own f.addr es) known.span known.most known.there known.latest grows (inr known.last) in
     let each = all_set (IsSome findtime maxretry) (is_at (pair_cmp (key_of f.addr))) new es held.windows.each (λ e some t. own_under findtime maxretry f.addr new e own some t) in
     entered findtime maxretry now f es new_es w new full held recent known.span known.most known.there known.latest grows
     (record {
@@ -243,14 +243,14 @@ pub entered_first : (findtime maxretry now : ℕ) (f : Failure) (es new_es : Lis
     → Grows now f (record { window = empty; latest = f.time }) new full → new_es ≡ insert_entry pair_cmp es (key_of f.addr) new
     → IsStrictlySortedBy pair_cmp (keys_of new_es) → ChangesAt f.addr (Some new) es new_es → Enters findtime maxretry now f es new_es full
 entered_first findtime maxretry now f es new_es empty new full held recent at nothing grows is rising changes =
-    let none : own_in f.addr es ≡ [] = own_of findtime maxretry f.addr es held.windows ∙ ap failures_of at in
+    let none : own_failures f.addr es ≡ [] = own_of findtime maxretry f.addr es held.windows ∙ ap failures_of at in
     let first : AddrWindow = record { window = empty; latest = f.time } in
     let span : empty.findtime ≡ findtime = ap (λ (w : Opened). w.findtime) nothing in
     let most : empty.maxretry ≡ maxretry = ap (λ (w : Opened). w.maxretry) nothing in
-    let there : empty.failures ≡ own_in f.addr es = ap (λ (w : Opened). w.failures) nothing ∙ sym none in
-    let latest : AllOf (λ (g : Failure). g.time ≤ f.time) (own_in f.addr es) = subst (λ (gs : List Failure). AllOf (λ (g : Failure). g.time ≤ f.time) gs) (sym none) tt in
-    let own = grown_own findtime maxretry now f (own_in f.addr es) first new full held.span recent (own_in_order findtime maxretry f.addr es held.windows)
-    (own_in_own f.addr es) span most there latest grows (inl (omega arith)) in
+    let there : empty.failures ≡ own_failures f.addr es = ap (λ (w : Opened). w.failures) nothing ∙ sym none in
+    let latest : AllOf (λ (g : Failure). g.time ≤ f.time) (own_failures f.addr es) = subst (λ (gs : List Failure). AllOf (λ (g : Failure). g.time ≤ f.time) gs) (sym none) tt in
+    let own = grown_own findtime maxretry now f (own_failures f.addr es) first new full held.span recent (own_in_order findtime maxretry f.addr es held.windows)
+    (own_failures_own f.addr es) span most there latest grows (inl (omega arith)) in
     let each = all_insert (IsSome findtime maxretry) (key_of f.addr) new es held.windows.each (f.addr, own) (λ e some t. own_under findtime maxretry f.addr new e own some t) in
     entered findtime maxretry now f es new_es first new full held recent span most there latest grows
     (record { each = subst (λ (r : List Entry). AllOf (IsSome findtime maxretry) r) (sym is) each; rising = rising }) changes

@@ -24,8 +24,8 @@ use Rattle.f2b_model.proofs.OrderlyLemmas.{same_addr_sym}
 use Rattle.f2b_model.proofs.SoundLemmas.{same_addr_true}
 use Rattle.f2b_model.proofs.StepLemmas.{all_of-more}
 use Rattle.jail_moves.specs.declared.addresses.AddrWindow.{AddrWindow}
-use Rattle.jail_moves.specs.Addresses.{Entry, failures_in, window_at, AreWindows, IsOwn, KeepsOthers}
-use Rattle.jail_moves.proofs.WindowLists.{filter_all, filter_none, none_of_other, one_addr}
+use Rattle.jail_moves.specs.Addresses.{Entry, failures_of_windows, window_at, AreWindows, IsOwn, KeepsOthers}
+use Rattle.jail_moves.proofs.WindowLists.{filter_keeps_passing, filter_none, none_of_other, one_addr}
 
 -- ---- keys and addresses
 
@@ -89,13 +89,13 @@ IsSome findtime maxretry e = (addr : Addr) × IsOwn findtime maxretry addr e
 
 -- the failures behind an entry are of addresses that come after its own
 pub above : (findtime maxretry : ℕ) (addr : Addr) (k : ℕ × ℕ) (es : List Entry) → k ≡ key_of addr → AllOf (IsSome findtime maxretry) es
-    → AllByRecursion (λ (q : ℕ × ℕ). pair_cmp k q ≡ Less) (keys_of es) → AllOf (λ (f : Failure). addr_before addr f.addr ≡ true) (failures_in es)
+    → AllByRecursion (λ (q : ℕ × ℕ). pair_cmp k q ≡ Less) (keys_of es) → AllOf (λ (f : Failure). addr_before addr f.addr ≡ true) (failures_of_windows es)
 above findtime maxretry addr k [] is each rising = tt
 above findtime maxretry addr k (e ∷ es) is each rising =
     let other = each.0.0 in
     let o = each.0.1 in
     let less : pair_cmp (key_of addr) (key_of other) ≡ Less = sym (ap₂ (λ p q. pair_cmp p q) is o.key) ∙ rising.0 in
-    all_append (λ (f : Failure). addr_before addr f.addr ≡ true) e.1.window.failures (failures_in es)
+    all_append (λ (f : Failure). addr_before addr f.addr ≡ true) e.1.window.failures (failures_of_windows es)
     (later_addr addr other e.1.window.failures (key_less addr other less) o.own)
     (above findtime maxretry addr k es is each.1 rising.1)
 
@@ -118,19 +118,19 @@ none_before addr f (g ∷ gs) own h =
 -- ---- all failures
 
 -- they stand in order
-pub flat_in_order : (findtime maxretry : ℕ) (es : List Entry) → AllOf (IsSome findtime maxretry) es → IsStrictlySortedBy pair_cmp (keys_of es) → IsInOrder comes_before (failures_in es)
+pub flat_in_order : (findtime maxretry : ℕ) (es : List Entry) → AllOf (IsSome findtime maxretry) es → IsStrictlySortedBy pair_cmp (keys_of es) → IsInOrder comes_before (failures_of_windows es)
 unfolding IsStrictlySortedBy
 flat_in_order findtime maxretry [] each rising = tt
 flat_in_order findtime maxretry (e ∷ es) each rising =
     let addr = each.0.0 in
     let o = each.0.1 in
     let later = above findtime maxretry addr e.0 es o.key each.1 rising.0 in
-    order_append comes_before e.1.window.failures (failures_in es) o.in_order (flat_in_order findtime maxretry es each.1 rising.1)
-    (all_of-more (λ (f : Failure). is_of addr f ≡ true) (λ (f : Failure). NoneBefore comes_before f (failures_in es))
-    (λ f own. none_before addr f (failures_in es) own later) e.1.window.failures o.own)
+    order_append comes_before e.1.window.failures (failures_of_windows es) o.in_order (flat_in_order findtime maxretry es each.1 rising.1)
+    (all_of-more (λ (f : Failure). is_of addr f ≡ true) (λ (f : Failure). NoneBefore comes_before f (failures_of_windows es))
+    (λ f own. none_before addr f (failures_of_windows es) own later) e.1.window.failures o.own)
 
 -- the failures of windows stand in order
-pub in_order_of : (findtime maxretry : ℕ) (es : List Entry) → AreWindows findtime maxretry es → IsInOrder comes_before (failures_in es)
+pub in_order_of : (findtime maxretry : ℕ) (es : List Entry) → AreWindows findtime maxretry es → IsInOrder comes_before (failures_of_windows es)
 in_order_of findtime maxretry es w = flat_in_order findtime maxretry es w.each w.rising
 
 -- the failures of a window that is there
@@ -144,35 +144,35 @@ key_at addr other k is = ap (λ q. is_eq (pair_cmp (key_of addr) q)) is ∙ key_
 
 -- an address's failures are those under its key
 pub own_flat : (findtime maxretry : ℕ) (addr : Addr) (es : List Entry) → AllOf (IsSome findtime maxretry) es → IsStrictlySortedBy pair_cmp (keys_of es)
-    → filter (is_of addr) (failures_in es) ≡ failures_of (window_at (key_of addr) es)
+    → filter (is_of addr) (failures_of_windows es) ≡ failures_of (window_at (key_of addr) es)
 unfolding IsStrictlySortedBy
 own_flat findtime maxretry addr [] each rising = refl
 own_flat findtime maxretry addr (e ∷ es) each rising =
-    filter-append (is_of addr) e.1.window.failures (failures_in es)
+    filter-append (is_of addr) e.1.window.failures (failures_of_windows es)
     ∙ by_test (same_addr addr each.0.0) _ here (behind (own_flat findtime maxretry addr es each.1 rising.1))
   where
     here : same_addr addr each.0.0 ≡ true
-        → filter (is_of addr) e.1.window.failures ++ filter (is_of addr) (failures_in es) ≡ failures_of (window_at (key_of addr) (e ∷ es))
+        → filter (is_of addr) e.1.window.failures ++ filter (is_of addr) (failures_of_windows es) ≡ failures_of (window_at (key_of addr) (e ∷ es))
     here same =
         let own : AllOf (λ (f : Failure). is_of addr f ≡ true) e.1.window.failures =
         subst (λ (a : Addr). AllOf (λ (f : Failure). is_of a f ≡ true) e.1.window.failures) (sym (same_addr_true addr each.0.0 same)) each.0.1.own in
         let key : e.0 ≡ key_of addr = each.0.1.key ∙ ap key_of (sym (same_addr_true addr each.0.0 same)) in
-        let none = filter_none (is_of addr) (failures_in es)
-        (all_of-more (λ (f : Failure). addr_before addr f.addr ≡ true) (λ (f : Failure). is_of addr f ≡ false) (λ f h. not_own addr f h) (failures_in es)
+        let none = filter_none (is_of addr) (failures_of_windows es)
+        (all_of-more (λ (f : Failure). addr_before addr f.addr ≡ true) (λ (f : Failure). is_of addr f ≡ false) (λ f h. not_own addr f h) (failures_of_windows es)
         (above findtime maxretry addr e.0 es key each.1 rising.0)) in
         let at : is_eq (pair_cmp (key_of addr) e.0) ≡ true = key_at addr each.0.0 e.0 each.0.1.key ∙ same in
-        ap₂ (λ xs ys. xs ++ ys) (filter_all (is_of addr) e.1.window.failures own) none ∙ append-nil e.1.window.failures
+        ap₂ (λ xs ys. xs ++ ys) (filter_keeps_passing (is_of addr) e.1.window.failures own) none ∙ append-nil e.1.window.failures
         ∙ sym (ap (λ b. failures_of (cond b (Some e.1) (window_at (key_of addr) es))) at)
 
-    behind : filter (is_of addr) (failures_in es) ≡ failures_of (window_at (key_of addr) es) → same_addr addr each.0.0 ≡ false
-        → filter (is_of addr) e.1.window.failures ++ filter (is_of addr) (failures_in es) ≡ failures_of (window_at (key_of addr) (e ∷ es))
+    behind : filter (is_of addr) (failures_of_windows es) ≡ failures_of (window_at (key_of addr) es) → same_addr addr each.0.0 ≡ false
+        → filter (is_of addr) e.1.window.failures ++ filter (is_of addr) (failures_of_windows es) ≡ failures_of (window_at (key_of addr) (e ∷ es))
     behind rest apart =
         let at : is_eq (pair_cmp (key_of addr) e.0) ≡ false = key_at addr each.0.0 e.0 each.0.1.key ∙ apart in
         ap₂ (λ xs ys. xs ++ ys) (none_of_other each.0.0 addr e.1.window.failures each.0.1.own (same_addr_sym each.0.0 addr ∙ apart)) rest
         ∙ sym (ap (λ b. failures_of (cond b (Some e.1) (window_at (key_of addr) es))) at)
 
 -- in windows an address's failures are those under its key
-pub own_of : (findtime maxretry : ℕ) (addr : Addr) (es : List Entry) → AreWindows findtime maxretry es → filter (is_of addr) (failures_in es) ≡ failures_of (window_at (key_of addr) es)
+pub own_of : (findtime maxretry : ℕ) (addr : Addr) (es : List Entry) → AreWindows findtime maxretry es → filter (is_of addr) (failures_of_windows es) ≡ failures_of (window_at (key_of addr) es)
 own_of findtime maxretry addr es w = own_flat findtime maxretry addr es w.each w.rising
 
 -- ---- one entry changes
@@ -205,14 +205,14 @@ ChangesAt addr w old new = (q : ℕ × ℕ) → window_at q new ≡ cond (is_eq 
 
 -- the address's failures are those of what is now under its key
 pub changed_own : (findtime maxretry : ℕ) (addr : Addr) (w : Option AddrWindow) (old new : List Entry) → AreWindows findtime maxretry new → ChangesAt addr w old new
-    → filter (is_of addr) (failures_in new) ≡ failures_of w
+    → filter (is_of addr) (failures_of_windows new) ≡ failures_of w
 changed_own findtime maxretry addr w old new windows changes =
     let at : is_eq (pair_cmp (key_of addr) (key_of addr)) ≡ true = key_same addr addr ∙ same_addr_same addr in
     own_of findtime maxretry addr new windows ∙ ap failures_of (changes (key_of addr) ∙ ap (λ b. cond b w (window_at (key_of addr) old)) at)
 
 -- and those of other addresses stay
 pub changed_others : (findtime maxretry : ℕ) (addr : Addr) (w : Option AddrWindow) (old new : List Entry) → AreWindows findtime maxretry old → AreWindows findtime maxretry new
-    → ChangesAt addr w old new → KeepsOthers addr (failures_in old) (failures_in new)
+    → ChangesAt addr w old new → KeepsOthers addr (failures_of_windows old) (failures_of_windows new)
 changed_others findtime maxretry addr w old new before windows changes = λ other apart.
     (let at : is_eq (pair_cmp (key_of addr) (key_of other)) ≡ false = key_same addr other ∙ apart in
     own_of findtime maxretry other new windows ∙ ap failures_of (changes (key_of other) ∙ ap (λ b. cond b w (window_at (key_of other) old)) at)
@@ -243,7 +243,7 @@ all_of [] = []
 all_of (w ∷ ws) = w.window.failures ++ all_of ws
 
 -- the failures of the entries are those of their windows
-pub all_of-values : (es : List Entry) → all_of (values_of es) ≡ failures_in es
+pub all_of-values : (es : List Entry) → all_of (values_of es) ≡ failures_of_windows es
 all_of-values [] = refl
 all_of-values (e ∷ es) = ap (λ r. e.1.window.failures ++ r) (all_of-values es)
 
@@ -255,5 +255,5 @@ copied_on p done new whole w left rest next copied so_far =
     ∙ ap (λ r. done ++ r) (sym (ap (λ r. filter p (all_of r)) next ∙ filter-append p w.window.failures (all_of rest))) ∙ so_far
 
 -- at the end nothing is left
-pub copied_all : (p : Failure → Bool) (done whole : List Failure) (left : List AddrWindow) → left ≡ [] → done ++ filter p (all_of left) ≡ whole → done ≡ whole
-copied_all p done whole left nothing so_far = sym (append-nil done) ∙ sym (ap (λ r. done ++ filter p (all_of r)) nothing) ∙ so_far
+pub copied_at_the_end : (p : Failure → Bool) (done whole : List Failure) (left : List AddrWindow) → left ≡ [] → done ++ filter p (all_of left) ≡ whole → done ≡ whole
+copied_at_the_end p done whole left nothing so_far = sym (append-nil done) ∙ sym (ap (λ r. done ++ filter p (all_of r)) nothing) ∙ so_far

@@ -34,9 +34,9 @@ all_by_parts P (f ∷ fs) h = (here, all_by_parts P fs rest)
         (λ e. let own : AllOf P (filter (is_of addr) fs) = rw e at (h addr) in own)
 
 -- where each passes, all stay
-pub filter_all : {A : Type 0} (p : A → Bool) (xs : List A) → AllOf (λ (x : A). p x ≡ true) xs → filter p xs ≡ xs
-filter_all p [] a = refl
-filter_all p (x ∷ xs) a = rw (a.0) (ap (λ r. x ∷ r) (filter_all p xs a.1))
+pub filter_keeps_passing : {A : Type 0} (p : A → Bool) (xs : List A) → AllOf (λ (x : A). p x ≡ true) xs → filter p xs ≡ xs
+filter_keeps_passing p [] a = refl
+filter_keeps_passing p (x ∷ xs) a = rw (a.0) (ap (λ r. x ∷ r) (filter_keeps_passing p xs a.1))
 
 -- where none passes, nothing stays
 pub filter_none : {A : Type 0} (p : A → Bool) (xs : List A) → AllOf (λ (x : A). p x ≡ false) xs → filter p xs ≡ []

@@ -23,11 +23,11 @@ use Rattle.f2b_model.proofs.OrderlyLemmas.{all_of-filter, all_of-kept, all_of-pu
 use Rattle.f2b_model.proofs.PartLemmas.{known_by_parts}
 use Rattle.f2b_model.proofs.SoundLemmas.{same_addr_true}
 use Rattle.f2b_model.proofs.StepLemmas.{all_of-more}
-use Rattle.jail_moves.specs.Addresses.{Entry, failures_in, is_of_some, own_after, AreWindows, Counts, IsHeld, Loses, LosesEach}
-use Rattle.jail_moves.proofs.WindowLists.{filter_all, filter_none, full_by_own, one_addr}
+use Rattle.jail_moves.specs.Addresses.{Entry, failures_of_windows, is_of_some, own_after, AreWindows, Counts, IsHeld, Loses, LosesEach}
+use Rattle.jail_moves.proofs.WindowLists.{filter_keeps_passing, filter_none, full_by_own, one_addr}
 use Rattle.jail_moves.proofs.WindowEntries.{addr_same, in_order_of}
-use Rattle.jail_moves.proofs.WindowCounts.{own_in, placed_last}
-use Rattle.jail_moves.proofs.WindowTurns.{all_counted}
+use Rattle.jail_moves.proofs.WindowCounts.{own_failures, placed_last}
+use Rattle.jail_moves.proofs.WindowChanges.{all_counted}
 
 -- whether an address is one of these
 abbrev pub is_some_of : List Addr → Addr → Bool
@@ -37,9 +37,9 @@ is_some_of addrs addr = list_any (same_addr addr) addrs
 -- address all are kept.
 pub record AreCounted (findtime maxretry : ℕ) (counted left : List Failure) (noted : List Addr) (es : List Entry) : Type 0 where
   pub held : IsHeld findtime maxretry es
-  pub order : AllOf (λ (f : Failure). NoneBefore comes_before f left) (failures_in es)
+  pub order : AllOf (λ (f : Failure). NoneBefore comes_before f left) (failures_of_windows es)
   pub full : (addr : Addr) → is_some_of noted addr ≡ true → IsFull findtime maxretry addr counted
-  pub others : (addr : Addr) → is_some_of noted addr ≡ false → own_in addr es ≡ filter (is_of addr) counted
+  pub others : (addr : Addr) → is_some_of noted addr ≡ false → own_failures addr es ≡ filter (is_of addr) counted
 
 -- of the first so many of a list those were counted that can matter
 abbrev pub AreRead : ℕ → ℕ → ℕ → ℕ → List Failure → List Addr → List Entry → Type 0
@@ -92,9 +92,9 @@ first_to fs i f lt is = take_more fs i f lt ∙ ap (λ g. take i fs ++ g ∷ [])
 
 -- it is not earlier than those of its address that were counted
 pub next_is_last : (findtime maxretry moment i : ℕ) (fs : List Failure) (noted : List Addr) (es : List Entry) (f : Failure) → AreRead findtime maxretry moment i fs noted es
-    → i < length fs → f ≡ get_or fs i f → AllOf (λ (g : Failure). g.time ≤ f.time) (own_in f.addr es)
+    → i < length fs → f ≡ get_or fs i f → AllOf (λ (g : Failure). g.time ≤ f.time) (own_failures f.addr es)
 next_is_last findtime maxretry moment i fs noted es f read lt is =
-    all_passing (λ (g : Failure). NoneBefore comes_before g (drop i fs)) (λ (g : Failure). g.time ≤ f.time) (is_of f.addr) (failures_in es)
+    all_passing (λ (g : Failure). NoneBefore comes_before g (drop i fs)) (λ (g : Failure). g.time ≤ f.time) (is_of f.addr) (failures_of_windows es)
     (λ g none own. time_of_order f g (subst (λ (gs : List Failure). NoneBefore comes_before g gs) (rest_from fs i f lt is) none).0 own) read.order
 
 -- ---- one failure more
@@ -145,24 +145,24 @@ module _ (findtime maxretry moment : ℕ) (gs rest : List Failure) (f : Failure)
       (gs ++ f ∷ []) (all_of-push (λ (g : Failure). can_matter moment findtime g ≡ true) gs f matter matters)
 
   -- so none of its address is dropped
-  own_is : is_some_of noted f.addr ≡ false → own_after f.time findtime f (failures_in es) ≡ filter (is_of f.addr) (gs ++ f ∷ [])
+  own_is : is_some_of noted f.addr ≡ false → own_after f.time findtime f (failures_of_windows es) ≡ filter (is_of f.addr) (gs ++ f ∷ [])
   own_is unnoted =
       let own = filter_in_order comes_before failures_order (is_of f.addr) gs front in
       let all = filter_in_order comes_before failures_order (is_of f.addr) (gs ++ f ∷ []) order in
       ap (λ hs. filter (is_recent f.time findtime) (placed comes_before f hs)) (before.others f.addr unnoted)
       ∙ ap (λ hs. filter (is_recent f.time findtime) hs) (sym (placed_last f (filter (is_of f.addr) gs) own) ∙ ap (λ hs. in_order comes_before hs) (sym own_more)
       ∙ in_order_same comes_before failures_order (filter (is_of f.addr) (gs ++ f ∷ [])) all)
-      ∙ filter_all (is_recent f.time findtime) (filter (is_of f.addr) (gs ++ f ∷ []))
+      ∙ filter_keeps_passing (is_recent f.time findtime) (filter (is_of f.addr) (gs ++ f ∷ []))
       (all_of-filter (λ (g : Failure). is_recent f.time findtime g ≡ true) (is_of f.addr) (gs ++ f ∷ []) each_recent)
 
   -- none that is left comes before one that is kept
-  order_more : AllOf (λ (g : Failure). NoneBefore comes_before g rest) (failures_in new)
+  order_more : AllOf (λ (g : Failure). NoneBefore comes_before g rest) (failures_of_windows new)
   order_more =
       all_counted findtime maxretry f.time f es new near (λ (g : Failure). NoneBefore comes_before g rest) left
-      (all_of-more (λ (g : Failure). NoneBefore comes_before g (f ∷ rest)) (λ (g : Failure). NoneBefore comes_before g rest) (λ g none. none.1) (failures_in es) before.order) counts
+      (all_of-more (λ (g : Failure). NoneBefore comes_before g (f ∷ rest)) (λ (g : Failure). NoneBefore comes_before g rest) (λ g none. none.1) (failures_of_windows es) before.order) counts
 
   -- an address that was not noted keeps its failures
-  kept_apart : (addr : Addr) → is_some_of noted addr ≡ false → same_addr f.addr addr ≡ false → own_in addr new ≡ filter (is_of addr) (gs ++ f ∷ [])
+  kept_apart : (addr : Addr) → is_some_of noted addr ≡ false → same_addr f.addr addr ≡ false → own_failures addr new ≡ filter (is_of addr) (gs ++ f ∷ [])
   kept_apart addr unnoted e = counts.others addr e ∙ before.others addr unnoted ∙ sym (others_more addr e)
 
   -- its address is not full
@@ -174,10 +174,10 @@ module _ (findtime maxretry moment : ℕ) (gs rest : List Failure) (f : Failure)
     others = λ addr unnoted. by_test (same_addr f.addr addr) _ (same addr unnoted) (kept_apart addr unnoted);
   }
     where
-      same : (addr : Addr) → is_some_of noted addr ≡ false → same_addr f.addr addr ≡ true → own_in addr new ≡ filter (is_of addr) (gs ++ f ∷ [])
+      same : (addr : Addr) → is_some_of noted addr ≡ false → same_addr f.addr addr ≡ true → own_failures addr new ≡ filter (is_of addr) (gs ++ f ∷ [])
       same addr unnoted e =
           let is = same_addr_true f.addr addr e in
-          subst (λ (a : Addr). own_in a new ≡ filter (is_of a) (gs ++ f ∷ [])) is
+          subst (λ (a : Addr). own_failures a new ≡ filter (is_of a) (gs ++ f ∷ [])) is
           (counts.stays none ∙ own_is (subst (λ (a : Addr). is_some_of noted a ≡ false) (sym is) unnoted))
 
   -- its address is full, and noted
@@ -201,7 +201,7 @@ module _ (findtime maxretry moment : ℕ) (gs rest : List Failure) (f : Failure)
       fills addr unnoted e =
           let is = same_addr_true addr f.addr e in
           let own = own_is (subst (λ (a : Addr). is_some_of noted a ≡ false) is unnoted) in
-          let part = full_of_test findtime maxretry f.addr (own_after f.time findtime f (failures_in es)) (sym counts.tells ∙ some) in
+          let part = full_of_test findtime maxretry f.addr (own_after f.time findtime f (failures_of_windows es)) (sym counts.tells ∙ some) in
           subst (λ (a : Addr). IsFull findtime maxretry a (gs ++ f ∷ [])) (sym is)
           (full_of_part (is_of f.addr) findtime maxretry f.addr (gs ++ f ∷ []) (subst (λ (hs : List Failure). IsFull findtime maxretry f.addr hs) own part))
 
@@ -224,7 +224,7 @@ read_past findtime maxretry moment i fs noted es f read lt is not_it =
     subst (λ (gs : List Failure). AreCounted findtime maxretry gs (drop (i + 1) fs) noted es) (sym same) (record {
       held = read.held;
       order = all_of-more (λ (g : Failure). NoneBefore comes_before g (drop i fs)) (λ (g : Failure). NoneBefore comes_before g (drop (i + 1) fs))
-          (λ g none. (subst (λ (gs : List Failure). NoneBefore comes_before g gs) rest none).1) (failures_in es) read.order;
+          (λ g none. (subst (λ (gs : List Failure). NoneBefore comes_before g gs) rest none).1) (failures_of_windows es) read.order;
       full = read.full;
       others = read.others;
     })
@@ -236,8 +236,8 @@ module _ (findtime maxretry moment i : ℕ) (fs : List Failure) (noted : List Ad
   counts : Counts findtime maxretry f.time f es new near
   counts = subst (λ (g : Failure). Counts findtime maxretry f.time g es new near) copied counted
 
-  with_one : filter (can_matter moment findtime) (take (i + 1) fs) ≡ filter (can_matter moment findtime) (take i fs) ++ f ∷ []
-  with_one =
+  taken_with_next : filter (can_matter moment findtime) (take (i + 1) fs) ≡ filter (can_matter moment findtime) (take i fs) ++ f ∷ []
+  taken_with_next =
       matter_more moment findtime i fs f lt is
       ∙ ap (λ gs. filter (can_matter moment findtime) (take i fs) ++ gs) (rw matters refl)
 
@@ -252,7 +252,7 @@ module _ (findtime maxretry moment i : ℕ) (fs : List Failure) (noted : List Ad
 
   order : IsInOrder comes_before (filter (can_matter moment findtime) (take i fs) ++ f ∷ [])
   order =
-      subst (λ (gs : List Failure). IsInOrder comes_before gs) with_one
+      subst (λ (gs : List Failure). IsInOrder comes_before gs) taken_with_next
       (filter_in_order comes_before failures_order (can_matter moment findtime) (take (i + 1) fs) (in_order_take comes_before (i + 1) fs in_fs))
 
   left : NoneBefore comes_before f (drop (i + 1) fs)
@@ -264,13 +264,13 @@ module _ (findtime maxretry moment i : ℕ) (fs : List Failure) (noted : List Ad
   -- and its address is not full
   pub read_open : is_some near ≡ false → AreRead findtime maxretry moment (i + 1) fs noted new
   read_open none =
-      subst (λ (gs : List Failure). AreCounted findtime maxretry gs (drop (i + 1) fs) noted new) (sym with_one)
+      subst (λ (gs : List Failure). AreCounted findtime maxretry gs (drop (i + 1) fs) noted new) (sym taken_with_next)
       (counted_open findtime maxretry moment (filter (can_matter moment findtime) (take i fs)) (drop (i + 1) fs) f noted es new near matter matters front order left before counts none)
 
   -- or is
   pub read_full : is_some near ≡ true → AreRead findtime maxretry moment (i + 1) fs (noted ++ f.addr ∷ []) new
   read_full some =
-      subst (λ (gs : List Failure). AreCounted findtime maxretry gs (drop (i + 1) fs) (noted ++ f.addr ∷ []) new) (sym with_one)
+      subst (λ (gs : List Failure). AreCounted findtime maxretry gs (drop (i + 1) fs) (noted ++ f.addr ∷ []) new) (sym taken_with_next)
       (counted_full findtime maxretry moment (filter (can_matter moment findtime) (take i fs)) (drop (i + 1) fs) f noted es new near matter matters front order left before counts some)
 
 -- nothing was read
@@ -306,29 +306,29 @@ filter_not_twice p q r either (f ∷ fs) =
 
 -- no address is lost
 pub loses_none : (findtime maxretry : ℕ) (addrs : List Addr) (es : List Entry) → AreWindows findtime maxretry es → LosesEach findtime maxretry (take 0 addrs) es es
-loses_none findtime maxretry addrs es windows = record { windows = windows; failures = sym (all (failures_in es)) }
+loses_none findtime maxretry addrs es windows = record { windows = windows; failures = sym (all (failures_of_windows es)) }
   where
     all : (fs : List Failure) → filter (λ (f : Failure). not (is_of_some [] f)) fs ≡ fs
     all [] = refl
     all (f ∷ fs) = ap (λ gs. f ∷ gs) (all fs)
 
 -- one more is
-pub loses_next : (findtime maxretry i : ℕ) (addrs : List Addr) (d : Addr) (old mid new : List Entry) → i < length addrs
-    → LosesEach findtime maxretry (take i addrs) old mid → Loses findtime maxretry (get_or addrs i d) mid new → LosesEach findtime maxretry (take (i + 1) addrs) old new
-loses_next findtime maxretry i addrs d old mid new lt each loses = record {
+pub loses_next : (findtime maxretry i : ℕ) (addrs : List Addr) (d : Addr) (old between new : List Entry) → i < length addrs
+    → LosesEach findtime maxretry (take i addrs) old between → Loses findtime maxretry (get_or addrs i d) between new → LosesEach findtime maxretry (take (i + 1) addrs) old new
+loses_next findtime maxretry i addrs d old between new lt each loses = record {
   windows = loses.windows;
   failures =
       loses.failures ∙ ap (λ fs. filter (λ (f : Failure). not (is_of (get_or addrs i d) f)) fs) each.failures
-      ∙ filter_not_twice (is_of_some (take i addrs)) (is_of (get_or addrs i d)) (is_of_some (take (i + 1) addrs)) either (failures_in old);
+      ∙ filter_not_twice (is_of_some (take i addrs)) (is_of (get_or addrs i d)) (is_of_some (take (i + 1) addrs)) either (failures_of_windows old);
 }
   where
     either : (f : Failure) → is_of_some (take (i + 1) addrs) f ≡ (is_of_some (take i addrs) f || is_of (get_or addrs i d) f)
     either f = list_any_more (same_addr f.addr) addrs i d lt
 
 -- all are
-pub loses_all : (findtime maxretry i : ℕ) (addrs : List Addr) (old new : List Entry) → length addrs ≤ i → LosesEach findtime maxretry (take i addrs) old new
+pub loses_at_the_end : (findtime maxretry i : ℕ) (addrs : List Addr) (old new : List Entry) → length addrs ≤ i → LosesEach findtime maxretry (take i addrs) old new
     → LosesEach findtime maxretry addrs old new
-loses_all findtime maxretry i addrs old new end each = subst (λ (all : List Addr). LosesEach findtime maxretry all old new) (take_all i addrs end) each
+loses_at_the_end findtime maxretry i addrs old new end each = subst (λ (all : List Addr). LosesEach findtime maxretry all old new) (take_all i addrs end) each
 
 -- without the failures of some addresses, one of them has none
 part_out : (q : Addr → Bool) (addr : Addr) (fs : List Failure) → q addr ≡ true → filter (is_of addr) (filter (λ (f : Failure). not (q f.addr)) fs) ≡ []
@@ -359,33 +359,33 @@ module _ (findtime maxretry moment i : ℕ) (fs : List Failure) (noted addrs : L
     most = read.held.most;
     windows = loses.windows;
     none_full = λ addr filled.
-        read.held.none_full addr (full_of_part (λ (f : Failure). not (is_of_some noted f)) findtime maxretry addr (failures_in es)
+        read.held.none_full addr (full_of_part (λ (f : Failure). not (is_of_some noted f)) findtime maxretry addr (failures_of_windows es)
         (subst (λ (gs : List Failure). IsFull findtime maxretry addr gs) loses.failures filled));
   }
 
   -- where an address was noted it is full, and none of its failures is left
-  noted_part : (addr : Addr) → is_some_of noted addr ≡ true → own_in addr new ≡ filter (is_of addr) (unfilled findtime maxretry (filter (can_matter moment findtime) fs))
+  noted_part : (addr : Addr) → is_some_of noted addr ≡ true → own_failures addr new ≡ filter (is_of addr) (unfilled findtime maxretry (filter (can_matter moment findtime) fs))
   noted_part addr is_noted =
       let gs = filter (can_matter moment findtime) fs in
       let test = test_of_full findtime maxretry addr gs read.held.most (all_counted_up.full addr is_noted) in
-      ap (λ hs. filter (is_of addr) hs) loses.failures ∙ part_out (is_some_of noted) addr (failures_in es) is_noted ∙ sym (part_out (λ a. is_full findtime maxretry a gs) addr gs test)
+      ap (λ hs. filter (is_of addr) hs) loses.failures ∙ part_out (is_some_of noted) addr (failures_of_windows es) is_noted ∙ sym (part_out (λ a. is_full findtime maxretry a gs) addr gs test)
 
   -- where it was not, it is not full, and all are
-  other_part : (addr : Addr) → is_some_of noted addr ≡ false → own_in addr new ≡ filter (is_of addr) (unfilled findtime maxretry (filter (can_matter moment findtime) fs))
+  other_part : (addr : Addr) → is_some_of noted addr ≡ false → own_failures addr new ≡ filter (is_of addr) (unfilled findtime maxretry (filter (can_matter moment findtime) fs))
   other_part addr unnoted =
       let gs = filter (can_matter moment findtime) fs in
       let same = all_counted_up.others addr unnoted in
       let test : is_full findtime maxretry addr gs ≡ false =
       by_test (is_full findtime maxretry addr gs) _
-      (λ t. absurd (read.held.none_full addr (full_by_own findtime maxretry addr gs (failures_in es) (sym same) (full_of_test findtime maxretry addr gs t)))) (λ f. f) in
-      ap (λ hs. filter (is_of addr) hs) loses.failures ∙ part_stays (is_some_of noted) addr (failures_in es) unnoted ∙ same
+      (λ t. absurd (read.held.none_full addr (full_by_own findtime maxretry addr gs (failures_of_windows es) (sym same) (full_of_test findtime maxretry addr gs t)))) (λ f. f) in
+      ap (λ hs. filter (is_of addr) hs) loses.failures ∙ part_stays (is_some_of noted) addr (failures_of_windows es) unnoted ∙ same
       ∙ sym (part_stays (λ a. is_full findtime maxretry a gs) addr gs test)
 
   -- they are just the failures that can matter and do not fill their address
-  pub read_is : failures_in new ≡ unfilled findtime maxretry (filter (can_matter moment findtime) fs)
+  pub read_is : failures_of_windows new ≡ unfilled findtime maxretry (filter (can_matter moment findtime) fs)
   read_is =
       let gs = filter (can_matter moment findtime) fs in
-      known_by_parts (failures_in new) (unfilled findtime maxretry gs) (in_order_of findtime maxretry new loses.windows)
+      known_by_parts (failures_of_windows new) (unfilled findtime maxretry gs) (in_order_of findtime maxretry new loses.windows)
       (filter_in_order comes_before failures_order (λ (f : Failure). not (is_full findtime maxretry f.addr gs)) gs
       (filter_in_order comes_before failures_order (can_matter moment findtime) fs in_fs))
       (λ addr. by_test (is_some_of noted addr) _ (noted_part addr) (other_part addr))

@@ -22,9 +22,9 @@ abbrev pub Entry : Type 0
 Entry = (ℕ × ℕ) × AddrWindow
 
 -- the failures of all windows, in the order of their keys
-abbrev pub failures_in : List Entry → List Failure
-failures_in [] = []
-failures_in (e ∷ es) = e.1.window.failures ++ failures_in es
+abbrev pub failures_of_windows : List Entry → List Failure
+failures_of_windows [] = []
+failures_of_windows (e ∷ es) = e.1.window.failures ++ failures_of_windows es
 
 -- the window under a key
 abbrev pub window_at : ℕ × ℕ → List Entry → Option AddrWindow
@@ -51,7 +51,7 @@ pub record IsHeld (findtime maxretry : ℕ) (es : List Entry) : Type 0 where
   pub span : 1 ≤ findtime
   pub most : 1 ≤ maxretry
   pub windows : AreWindows findtime maxretry es
-  pub none_full : (addr : Addr) → IsFull findtime maxretry addr (failures_in es) → ⊥
+  pub none_full : (addr : Addr) → IsFull findtime maxretry addr (failures_of_windows es) → ⊥
 
 -- one more failure went into its window
 pub record Grows (now : ℕ) (f : Failure) (old new : AddrWindow) (full : Bool) : Type 0 where
@@ -71,14 +71,14 @@ KeepsOthers addr old new = (other : Addr) → same_addr addr other ≡ false →
 -- one more failure went in, and it is told whether its address is full
 pub record Enters (findtime maxretry now : ℕ) (f : Failure) (old new : List Entry) (full : Bool) : Type 0 where
   pub windows : AreWindows findtime maxretry new
-  pub own : filter (is_of f.addr) (failures_in new) ≡ own_after now findtime f (failures_in old)
-  pub others : KeepsOthers f.addr (failures_in old) (failures_in new)
-  pub tells : (full ≡ true) ↔ IsFull findtime maxretry f.addr (failures_in new)
+  pub own : filter (is_of f.addr) (failures_of_windows new) ≡ own_after now findtime f (failures_of_windows old)
+  pub others : KeepsOthers f.addr (failures_of_windows old) (failures_of_windows new)
+  pub tells : (full ≡ true) ↔ IsFull findtime maxretry f.addr (failures_of_windows new)
 
 -- an address's window is taken out
 pub record Loses (findtime maxretry : ℕ) (addr : Addr) (old new : List Entry) : Type 0 where
   pub windows : AreWindows findtime maxretry new
-  pub failures : failures_in new ≡ filter (λ (f : Failure). not (is_of addr f)) (failures_in old)
+  pub failures : failures_of_windows new ≡ filter (λ (f : Failure). not (is_of addr f)) (failures_of_windows old)
 
 -- whether a failure is of one of these addresses
 abbrev pub is_of_some : List Addr → Failure → Bool
@@ -87,22 +87,22 @@ is_of_some addrs f = list_any (same_addr f.addr) addrs
 -- the windows of these addresses are taken out
 pub record LosesEach (findtime maxretry : ℕ) (addrs : List Addr) (old new : List Entry) : Type 0 where
   pub windows : AreWindows findtime maxretry new
-  pub failures : failures_in new ≡ filter (λ (f : Failure). not (is_of_some addrs f)) (failures_in old)
+  pub failures : failures_of_windows new ≡ filter (λ (f : Failure). not (is_of_some addrs f)) (failures_of_windows old)
 
 -- windows that hold nothing recent are taken out
 pub record Sweeps (findtime maxretry now : ℕ) (old new : List Entry) : Type 0 where
   pub held : IsHeld findtime maxretry new
-  pub recent : filter (is_recent now findtime) (failures_in new) ≡ filter (is_recent now findtime) (failures_in old)
-  pub times : (moment : ℕ) → AllOf (λ (f : Failure). f.time ≤ moment) (failures_in old) → AllOf (λ (f : Failure). f.time ≤ moment) (failures_in new)
+  pub recent : filter (is_recent now findtime) (failures_of_windows new) ≡ filter (is_recent now findtime) (failures_of_windows old)
+  pub times : (moment : ℕ) → AllOf (λ (f : Failure). f.time ≤ moment) (failures_of_windows old) → AllOf (λ (f : Failure). f.time ≤ moment) (failures_of_windows new)
 
 -- One more failure is counted. Where its address is then full its window is taken out, and it is told which of its failures are near.
 pub record Counts (findtime maxretry now : ℕ) (f : Failure) (old new : List Entry) (full : Option (List Failure)) : Type 0 where
   pub held : IsHeld findtime maxretry new
-  pub tells : is_some full ≡ is_full findtime maxretry f.addr (own_after now findtime f (failures_in old))
-  pub near : IfSome full (λ fs. fs ≡ filter (is_near findtime f) (own_after now findtime f (failures_in old)))
-  pub stays : is_some full ≡ false → filter (is_of f.addr) (failures_in new) ≡ own_after now findtime f (failures_in old)
-  pub goes : is_some full ≡ true → filter (is_of f.addr) (failures_in new) ≡ []
-  pub others : KeepsOthers f.addr (failures_in old) (failures_in new)
+  pub tells : is_some full ≡ is_full findtime maxretry f.addr (own_after now findtime f (failures_of_windows old))
+  pub near : IfSome full (λ fs. fs ≡ filter (is_near findtime f) (own_after now findtime f (failures_of_windows old)))
+  pub stays : is_some full ≡ false → filter (is_of f.addr) (failures_of_windows new) ≡ own_after now findtime f (failures_of_windows old)
+  pub goes : is_some full ≡ true → filter (is_of f.addr) (failures_of_windows new) ≡ []
+  pub others : KeepsOthers f.addr (failures_of_windows old) (failures_of_windows new)
 
 -- whether an address's latest failure is recent at a moment
 abbrev pub is_live : ℕ → ℕ → Entry → Bool

@@ -31,8 +31,8 @@ pub record Contents : Type 0 where
   pub bans : BanLists
 
 -- the middle state of a jail with a definition: of the kept failures those matter that are recent at the last one that counted
-abbrev pub jail_in : JailDef → Contents → JailNow
-jail_in d c = record {
+abbrev pub jail_of_contents : JailDef → Contents → JailNow
+jail_of_contents d c = record {
   definition = d;
   idle = c.idle;
   total_failed = c.total_failed;
@@ -45,8 +45,8 @@ jail_in d c = record {
 }
 
 -- the addresses of which failures are kept though none matters, each once
-abbrev pub stale_in : Contents → List Addr
-stale_in c = stale_addrs c.moment c.windows.findtime c.windows.failures
+abbrev pub stale_addresses : Contents → List Addr
+stale_addresses c = stale_addrs c.moment c.windows.findtime c.windows.failures
 
 -- What always holds of a jail at a moment, where the ban to come has that serial: the definition is bounded and its limits are those
 -- of the windows, nothing is to come, and each active ban has a lower serial.

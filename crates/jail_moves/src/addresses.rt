@@ -6,7 +6,7 @@ ghost use Rattle.f2b_model.specs.Lists.{AllOf};
 ghost use Rattle.f2b_model.specs.Moves.{is_near_to};
 ghost use Rattle.f2b_model.specs.StorableViews.{can_matter};
 ghost use Rattle.ban_table.specs.Places.{key_of};
-ghost use Rattle.jail_moves.specs.Addresses.{failures_in, window_at, AreNotBefore, AreWindows, Counts, Enters, Grows, IsHeld, Loses, LosesEach, Sweeps};
+ghost use Rattle.jail_moves.specs.Addresses.{failures_of_windows, window_at, AreNotBefore, AreWindows, Counts, Enters, Grows, IsHeld, Loses, LosesEach, Sweeps};
 
 use f2b_base::{Addr, Failure, NoMemory, Plain, Seq};
 use fail_window::Window;
@@ -126,7 +126,7 @@ fn enter(
     requires held { IsHeld findtime maxretry windows.old.entries }
     requires not_later { failure.time ≤ now }
     requires recent { now < failure.time + findtime }
-    requires forward { AllOf (λ (f : Failure). f.time ≤ now) (filter (is_of failure.addr) (failures_in windows.old.entries)) }
+    requires forward { AllOf (λ (f : Failure). f.time ≤ now) (filter (is_of failure.addr) (failures_of_windows windows.old.entries)) }
     ensures ok { IfOk result (Enters findtime maxretry now failure windows.old.entries windows.new.entries) }
     ensures err { OnErr result (windows.new.entries ≡ windows.old.entries) }
     ensures latest { (time : ℕ) → time ≤ failure.time → AreNotBefore time windows.old.entries → AreNotBefore time windows.new.entries }
@@ -147,7 +147,7 @@ pub fn remove(windows: &mut ByAddr, addr: Addr) -> Option<AddrWindow>
 }
 
 /// Takes the windows of these addresses out. Takes no memory.
-pub fn remove_each(windows: &mut ByAddr, addrs: &[Addr])
+pub fn remove_windows(windows: &mut ByAddr, addrs: &[Addr])
     ensures { (findtime maxretry : ℕ) → AreWindows findtime maxretry windows.old.entries → LosesEach findtime maxretry addrs.now windows.old.entries windows.new.entries }
 {
     for addr in addrs {
@@ -165,8 +165,8 @@ fn take_out(
     findtime: u64,
 ) -> Result<Seq<Failure>, NoMemory>
     ensures near { (maxretry : ℕ) → AreWindows findtime maxretry windows.old.entries
-        → IfOk result (λ near. near ≡ filter (is_near_to addr time findtime) (filter (is_of addr) (failures_in windows.old.entries))) }
-    ensures full { OnErr result ((maxretry : ℕ) → 2 ≤ maxretry → AreWindows findtime maxretry windows.old.entries → IsFull findtime maxretry addr (failures_in windows.old.entries) → ⊥) }
+        → IfOk result (λ near. near ≡ filter (is_near_to addr time findtime) (filter (is_of addr) (failures_of_windows windows.old.entries))) }
+    ensures full { OnErr result ((maxretry : ℕ) → 2 ≤ maxretry → AreWindows findtime maxretry windows.old.entries → IsFull findtime maxretry addr (failures_of_windows windows.old.entries) → ⊥) }
     ensures loses { (maxretry : ℕ) → AreWindows findtime maxretry windows.old.entries → Loses findtime maxretry addr windows.old.entries windows.new.entries }
     ensures latest { (time : ℕ) → AreNotBefore time windows.old.entries → AreNotBefore time windows.new.entries }
 {
@@ -202,7 +202,7 @@ pub fn count(
     requires held { IsHeld findtime maxretry windows.old.entries }
     requires not_later { failure.time ≤ now }
     requires recent { now < failure.time + findtime }
-    requires forward { AllOf (λ (f : Failure). f.time ≤ now) (filter (is_of failure.addr) (failures_in windows.old.entries)) }
+    requires forward { AllOf (λ (f : Failure). f.time ≤ now) (filter (is_of failure.addr) (failures_of_windows windows.old.entries)) }
     ensures ok { IfOk result (Counts findtime maxretry now failure windows.old.entries windows.new.entries) }
     ensures err { OnErr result (windows.new.entries ≡ windows.old.entries) }
     ensures latest { (time : ℕ) → time ≤ failure.time → AreNotBefore time windows.old.entries → AreNotBefore time windows.new.entries }
@@ -280,7 +280,7 @@ pub fn recent_failures(
     moment: u64,
     findtime: u64,
 ) -> Result<Seq<Failure>, NoMemory>
-    ensures { IfOk result (λ failures. failures ≡ filter (is_recent moment findtime) (failures_in windows.now.entries)) }
+    ensures { IfOk result (λ failures. failures ≡ filter (is_recent moment findtime) (failures_of_windows windows.now.entries)) }
 {
     let mut failures = Seq::new(alloc);
     for address in windows.values() {

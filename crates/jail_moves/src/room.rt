@@ -16,7 +16,7 @@ ghost use Rattle.f2b_model.specs.Views.{jail_view};
 ghost use Rattle.f2b_model.specs.Watches.{is_watched, with_place};
 ghost use Rattle.f2b_model.specs.declared.happening.Happening.TheVariants.{Ends};
 ghost use Rattle.jail_moves.specs.Lately.{failed_lately};
-ghost use Rattle.jail_moves.specs.Rooms.{jail_in, stale_in, with_ban, IsCounted, IsKeptJail, IsStored};
+ghost use Rattle.jail_moves.specs.Rooms.{jail_of_contents, stale_addresses, with_ban, IsCounted, IsKeptJail, IsStored};
 ghost use Rattle.f2b_model.specs.Bounds.{IsBounded};
 
 use crate::bans::{begin, drop_past, end_due, unban};
@@ -74,7 +74,7 @@ impl Room {
     /// A jail in which nothing happened yet.
     pub fn fresh(alloc: Global, definition: &JailDef) -> Result<Room, NoMemory>
         requires { IsBounded definition.now }
-        ensures jail { IfOk result (λ room. jail_in definition.now room ≡ fresh_now definition.now) }
+        ensures jail { IfOk result (λ room. jail_of_contents definition.now room ≡ fresh_now definition.now) }
         ensures kept { IfOk result (λ room. (at next : ℕ) → IsKeptJail at next definition.now room) }
     {
         Ok(Room {
@@ -99,7 +99,7 @@ impl Room {
     ) -> Result<Room, NoMemory>
         requires bounded { IsBounded definition.now }
         requires stored { (next : ℕ) × IsStored at next view.now }
-        ensures jail { IfOk result (λ room. jail_in definition.now room ≡ jail_taken_up at definition.now view.now) }
+        ensures jail { IfOk result (λ room. jail_of_contents definition.now room ≡ jail_taken_up at definition.now view.now) }
         ensures kept { IfOk result (λ room. (next : ℕ) → IsStored at next view.now → IsKeptJail at next definition.now room) }
     {
         let moment = view.moment.min(at);
@@ -124,7 +124,7 @@ impl Room {
     /// What is stored of the jail.
     pub fn view(&self, definition: &JailDef) -> Result<JailView, NoMemory>
         requires { self.now.windows.findtime ≡ definition.now.findtime }
-        ensures { IfOk result (λ view. view ≡ jail_view (jail_in definition.now self.now)) }
+        ensures { IfOk result (λ view. view ≡ jail_view (jail_of_contents definition.now self.now)) }
     {
         let BanLists { active, past } = self.bans.lists()?;
         Ok(JailView {
@@ -200,7 +200,7 @@ impl Room {
     pub fn failed_lately(&self, definition: &JailDef, now: u64) -> u64
         requires limits { self.now.windows.findtime ≡ definition.now.findtime }
         requires later { self.now.moment ≤ now }
-        ensures { result ≡ failed_lately now definition.now.findtime (jail_in definition.now self.now).failures }
+        ensures { result ≡ failed_lately now definition.now.findtime (jail_of_contents definition.now self.now).failures }
     {
         self.windows.failed_lately(now)
     }
@@ -209,11 +209,11 @@ impl Room {
     /// Takes no memory.
     pub fn sweep(&mut self, most: u64) -> u64
         ensures room { self.new ≡ record self.old { windows = self.new.windows } }
-        ensures jail { (definition : JailDef) → self.old.windows.findtime ≡ definition.findtime → jail_in definition self.new ≡ jail_in definition self.old }
+        ensures jail { (definition : JailDef) → self.old.windows.findtime ≡ definition.findtime → jail_of_contents definition self.new ≡ jail_of_contents definition self.old }
         ensures kept { (at next : ℕ) → (definition : JailDef) → IsKeptJail at next definition self.old → IsKeptJail at next definition self.new }
         ensures most { result ≤ most }
-        ensures left { length (stale_in self.new) + result ≡ length (stale_in self.old) }
-        ensures none { result < most → stale_in self.new ≡ [] }
+        ensures left { length (stale_addresses self.new) + result ≡ length (stale_addresses self.old) }
+        ensures none { result < most → stale_addresses self.new ≡ [] }
     {
         self.windows.sweep(self.moment, most)
     }
@@ -273,8 +273,8 @@ impl Room {
     ) -> Result<u64, NoMemory>
         requires kept { IsKeptJail at serial definition.now self.old }
         requires room { serial + 1 < 2 ^ 64 }
-        ensures jail { IfOk result (λ next. found_now at word serial failure.now (jail_in definition.now self.old) ≡ record { jail = jail_in definition.now self.new; next = next }) }
-        ensures told { OnOk result (told.new ≡ told.old ++ told_found moves_now at word failure.now serial (jail_in definition.now self.old)) }
+        ensures jail { IfOk result (λ next. found_now at word serial failure.now (jail_of_contents definition.now self.old) ≡ record { jail = jail_of_contents definition.now self.new; next = next }) }
+        ensures told { OnOk result (told.new ≡ told.old ++ told_found moves_now at word failure.now serial (jail_of_contents definition.now self.old)) }
         ensures kept { IfOk result (λ next. IsKeptJail at next definition.now self.new) }
         ensures next { IfOk result (λ next. (serial ≤ next) × (next ≤ serial + 1)) }
     {
@@ -315,8 +315,8 @@ impl Room {
     ) -> Result<u64, NoMemory>
         requires kept { IsKeptJail at serial definition.now self.old }
         requires room { serial + 1 < 2 ^ 64 }
-        ensures jail { IfOk result (λ next. banned_now at word serial addr (jail_in definition.now self.old) ≡ record { jail = jail_in definition.now self.new; next = next }) }
-        ensures told { OnOk result (told.new ≡ told.old ++ told_banned moves_now at word addr serial (jail_in definition.now self.old)) }
+        ensures jail { IfOk result (λ next. banned_now at word serial addr (jail_of_contents definition.now self.old) ≡ record { jail = jail_of_contents definition.now self.new; next = next }) }
+        ensures told { OnOk result (told.new ≡ told.old ++ told_banned moves_now at word addr serial (jail_of_contents definition.now self.old)) }
         ensures kept { IfOk result (λ next. IsKeptJail at next definition.now self.new) }
         ensures next { IfOk result (λ next. (serial ≤ next) × (next ≤ serial + 1)) }
     {
@@ -336,8 +336,8 @@ impl Room {
         at: u64,
     ) -> Result<(), NoMemory>
         requires { at ≤ last_moment }
-        ensures jail { OnOk result (jail_in definition.now self.new ≡ ended_by_time moves_now at (jail_in definition.now self.old)) }
-        ensures told { OnOk result (told.new ≡ told.old ++ told_ends moves_now at (jail_in definition.now self.old)) }
+        ensures jail { OnOk result (jail_of_contents definition.now self.new ≡ ended_by_time moves_now at (jail_of_contents definition.now self.old)) }
+        ensures told { OnOk result (told.new ≡ told.old ++ told_ends moves_now at (jail_of_contents definition.now self.old)) }
         ensures kept { (before next : ℕ) → IsKeptJail before next definition.now self.old → before ≤ at → OnOk result (IsKeptJail at next definition.now self.new) }
     {
         end_due(&mut self.bans, told, &definition.name, at)?;
@@ -353,7 +353,7 @@ impl Room {
         at: u64,
     ) -> Result<(), NoMemory>
         requires { at ≤ last_moment }
-        ensures jail { OnOk result (jail_in definition.now self.new ≡ unbanned moves_now at addrs.now (jail_in definition.now self.old)) }
+        ensures jail { OnOk result (jail_of_contents definition.now self.new ≡ unbanned moves_now at addrs.now (jail_of_contents definition.now self.old)) }
         ensures told { OnOk result (told.new ≡ told.old ++ map (Ends definition.now.name) (filter (is_meant addrs.now) self.old.bans.active)) }
         ensures kept { (next : ℕ) → IsKeptJail at next definition.now self.old → OnOk result (IsKeptJail at next definition.now self.new) }
     {
@@ -363,7 +363,7 @@ impl Room {
 
     /// Drops what is over for `purge` seconds or more at a moment. Takes no memory.
     pub fn drop_past(&mut self, definition: &JailDef, at: u64, purge: u64)
-        ensures jail { jail_in definition.now self.new ≡ dropped_now at purge (jail_in definition.now self.old) }
+        ensures jail { jail_of_contents definition.now self.new ≡ dropped_now at purge (jail_of_contents definition.now self.old) }
         ensures kept { (next : ℕ) → IsKeptJail at next definition.now self.old → IsKeptJail at next definition.now self.new }
     {
         drop_past(&mut self.bans, at, purge);
@@ -374,7 +374,7 @@ impl Room {
         requires findtime { 1 ≤ findtime }
         requires maxretry { 1 ≤ maxretry }
         requires most { maxretry < 2 ^ 32 }
-        ensures jail { jail_in definition.new self.new ≡ limited_now findtime maxretry (jail_in definition.old self.old) }
+        ensures jail { jail_of_contents definition.new self.new ≡ limited_now findtime maxretry (jail_of_contents definition.old self.old) }
         ensures kept { (at next : ℕ) → IsKeptJail at next definition.old self.old → IsKeptJail at next definition.new self.new }
     {
         if findtime == definition.findtime && maxretry == definition.maxretry {
@@ -394,7 +394,7 @@ impl Room {
         definition: &JailDef,
     ) -> Result<(), NoMemory>
         requires { IsBounded definition.now }
-        ensures jail { OnOk result (jail_in definition.now self.new ≡ kept_now definition.now (jail_in before.now self.old)) }
+        ensures jail { OnOk result (jail_of_contents definition.now self.new ≡ kept_now definition.now (jail_of_contents before.now self.old)) }
         ensures kept { (at next : ℕ) → IsKeptJail at next before.now self.old → OnOk result (IsKeptJail at next definition.now self.new) }
     {
         self.watches = watches_of(

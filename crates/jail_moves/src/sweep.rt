@@ -1,6 +1,6 @@
 //! Windows that no longer matter are dropped, so many at a time.
 ghost use Rattle.std.specs.Prelude.{◌≡◌, ℕ, ◌+◌, ◌<◌, ◌≤◌, [], length, find, option_map};
-ghost use Rattle.jail_moves.specs.Addresses.{failures_in, is_stale, windows_from, AreNotBefore, Entry, IsHeld, Sweeps};
+ghost use Rattle.jail_moves.specs.Addresses.{failures_of_windows, is_stale, windows_from, AreNotBefore, Entry, IsHeld, Sweeps};
 ghost use Rattle.jail_moves.specs.Stale.{stale_addrs};
 
 use crate::addresses::{ByAddr, is_recent};
@@ -20,8 +20,8 @@ pub fn drop_stale(windows: &mut ByAddr, now: u64, findtime: u64, most: u64) -> u
     ensures most { result ≤ most }
     ensures sweeps { (maxretry : ℕ) → IsHeld findtime maxretry windows.old.entries → Sweeps findtime maxretry now windows.old.entries windows.new.entries }
     ensures left { (maxretry : ℕ) → IsHeld findtime maxretry windows.old.entries
-        → length (stale_addrs now findtime (failures_in windows.new.entries)) + result ≡ length (stale_addrs now findtime (failures_in windows.old.entries)) }
-    ensures none { (maxretry : ℕ) → IsHeld findtime maxretry windows.old.entries → result < most → stale_addrs now findtime (failures_in windows.new.entries) ≡ [] }
+        → length (stale_addrs now findtime (failures_of_windows windows.new.entries)) + result ≡ length (stale_addrs now findtime (failures_of_windows windows.old.entries)) }
+    ensures none { (maxretry : ℕ) → IsHeld findtime maxretry windows.old.entries → result < most → stale_addrs now findtime (failures_of_windows windows.new.entries) ≡ [] }
     ensures latest { (time : ℕ) → AreNotBefore time windows.old.entries → AreNotBefore time windows.new.entries }
 {
     let mut from = (0, 0);

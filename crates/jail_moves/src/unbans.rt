@@ -22,7 +22,7 @@ fn meant(table: &BanTable, addrs: &Option<Seq<Addr>>) -> Result<Seq<Ban>, NoMemo
 }
 
 /// Ends these bans at a moment, and tells of them.
-fn end_each(
+fn end_bans(
     table: &mut BanTable,
     told: &mut Seq<Happening>,
     name: &Text,
@@ -53,5 +53,5 @@ pub fn unban(
     ensures told { OnOk result (told.new ≡ told.old ++ map (Ends name.now) (filter (is_meant addrs.now) table.old.active)) }
 {
     let bans = meant(table, addrs)?;
-    end_each(table, told, name, bans.as_slice(), at)
+    end_bans(table, told, name, bans.as_slice(), at)
 }

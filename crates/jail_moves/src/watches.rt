@@ -1,6 +1,6 @@
 //! How far the logs of a jail are followed.
 ghost use Rattle.std.specs.Prelude.{◌≡◌, ◌≤◌, length, bytes_eq, OnOk, IfOk};
-ghost use Rattle.f2b_model.specs.Watches.{first_place, is_watched, place_in, watches_of, with_place};
+ghost use Rattle.f2b_model.specs.Watches.{first_place, is_watched, place_or_first, watches_of, with_place};
 ghost use Rattle.jail_moves.specs.Watching.{watch_place};
 
 use f2b_base::{Bytes, NoMemory, Place, Plain, Seq, Text, WatchDef, WatchView};
@@ -27,8 +27,12 @@ fn is_of_path(watch: &WatchView, path: &Text) -> bool
 }
 
 /// The place of a path that was watched, or that of a new log.
-fn place_in(alloc: Global, watches: &[WatchView], definition: &WatchDef) -> Result<Place, NoMemory>
-    ensures { IfOk result (λ place. place ≡ place_in watches.now definition.now) }
+fn place_or_first(
+    alloc: Global,
+    watches: &[WatchView],
+    definition: &WatchDef,
+) -> Result<Place, NoMemory>
+    ensures { IfOk result (λ place. place ≡ place_or_first watches.now definition.now) }
 {
     for watch in watches {
         if is_of_path(watch, &definition.path) {
@@ -50,7 +54,7 @@ pub fn watches_of(
     for definition in definitions {
         new.push(WatchView {
             path: definition.path.copy()?,
-            place: place_in(alloc, watches, definition)?,
+            place: place_or_first(alloc, watches, definition)?,
         })?;
     }
     Ok(new)

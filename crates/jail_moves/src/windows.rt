@@ -11,7 +11,7 @@ ghost use Rattle.jail_moves.specs.Lately.{failed_lately};
 ghost use Rattle.jail_moves.specs.Stale.{stale_addrs};
 
 use crate::addresses::{
-    ByAddr, can_matter, count, is_recent, recent_failures, remove, remove_each, sweep_in_turn,
+    ByAddr, can_matter, count, is_recent, recent_failures, remove, remove_windows, sweep_in_turn,
 };
 use crate::lately::failed_lately;
 use crate::sweep::{drop_stale, earliest};
@@ -35,11 +35,11 @@ pub struct Windows {
 
 impl Model for Windows {
     ghost use Rattle.fail_window.specs.Opened.{Opened};
-    ghost use Rattle.jail_moves.specs.Addresses.{failures_in, AreNotBefore, IsHeld};
+    ghost use Rattle.jail_moves.specs.Addresses.{failures_of_windows, AreNotBefore, IsHeld};
 
     ghost Value = { Opened };
 
-    ghost view = { λ w. record { findtime = w.findtime; maxretry = w.maxretry; failures = failures_in w.by_addr.entries } };
+    ghost view = { λ w. record { findtime = w.findtime; maxretry = w.maxretry; failures = failures_of_windows w.by_addr.entries } };
 
     ghost invariant = { λ w. IsHeld w.findtime w.maxretry w.by_addr.entries × AreNotBefore w.earliest w.by_addr.entries };
 }
@@ -93,7 +93,7 @@ impl Windows {
             }
         }
         // An address that is full stays so, whatever came behind.
-        remove_each(&mut by_addr, full.as_slice());
+        remove_windows(&mut by_addr, full.as_slice());
         let earliest = earliest(&by_addr);
         Ok(Windows {
             findtime,

@@ -16,7 +16,7 @@ use Rattle.f2b_base.specs.declared.job.UpLane.{UpLane}
 use Rattle.f2b_base.specs.declared.view.WatchView.{WatchView}
 use Rattle.f2b_model.specs.declared.jail_now.JailNow.{JailNow}
 use Rattle.f2b_model.specs.Active.{held}
-use Rattle.f2b_model.specs.Lanes.{Lanes, all_down, all_up, books_now, is_among, lane_down, lane_up, lanes_configured, lanes_of, missing_up, others_down, are_just}
+use Rattle.f2b_model.specs.Lanes.{Lanes, all_down, all_up, books_now, includes_lane, lane_down, lane_up, lanes_configured, lanes_of, missing_up, others_down, are_just}
 use Rattle.f2b_model.specs.Laws.{AreWatched, IsWatched}
 use Rattle.f2b_model.specs.Lists.{AllOf, AreDistinct}
 use Rattle.f2b_model.specs.NowMoves.{kept_now}
@@ -24,7 +24,7 @@ use Rattle.f2b_model.specs.Nows.{JailsNow}
 use Rattle.f2b_model.specs.Orders.{Held, is_up, lane_id, lane_orders, order}
 use Rattle.f2b_model.specs.Sound.{AreFitDefs}
 use Rattle.f2b_model.specs.Steps.{configured, done, find_jail, kept_or_fresh, moves_now}
-use Rattle.f2b_model.specs.Watches.{place_in, watches_of}
+use Rattle.f2b_model.specs.Watches.{place_or_first, watches_of}
 use Rattle.f2b_model.specs.Whole.{Now}
 use Rattle.f2b_model.proofs.ListLemmas.{by_test}
 use Rattle.f2b_model.specs.Configured.{configured_now}
@@ -92,7 +92,7 @@ watches_stay (d ∷ ds) (w ∷ ws) same distinct =
     let rest : map (λ (v : WatchView). v.path) ws ≡ map (λ (e : WatchDef). e.path) ds = cc in
     let here : bytes_eq w.path d.path ≡ true = (bytes_decides w.path d.path).1 path in
     let apart : list_any (bytes_eq w.path) (map (λ (e : WatchDef). e.path) ds) ≡ false = subst (λ (p : List ℕ). list_any (bytes_eq p) (map (λ (e : WatchDef). e.path) ds) ≡ false) (sym path) distinct.0 in
-    let place : cond (bytes_eq w.path d.path) w.place (place_in ws d) ≡ w.place = rw here refl in
+    let place : cond (bytes_eq w.path d.path) w.place (place_or_first ws d) ≡ w.place = rw here refl in
     ap₂ (λ (v : WatchView) (vs : List WatchView). v ∷ vs)
     (ap₂ (λ (p : List ℕ) (q : Place). let v : WatchView = record { path = p; place = q } in v) (sym path) place)
     (watches_behind w ds ws apart ∙ watches_stay ds ws rest distinct.1)
@@ -158,14 +158,14 @@ are_busy (d ∷ ds) js = ap₂ (λ (a b : Bool). a || b) (is_busy d (find_jail m
 -- ---- lanes
 
 -- just these lanes are up: they stay, where no stop was asked for
-lanes_stay : (at : ℕ) (mid after : List Held) (new : List UpLane) (l : Lanes (List Job)) → l.stopping ≡ false → are_just new l.up ≡ true
-    → lanes_configured books_now at mid after new l ≡ l
-lanes_stay at mid after new l stopping just =
-    let parts = neither (list_any (λ (lane : UpLane). not (is_among new lane)) l.up) (list_any (λ (lane : UpLane). not (is_up l.up (lane_id lane))) new) just in
+lanes_stay : (at : ℕ) (held_at_reading after : List Held) (new : List UpLane) (l : Lanes (List Job)) → l.stopping ≡ false → are_just new l.up ≡ true
+    → lanes_configured books_now at held_at_reading after new l ≡ l
+lanes_stay at held_at_reading after new l stopping just =
+    let parts = neither (list_any (λ (lane : UpLane). not (includes_lane new lane)) l.up) (list_any (λ (lane : UpLane). not (is_up l.up (lane_id lane))) new) just in
     let going : Lanes (List Job) = record l { stopping = false } in
-    let downs : filter (λ (lane : UpLane). not (is_among new lane)) l.up ≡ [] = none_filtered (λ (lane : UpLane). not (is_among new lane)) l.up parts.0 in
+    let downs : filter (λ (lane : UpLane). not (includes_lane new lane)) l.up ≡ [] = none_filtered (λ (lane : UpLane). not (includes_lane new lane)) l.up parts.0 in
     let ups : filter (λ (lane : UpLane). not (is_up l.up (lane_id lane))) new ≡ [] = none_filtered (λ (lane : UpLane). not (is_up l.up (lane_id lane))) new parts.1 in
-    let none_down : others_down books_now at mid new going ≡ going = ap (λ (lanes : List UpLane). all_down books_now at mid lanes going) downs in
+    let none_down : others_down books_now at held_at_reading new going ≡ going = ap (λ (lanes : List UpLane). all_down books_now at held_at_reading lanes going) downs in
     let none_up : missing_up books_now at after new going ≡ going = ap (λ (lanes : List UpLane). all_up books_now at after lanes going) ups in
     let same : going ≡ l = ap (λ (s : Bool). let k : Lanes (List Job) = record l { stopping = s } in k) (sym stopping) in
     ap (missing_up books_now at after new) none_down ∙ none_up ∙ same
@@ -189,11 +189,11 @@ ups_make at held [] l = omega arith
 ups_make at held (lane ∷ lanes) l = omega (arith, up_makes at held lane l, ups_make at held lanes (lane_up books_now at held lane l))
 
 -- where no job is made by lanes that go down and then others that come up, none goes down
-none_goes_down : (at : ℕ) (mid after : List Held) (downs ups : List UpLane) (l : Lanes (List Job))
-    → (all_up books_now at after ups (all_down books_now at mid downs l)).next_job ≡ l.next_job → downs ≡ []
-none_goes_down at mid after [] ups l same = refl
-none_goes_down at mid after (lane ∷ lanes) ups l same =
-    absurd (omega (arith, down_makes at mid lane l, downs_make at mid lanes (lane_down books_now at mid lane l), ups_make at after ups (all_down books_now at mid (lane ∷ lanes) l)))
+none_goes_down : (at : ℕ) (held_at_reading after : List Held) (downs ups : List UpLane) (l : Lanes (List Job))
+    → (all_up books_now at after ups (all_down books_now at held_at_reading downs l)).next_job ≡ l.next_job → downs ≡ []
+none_goes_down at held_at_reading after [] ups l same = refl
+none_goes_down at held_at_reading after (lane ∷ lanes) ups l same =
+    absurd (omega (arith, down_makes at held_at_reading lane l, downs_make at held_at_reading lanes (lane_down books_now at held_at_reading lane l), ups_make at after ups (all_down books_now at held_at_reading (lane ∷ lanes) l)))
 
 -- and none comes up
 none_comes_up : (at : ℕ) (after : List Held) (ups : List UpLane) (l : Lanes (List Job)) → (all_up books_now at after ups l).next_job ≡ l.next_job → ups ≡ []
@@ -201,17 +201,17 @@ none_comes_up at after [] l same = refl
 none_comes_up at after (lane ∷ lanes) l same = absurd (omega (arith, up_makes at after lane l, ups_make at after lanes (lane_up books_now at after lane l)))
 
 -- where a configuration makes no job, just its lanes are up
-lanes_were_just : (at : ℕ) (mid after : List Held) (new : List UpLane) (l : Lanes (List Job)) → (lanes_configured books_now at mid after new l).next_job ≡ l.next_job
+lanes_were_just : (at : ℕ) (held_at_reading after : List Held) (new : List UpLane) (l : Lanes (List Job)) → (lanes_configured books_now at held_at_reading after new l).next_job ≡ l.next_job
     → are_just new l.up ≡ true
-lanes_were_just at mid after new l same =
+lanes_were_just at held_at_reading after new l same =
     let going : Lanes (List Job) = record l { stopping = false } in
-    let left : Lanes (List Job) = others_down books_now at mid new going in
-    let downs : filter (λ (lane : UpLane). not (is_among new lane)) l.up ≡ [] =
-    none_goes_down at mid after (filter (λ (lane : UpLane). not (is_among new lane)) l.up) (filter (λ (lane : UpLane). not (is_up left.up (lane_id lane))) new) going same in
-    let none_down : left ≡ going = ap (λ (lanes : List UpLane). all_down books_now at mid lanes going) downs in
+    let left : Lanes (List Job) = others_down books_now at held_at_reading new going in
+    let downs : filter (λ (lane : UpLane). not (includes_lane new lane)) l.up ≡ [] =
+    none_goes_down at held_at_reading after (filter (λ (lane : UpLane). not (includes_lane new lane)) l.up) (filter (λ (lane : UpLane). not (is_up left.up (lane_id lane))) new) going same in
+    let none_down : left ≡ going = ap (λ (lanes : List UpLane). all_down books_now at held_at_reading lanes going) downs in
     let ups_same : (missing_up books_now at after new going).next_job ≡ going.next_job = sym (ap (λ (k : Lanes (List Job)). (missing_up books_now at after new k).next_job) none_down) ∙ same in
     let ups : filter (λ (lane : UpLane). not (is_up l.up (lane_id lane))) new ≡ [] = none_comes_up at after (filter (λ (lane : UpLane). not (is_up l.up (lane_id lane))) new) going ups_same in
-    rw (none_passes (λ (lane : UpLane). not (is_among new lane)) l.up downs, none_passes (λ (lane : UpLane). not (is_up l.up (lane_id lane))) new ups) refl
+    rw (none_passes (λ (lane : UpLane). not (includes_lane new lane)) l.up downs, none_passes (λ (lane : UpLane). not (is_up l.up (lane_id lane))) new ups) refl
 
 -- whether a stop was asked for is not changed while lanes go down
 downs_keep : (at : ℕ) (held : List Held) (lanes : List UpLane) (l : Lanes (List Job)) → (all_down books_now at held lanes l).stopping ≡ l.stopping
@@ -224,11 +224,11 @@ ups_keep at held [] l = refl
 ups_keep at held (lane ∷ lanes) l = ups_keep at held lanes (lane_up books_now at held lane l)
 
 -- after a configuration no stop is asked for
-configured_goes_on : (at : ℕ) (mid after : List Held) (new : List UpLane) (l : Lanes (List Job)) → (lanes_configured books_now at mid after new l).stopping ≡ false
-configured_goes_on at mid after new l =
+configured_goes_on : (at : ℕ) (held_at_reading after : List Held) (new : List UpLane) (l : Lanes (List Job)) → (lanes_configured books_now at held_at_reading after new l).stopping ≡ false
+configured_goes_on at held_at_reading after new l =
     let going : Lanes (List Job) = record l { stopping = false } in
-    let left : Lanes (List Job) = others_down books_now at mid new going in
-    ups_keep at after (filter (λ (lane : UpLane). not (is_up left.up (lane_id lane))) new) left ∙ downs_keep at mid (filter (λ (lane : UpLane). not (is_among new lane)) l.up) going
+    let left : Lanes (List Job) = others_down books_now at held_at_reading new going in
+    ups_keep at after (filter (λ (lane : UpLane). not (is_up left.up (lane_id lane))) new) left ∙ downs_keep at held_at_reading (filter (λ (lane : UpLane). not (includes_lane new lane)) l.up) going
 
 -- ---- the law
 

@@ -8,7 +8,7 @@ use Rattle.f2b_model.specs.declared.jail_now.JailNow.{JailNow}
 use Rattle.f2b_model.specs.Nows.{JailsNow}
 use Rattle.f2b_model.specs.OfJails.{is_of_jails}
 use Rattle.f2b_model.specs.Steps.{at_jail, done, moves_now}
-use Rattle.f2b_model.specs.Told.{told_done, told_in}
+use Rattle.f2b_model.specs.Told.{told_done, told_by_name}
 use Rattle.f2b_model.proofs.ListLemmas.{by_test}
 use Rattle.jail_rooms.specs.Acted.{acted, jail_named, told_acted}
 
@@ -17,44 +17,44 @@ same_name : (name other : List ℕ) → Some name ≡ Some other → name ≡ ot
 same_name name other e = cc
 
 -- what is done of an input that names a jail
-pub done_in : (word : ℕ) (what : What) (w : JailsNow) (name : List ℕ) → jail_named what ≡ Some name → done moves_now word what w ≡ at_jail moves_now name (acted w.at word what) w
-done_in word Tick w name e = absurd (let h : None ≡ Some name = e in cc)
-done_in word (Unban jail addrs) w name e = absurd (let h : None ≡ Some name = e in cc)
-done_in word (Config defs) w name e = absurd (let h : None ≡ Some name = e in cc)
-done_in word (Ended job outcome) w name e = absurd (let h : None ≡ Some name = e in cc)
-done_in word Stop w name e = absurd (let h : None ≡ Some name = e in cc)
-done_in word (CheckFailed job outcome) w name e = absurd (let h : None ≡ Some name = e in cc)
-done_in word (Read jail path place found) w name e = ap (λ n. at_jail moves_now n (acted w.at word (Read jail path place found)) w) (same_name jail name e)
-done_in word (Ban jail addrs) w name e = ap (λ n. at_jail moves_now n (acted w.at word (Ban jail addrs)) w) (same_name jail name e)
-done_in word (Attempt jail addr) w name e = ap (λ n. at_jail moves_now n (acted w.at word (Attempt jail addr)) w) (same_name jail name e)
-done_in word (Ignore jail cidr add) w name e = ap (λ n. at_jail moves_now n (acted w.at word (Ignore jail cidr add)) w) (same_name jail name e)
-done_in word (Findtime jail secs) w name e = ap (λ n. at_jail moves_now n (acted w.at word (Findtime jail secs)) w) (same_name jail name e)
-done_in word (Bantime jail secs) w name e = ap (λ n. at_jail moves_now n (acted w.at word (Bantime jail secs)) w) (same_name jail name e)
-done_in word (Maxretry jail number) w name e = ap (λ n. at_jail moves_now n (acted w.at word (Maxretry jail number)) w) (same_name jail name e)
-done_in word (Idle jail idle) w name e = ap (λ n. at_jail moves_now n (acted w.at word (Idle jail idle)) w) (same_name jail name e)
+pub done_by_name : (word : ℕ) (what : What) (w : JailsNow) (name : List ℕ) → jail_named what ≡ Some name → done moves_now word what w ≡ at_jail moves_now name (acted w.at word what) w
+done_by_name word Tick w name e = absurd (let h : None ≡ Some name = e in cc)
+done_by_name word (Unban jail addrs) w name e = absurd (let h : None ≡ Some name = e in cc)
+done_by_name word (Config defs) w name e = absurd (let h : None ≡ Some name = e in cc)
+done_by_name word (Ended job outcome) w name e = absurd (let h : None ≡ Some name = e in cc)
+done_by_name word Stop w name e = absurd (let h : None ≡ Some name = e in cc)
+done_by_name word (CheckFailed job outcome) w name e = absurd (let h : None ≡ Some name = e in cc)
+done_by_name word (Read jail path place found) w name e = ap (λ n. at_jail moves_now n (acted w.at word (Read jail path place found)) w) (same_name jail name e)
+done_by_name word (Ban jail addrs) w name e = ap (λ n. at_jail moves_now n (acted w.at word (Ban jail addrs)) w) (same_name jail name e)
+done_by_name word (Attempt jail addr) w name e = ap (λ n. at_jail moves_now n (acted w.at word (Attempt jail addr)) w) (same_name jail name e)
+done_by_name word (Ignore jail cidr add) w name e = ap (λ n. at_jail moves_now n (acted w.at word (Ignore jail cidr add)) w) (same_name jail name e)
+done_by_name word (Findtime jail secs) w name e = ap (λ n. at_jail moves_now n (acted w.at word (Findtime jail secs)) w) (same_name jail name e)
+done_by_name word (Bantime jail secs) w name e = ap (λ n. at_jail moves_now n (acted w.at word (Bantime jail secs)) w) (same_name jail name e)
+done_by_name word (Maxretry jail number) w name e = ap (λ n. at_jail moves_now n (acted w.at word (Maxretry jail number)) w) (same_name jail name e)
+done_by_name word (Idle jail idle) w name e = ap (λ n. at_jail moves_now n (acted w.at word (Idle jail idle)) w) (same_name jail name e)
 
 -- a jail that tells nothing, whichever it is
-tells_nothing : (name : List ℕ) (js : List JailNow) → [] ≡ told_in moves_now name (λ j. []) js
+tells_nothing : (name : List ℕ) (js : List JailNow) → [] ≡ told_by_name moves_now name (λ j. []) js
 tells_nothing name [] = refl
 tells_nothing name (j ∷ js) = by_test (bytes_eq j.definition.name name) _ (λ is. rw is refl) (λ other. rw other (tells_nothing name js))
 
 -- what an input that names a jail tells
-pub told_done_in : (word : ℕ) (what : What) (w : JailsNow) (name : List ℕ) → jail_named what ≡ Some name
-    → told_done moves_now word what w ≡ told_in moves_now name (told_acted w.at word what w.next_ban) w.jails
-told_done_in word Tick w name e = absurd (let h : None ≡ Some name = e in cc)
-told_done_in word (Unban jail addrs) w name e = absurd (let h : None ≡ Some name = e in cc)
-told_done_in word (Config defs) w name e = absurd (let h : None ≡ Some name = e in cc)
-told_done_in word (Ended job outcome) w name e = absurd (let h : None ≡ Some name = e in cc)
-told_done_in word Stop w name e = absurd (let h : None ≡ Some name = e in cc)
-told_done_in word (CheckFailed job outcome) w name e = absurd (let h : None ≡ Some name = e in cc)
-told_done_in word (Read jail path place found) w name e = ap (λ n. told_in moves_now n (told_acted w.at word (Read jail path place found) w.next_ban) w.jails) (same_name jail name e)
-told_done_in word (Ban jail addrs) w name e = ap (λ n. told_in moves_now n (told_acted w.at word (Ban jail addrs) w.next_ban) w.jails) (same_name jail name e)
-told_done_in word (Attempt jail addr) w name e = ap (λ n. told_in moves_now n (told_acted w.at word (Attempt jail addr) w.next_ban) w.jails) (same_name jail name e)
-told_done_in word (Ignore jail cidr add) w name e = tells_nothing name w.jails
-told_done_in word (Findtime jail secs) w name e = tells_nothing name w.jails
-told_done_in word (Bantime jail secs) w name e = tells_nothing name w.jails
-told_done_in word (Maxretry jail number) w name e = tells_nothing name w.jails
-told_done_in word (Idle jail idle) w name e = tells_nothing name w.jails
+pub told_done_by_name : (word : ℕ) (what : What) (w : JailsNow) (name : List ℕ) → jail_named what ≡ Some name
+    → told_done moves_now word what w ≡ told_by_name moves_now name (told_acted w.at word what w.next_ban) w.jails
+told_done_by_name word Tick w name e = absurd (let h : None ≡ Some name = e in cc)
+told_done_by_name word (Unban jail addrs) w name e = absurd (let h : None ≡ Some name = e in cc)
+told_done_by_name word (Config defs) w name e = absurd (let h : None ≡ Some name = e in cc)
+told_done_by_name word (Ended job outcome) w name e = absurd (let h : None ≡ Some name = e in cc)
+told_done_by_name word Stop w name e = absurd (let h : None ≡ Some name = e in cc)
+told_done_by_name word (CheckFailed job outcome) w name e = absurd (let h : None ≡ Some name = e in cc)
+told_done_by_name word (Read jail path place found) w name e = ap (λ n. told_by_name moves_now n (told_acted w.at word (Read jail path place found) w.next_ban) w.jails) (same_name jail name e)
+told_done_by_name word (Ban jail addrs) w name e = ap (λ n. told_by_name moves_now n (told_acted w.at word (Ban jail addrs) w.next_ban) w.jails) (same_name jail name e)
+told_done_by_name word (Attempt jail addr) w name e = ap (λ n. told_by_name moves_now n (told_acted w.at word (Attempt jail addr) w.next_ban) w.jails) (same_name jail name e)
+told_done_by_name word (Ignore jail cidr add) w name e = tells_nothing name w.jails
+told_done_by_name word (Findtime jail secs) w name e = tells_nothing name w.jails
+told_done_by_name word (Bantime jail secs) w name e = tells_nothing name w.jails
+told_done_by_name word (Maxretry jail number) w name e = tells_nothing name w.jails
+told_done_by_name word (Idle jail idle) w name e = tells_nothing name w.jails
 
 -- an input of the jails alone that names none, and is no command that unbans, does nothing
 pub done_nowhere : (word : ℕ) (what : What) (w : JailsNow) → is_of_jails what ≡ true → jail_named what ≡ None → ((jail : Option (List ℕ)) (addrs : Option (List Addr)) → what ≡ Unban jail addrs → ⊥)

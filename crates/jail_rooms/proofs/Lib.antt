@@ -8,5 +8,5 @@ pub mod StoredLemmas
 pub mod StorableLemmas
 pub mod TakeLemmas
 pub mod TakenLemmas
-pub mod SameLemmas
+pub mod EqualityLemmas
 pub mod SweepLemmas

@@ -3,7 +3,7 @@ use Rattle.std.proofs.Common.{◌≡◌, ℕ, zero, suc, ◌+◌, ◌<◌, ◌�
 use Rattle.std.proofs.Math.ListN.{set}
 use Rattle.f2b_model.specs.Lists.{AllOf}
 use Rattle.f2b_model.specs.declared.jail_now.JailNow.{JailNow}
-use Rattle.jail_rooms.specs.Kept.{now_of, IsKept}
+use Rattle.jail_rooms.specs.Kept.{now_of, IsWellKept}
 use Rattle.jail_rooms.specs.Moved.{AreMoved, IsMoved}
 use Rattle.jail_rooms.specs.declared.jail.Jail.{Jail}
 use Rattle.jail_rooms.proofs.TakeLemmas.{as_a_whole}
@@ -50,8 +50,8 @@ all_moved move at (o ∷ old) (n ∷ new) m = ap₂ (λ (j : JailNow) (js : List
 
 -- and what always holds of them still does
 pub all_kept : (move : JailNow → JailNow) (before at next : ℕ) (old new : List Jail) → before ≤ at → AreMoved move at (length old) old new
-    → AllOf (IsKept before next) old → AllOf (IsKept at next) new
-all_kept move before at next [] new le m kept = subst (AllOf (IsKept at next)) m tt
+    → AllOf (IsWellKept before next) old → AllOf (IsWellKept at next) new
+all_kept move before at next [] new le m kept = subst (AllOf (IsWellKept at next)) m tt
 all_kept move before at next (o ∷ old) [] le m kept = absurd m
 all_kept move before at next (o ∷ old) (n ∷ new) le m kept = (m.0.kept before next le kept.0, all_kept move before at next old new le m.1 kept.1)
 
@@ -64,7 +64,7 @@ moved_whole move at old slice new len is many moved =
 
 -- and what always holds of it
 pub kept_whole : (move : JailNow → JailNow) (before at next : ℕ) (old slice new : List Jail) (len : ℕ) → before ≤ at → slice ≡ old → len ≡ length old
-    → AreMoved move at (length slice) slice new → AllOf (IsKept before next) old → AllOf (IsKept at next) (take len (new ++ drop (length new) old))
+    → AreMoved move at (length slice) slice new → AllOf (IsWellKept before next) old → AllOf (IsWellKept at next) (take len (new ++ drop (length new) old))
 kept_whole move before at next old slice new len le is many moved kept =
     let m : AreMoved move at (length old) old new = subst (λ (r : List Jail). AreMoved move at (length r) r new) is moved in
-    subst (AllOf (IsKept at next)) (sym (as_a_whole new old len (same_length move at (length old) old new m) many)) (all_kept move before at next old new le m kept)
+    subst (AllOf (IsWellKept at next)) (sym (as_a_whole new old len (same_length move at (length old) old new m) many)) (all_kept move before at next old new le m kept)

@@ -11,12 +11,12 @@ use Rattle.f2b_model.specs.Views.{jail_view}
 use Rattle.f2b_model.specs.declared.jail_now.JailNow.{JailNow}
 use Rattle.f2b_model.proofs.OrderlyLemmas.{all_of-filter}
 use Rattle.jail_moves.specs.Rooms.{IsStored}
-use Rattle.jail_rooms.specs.Kept.{now_of, IsKept}
+use Rattle.jail_rooms.specs.Kept.{now_of, IsWellKept}
 use Rattle.jail_rooms.specs.Stored.{AreStored}
 use Rattle.jail_rooms.specs.declared.jail.Jail.{Jail}
 
 -- no failure among what is stored is to come
-pub view_times : (at next : ℕ) (js : List Jail) → AllOf (IsKept at next) js → AllOf (λ (v : JailView). AllOf (λ (f : Failure). f.time ≤ at) v.failures) (map jail_view (map now_of js))
+pub view_times : (at next : ℕ) (js : List Jail) → AllOf (IsWellKept at next) js → AllOf (λ (v : JailView). AllOf (λ (f : Failure). f.time ≤ at) v.failures) (map jail_view (map now_of js))
 view_times at next [] kept = tt
 view_times at next (j ∷ js) kept =
     (all_of-filter (λ (f : Failure). f.time ≤ at) (is_recent j.room.moment j.definition.findtime) j.room.windows.failures kept.0.times, view_times at next js kept.1)
@@ -24,7 +24,7 @@ view_times at next (j ∷ js) kept =
 -- a jail that was stored
 pub record IsBack (at : ℕ) (d : JailDef) (v : JailView) (j : Jail) : Type 0 where
   pub jail : now_of j ≡ jail_taken_up at d v
-  pub kept : (next : ℕ) → IsStored at next v → IsKept at next j
+  pub kept : (next : ℕ) → IsStored at next v → IsWellKept at next j
 
 -- the first jails that were stored
 abbrev pub AreBack : ℕ → List JailDef → List JailView → List Jail → Type 0
@@ -69,7 +69,7 @@ back_jails at (d ∷ ds) [] (j ∷ js) many back = absurd back
 back_jails at (d ∷ ds) (v ∷ vs) (j ∷ js) many back = ap₂ (λ (k : JailNow) (ks : List JailNow). k ∷ ks) back.0.jail (back_jails at ds vs js (omega arith) back.1)
 
 -- and what always holds of jails holds of them
-pub back_kept : (at next : ℕ) (ds : List JailDef) (vs : List JailView) (js : List Jail) → AreBack at ds vs js → AreStored at next ds vs → AllOf (IsKept at next) js
+pub back_kept : (at next : ℕ) (ds : List JailDef) (vs : List JailView) (js : List Jail) → AreBack at ds vs js → AreStored at next ds vs → AllOf (IsWellKept at next) js
 back_kept at next ds vs [] back stored = tt
 back_kept at next [] vs (j ∷ js) back stored = absurd back
 back_kept at next (d ∷ ds) [] (j ∷ js) back stored = absurd back

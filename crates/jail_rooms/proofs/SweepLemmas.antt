@@ -4,7 +4,7 @@ use Rattle.std.proofs.Math.ListN.{set}
 use Rattle.std.proofs.lemmas.Bool.Decides.{nat_tests}
 use Rattle.f2b_model.specs.declared.jail_now.JailNow.{JailNow}
 use Rattle.f2b_model.proofs.ListLemmas.{by_test}
-use Rattle.jail_moves.specs.Rooms.{stale_in}
+use Rattle.jail_moves.specs.Rooms.{stale_addresses}
 use Rattle.jail_rooms.specs.Kept.{now_of}
 use Rattle.jail_rooms.specs.Memory.{JailsKept, sweep_rest, swept}
 use Rattle.jail_rooms.specs.Stale.{stale_count}
@@ -18,13 +18,13 @@ all_stay (suc i) (k ∷ js) j n is same = ap (λ (ms : List JailNow). now_of k �
 
 -- what one jail forgets is fewer in all
 pub fewer_stale : (i : ℕ) (js : List Jail) (j n : Jail) → i < length js → j ≡ get_or js i j
-    → stale_count (set js i n) + length (stale_in j.room) ≡ stale_count js + length (stale_in n.room)
+    → stale_count (set js i n) + length (stale_addresses j.room) ≡ stale_count js + length (stale_addresses n.room)
 fewer_stale i [] j n lt is = absurd (omega arith)
-fewer_stale zero (k ∷ js) j n lt is = let e = ap (λ (r : Jail). length (stale_in r.room)) is in omega arith
+fewer_stale zero (k ∷ js) j n lt is = let e = ap (λ (r : Jail). length (stale_addresses r.room)) is in omega arith
 fewer_stale (suc i) (k ∷ js) j n lt is = let rest = fewer_stale i js j n (omega arith) is in omega arith
 
 -- those of the first jails, and of one more
-pub one_more_stale : (i : ℕ) (js : List Jail) (n : Jail) → i < length js → stale_count (take (suc i) (set js i n)) ≡ stale_count (take i js) + length (stale_in n.room)
+pub one_more_stale : (i : ℕ) (js : List Jail) (n : Jail) → i < length js → stale_count (take (suc i) (set js i n)) ≡ stale_count (take i js) + length (stale_addresses n.room)
 one_more_stale i [] n lt = absurd (omega arith)
 one_more_stale zero (k ∷ js) n lt = omega arith
 one_more_stale (suc i) (k ∷ js) n lt = let rest = one_more_stale i js n (omega arith) in omega arith

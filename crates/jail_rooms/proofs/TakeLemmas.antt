@@ -3,9 +3,9 @@ use Rattle.std.proofs.Common.{◌≡◌, ℕ, ◌+◌, ◌<◌, Bool, ◌||◌, 
 use Rattle.std.proofs.Math.Seq.{take-append_seam, take-length}
 use Rattle.std.proofs.lemmas.List.{append-nil, map-append, take_more}
 use Rattle.std.specs.List.{list_any}
-use Rattle.f2b_model.specs.Active.{held_by, held_in, held_in_jail, held_of}
+use Rattle.f2b_model.specs.Active.{held_by, held_by_jail, held_in_jail, held_of}
 use Rattle.f2b_model.specs.Steps.{moves_now}
-use Rattle.f2b_model.specs.Told.{told_each}
+use Rattle.f2b_model.specs.Told.{told_by_jails}
 use Rattle.f2b_model.specs.declared.happening.Happening.{Happening}
 use Rattle.f2b_model.specs.declared.jail_bans.JailBans.{JailBans}
 use Rattle.f2b_model.specs.declared.jail_now.JailNow.{JailNow}
@@ -21,8 +21,8 @@ pub map_item : {X Y : Type 0} (f : X → Y) (xs : List X) (i : ℕ) (x : X) → 
 map_item f xs i x less is = ap (map f) (take_item xs i x less is) ∙ map-append f (take i xs) (x ∷ [])
 
 -- all elements are taken
-pub take_all : {X : Type 0} (xs : List X) (i : ℕ) → i ≡ length xs → take i xs ≡ xs
-take_all xs i all = ap (λ k. take k xs) all ∙ take-length xs
+pub take_whole : {X : Type 0} (xs : List X) (i : ℕ) → i ≡ length xs → take i xs ≡ xs
+take_whole xs i all = ap (λ k. take k xs) all ∙ take-length xs
 
 -- a list written over another one of its length is itself
 pub as_a_whole : {X : Type 0} (new old : List X) (len : ℕ) → length new ≡ length old → len ≡ length old → take len (new ++ drop (length new) old) ≡ new
@@ -31,30 +31,30 @@ as_a_whole new old len same is =
     rw n (take-append_seam new (drop (length new) old))
 
 -- what jails tell, some behind others
-told_each-append : (t : JailNow → List Happening) (js ks : List JailNow) → told_each t (js ++ ks) ≡ told_each t js ++ told_each t ks
-told_each-append t [] ks = refl
-told_each-append t (j ∷ js) ks = ap (λ r. t j ++ r) (told_each-append t js ks) ∙ sym (append_assoc (t j) (told_each t js) (told_each t ks))
+told_by_jails-append : (t : JailNow → List Happening) (js ks : List JailNow) → told_by_jails t (js ++ ks) ≡ told_by_jails t js ++ told_by_jails t ks
+told_by_jails-append t [] ks = refl
+told_by_jails-append t (j ∷ js) ks = ap (λ r. t j ++ r) (told_by_jails-append t js ks) ∙ sym (append_assoc (t j) (told_by_jails t js) (told_by_jails t ks))
 
 -- one jail more tells
 pub told_item : (t : JailNow → List Happening) (js : List Jail) (i : ℕ) (j : Jail) → i < length js → j ≡ get_or js i j
-    → told_each t (map now_of (take (i + 1) js)) ≡ told_each t (map now_of (take i js)) ++ t (now_of j)
+    → told_by_jails t (map now_of (take (i + 1) js)) ≡ told_by_jails t (map now_of (take i js)) ++ t (now_of j)
 told_item t js i j less is =
-    ap (told_each t) (map_item now_of js i j less is)
-    ∙ told_each-append t (map now_of (take i js)) (now_of j ∷ [])
-    ∙ ap (λ r. told_each t (map now_of (take i js)) ++ r) (append-nil (t (now_of j)))
+    ap (told_by_jails t) (map_item now_of js i j less is)
+    ∙ told_by_jails-append t (map now_of (take i js)) (now_of j ∷ [])
+    ∙ ap (λ r. told_by_jails t (map now_of (take i js)) ++ r) (append-nil (t (now_of j)))
 
 -- the bans of jails, some behind others
 held_by-append : (js ks : List JailNow) → held_by moves_now (js ++ ks) ≡ held_by moves_now js ++ held_by moves_now ks
 held_by-append [] ks = refl
-held_by-append (j ∷ js) ks = ap (λ r. held_in moves_now j ++ r) (held_by-append js ks) ∙ sym (append_assoc (held_in moves_now j) (held_by moves_now js) (held_by moves_now ks))
+held_by-append (j ∷ js) ks = ap (λ r. held_by_jail moves_now j ++ r) (held_by-append js ks) ∙ sym (append_assoc (held_by_jail moves_now j) (held_by moves_now js) (held_by moves_now ks))
 
 -- one jail more holds its bans
 pub held_item : (js : List Jail) (i : ℕ) (j : Jail) → i < length js → j ≡ get_or js i j
-    → held_by moves_now (map now_of (take (i + 1) js)) ≡ held_by moves_now (map now_of (take i js)) ++ held_in moves_now (now_of j)
+    → held_by moves_now (map now_of (take (i + 1) js)) ≡ held_by moves_now (map now_of (take i js)) ++ held_by_jail moves_now (now_of j)
 held_item js i j less is =
     ap (held_by moves_now) (map_item now_of js i j less is)
     ∙ held_by-append (map now_of (take i js)) (now_of j ∷ [])
-    ∙ ap (λ r. held_by moves_now (map now_of (take i js)) ++ r) (append-nil (held_in moves_now (now_of j)))
+    ∙ ap (λ r. held_by moves_now (map now_of (take i js)) ++ r) (append-nil (held_by_jail moves_now (now_of j)))
 
 -- the bans of one jail more stand behind the others
 pub held_push : (js : List JailBans) (j : JailBans) → held_of (js ++ j ∷ []) ≡ held_of js ++ held_in_jail j

@@ -6,4 +6,4 @@ pub mod Stored
 pub mod Shown
 pub mod Stale
 pub mod Memory
-pub mod Same
+pub mod Equality

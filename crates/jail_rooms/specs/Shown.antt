@@ -16,8 +16,8 @@ abbrev pub ban_from : ℕ → JailNow → Option Ban
 ban_from serial j = find (λ (b : Ban). nat_le serial b.serial) j.bans
 
 -- how many addresses have an open failure in it that is later than `findtime` before a moment
-abbrev pub lately_in : ℕ → JailNow → ℕ
-lately_in now j = failed_lately now j.definition.findtime j.failures
+abbrev pub jail_failed_lately : ℕ → JailNow → ℕ
+jail_failed_lately now j = failed_lately now j.definition.findtime j.failures
 
 -- the definitions of jails
 abbrev pub defs_of : JailsNow → Defs

@@ -3,10 +3,10 @@ ghost use Rattle.std.specs.Prelude.{◌≡◌, ◌≤◌, ◌<◌, ◌+◌, ◌^
 ghost use Rattle.f2b_model.specs.Bounds.{IsBoundedWhat};
 ghost use Rattle.f2b_model.specs.Lists.{AllOf};
 ghost use Rattle.f2b_model.specs.Steps.{banned_in_turn, found_in_turn, moves_now, read_in_jail, in_jail};
-ghost use Rattle.f2b_model.specs.Told.{told_banned_in_turn, told_found_in_turn, told_read, told_in};
+ghost use Rattle.f2b_model.specs.Told.{told_banned_in_turn, told_found_in_turn, told_read, told_by_name};
 ghost use Rattle.jail_rooms.specs.Acted.{acted, jail_named, told_acted};
-ghost use Rattle.jail_rooms.specs.Kept.{now_of, IsKept};
-ghost use Rattle.jail_moves.specs.Rooms.{jail_in, IsKeptJail};
+ghost use Rattle.jail_rooms.specs.Kept.{now_of, IsWellKept};
+ghost use Rattle.jail_moves.specs.Rooms.{jail_of_contents, IsKeptJail};
 
 use crate::changes::change;
 use crate::jail::Jail;
@@ -34,8 +34,8 @@ pub fn find(
 ) -> Result<u64, NoMemory>
     requires kept { IsKeptJail stamp.at stamp.serial definition.now room.old }
     requires room { stamp.serial + length failures.now < 2 ^ 64 }
-    ensures jail { IfOk result (λ next. found_in_turn moves_now stamp.at stamp.word failures.now stamp.serial (jail_in definition.now room.old) ≡ record { jail = jail_in definition.now room.new; next = next }) }
-    ensures told { OnOk result (told.new ≡ told.old ++ told_found_in_turn moves_now stamp.at stamp.word failures.now stamp.serial (jail_in definition.now room.old)) }
+    ensures jail { IfOk result (λ next. found_in_turn moves_now stamp.at stamp.word failures.now stamp.serial (jail_of_contents definition.now room.old) ≡ record { jail = jail_of_contents definition.now room.new; next = next }) }
+    ensures told { OnOk result (told.new ≡ told.old ++ told_found_in_turn moves_now stamp.at stamp.word failures.now stamp.serial (jail_of_contents definition.now room.old)) }
     ensures kept { IfOk result (λ next. IsKeptJail stamp.at next definition.now room.new) }
     ensures next { IfOk result (λ next. stamp.serial ≤ next) }
 {
@@ -56,8 +56,8 @@ pub fn ban(
 ) -> Result<u64, NoMemory>
     requires kept { IsKeptJail stamp.at stamp.serial definition.now room.old }
     requires room { stamp.serial + length addrs.now < 2 ^ 64 }
-    ensures jail { IfOk result (λ next. banned_in_turn moves_now stamp.at stamp.word addrs.now stamp.serial (jail_in definition.now room.old) ≡ record { jail = jail_in definition.now room.new; next = next }) }
-    ensures told { OnOk result (told.new ≡ told.old ++ told_banned_in_turn moves_now stamp.at stamp.word addrs.now stamp.serial (jail_in definition.now room.old)) }
+    ensures jail { IfOk result (λ next. banned_in_turn moves_now stamp.at stamp.word addrs.now stamp.serial (jail_of_contents definition.now room.old) ≡ record { jail = jail_of_contents definition.now room.new; next = next }) }
+    ensures told { OnOk result (told.new ≡ told.old ++ told_banned_in_turn moves_now stamp.at stamp.word addrs.now stamp.serial (jail_of_contents definition.now room.old)) }
     ensures kept { IfOk result (λ next. IsKeptJail stamp.at next definition.now room.new) }
     ensures next { IfOk result (λ next. stamp.serial ≤ next) }
 {
@@ -81,20 +81,20 @@ pub fn read(
     definition: &JailDef,
     room: &mut Room,
     told: &mut Seq<Happening>,
-    reading: &LogRead<'_>,
+    log: &LogRead<'_>,
     stamp: InputStamp,
 ) -> Result<u64, NoMemory>
     requires kept { IsKeptJail stamp.at stamp.serial definition.now room.old }
-    requires room { stamp.serial + length reading.now.failures.now < 2 ^ 64 }
-    ensures jail { IfOk result (λ next. read_in_jail moves_now stamp.at stamp.word reading.now.path.now reading.now.place.now reading.now.failures.now stamp.serial (jail_in definition.now room.old) ≡ record { jail = jail_in definition.now room.new; next = next }) }
-    ensures told { OnOk result (told.new ≡ told.old ++ told_read moves_now stamp.at stamp.word reading.now.path.now reading.now.place.now reading.now.failures.now stamp.serial (jail_in definition.now room.old)) }
+    requires room { stamp.serial + length log.now.failures.now < 2 ^ 64 }
+    ensures jail { IfOk result (λ next. read_in_jail moves_now stamp.at stamp.word log.now.path.now log.now.place.now log.now.failures.now stamp.serial (jail_of_contents definition.now room.old) ≡ record { jail = jail_of_contents definition.now room.new; next = next }) }
+    ensures told { OnOk result (told.new ≡ told.old ++ told_read moves_now stamp.at stamp.word log.now.path.now log.now.place.now log.now.failures.now stamp.serial (jail_of_contents definition.now room.old)) }
     ensures kept { IfOk result (λ next. IsKeptJail stamp.at next definition.now room.new) }
     ensures next { IfOk result (λ next. stamp.serial ≤ next) }
 {
-    if !room.follow(reading.path, reading.place)? {
+    if !room.follow(log.path, log.place)? {
         return Ok(stamp.serial);
     }
-    let next = find(definition, room, told, reading.failures, stamp)?;
+    let next = find(definition, room, told, log.failures, stamp)?;
     Ok(next)
 }
 
@@ -106,12 +106,12 @@ pub fn act(
     what: &What,
     stamp: InputStamp,
 ) -> Result<u64, NoMemory>
-    requires kept { IsKept stamp.at stamp.serial jail.old }
+    requires kept { IsWellKept stamp.at stamp.serial jail.old }
     requires serial { stamp.serial ≤ 2 ^ 62 }
     requires bounded { IsBoundedWhat what.now }
     ensures jail { IfOk result (λ next. acted stamp.at stamp.word what.now stamp.serial (now_of jail.old) ≡ record { jail = now_of jail.new; next = next }) }
     ensures told { OnOk result (told.new ≡ told.old ++ told_acted stamp.at stamp.word what.now stamp.serial (now_of jail.old)) }
-    ensures kept { IfOk result (λ next. IsKept stamp.at next jail.new) }
+    ensures kept { IfOk result (λ next. IsWellKept stamp.at next jail.new) }
     ensures next { IfOk result (λ next. stamp.serial ≤ next) }
 {
     match what {
@@ -122,12 +122,12 @@ pub fn act(
             ..
         } => {
             let failures = found.as_slice();
-            let reading = LogRead {
+            let log = LogRead {
                 path,
                 place,
                 failures,
             };
-            let next = read(&jail.definition, &mut jail.room, told, &reading, stamp)?;
+            let next = read(&jail.definition, &mut jail.room, told, &log, stamp)?;
             Ok(next)
         }
         What::Ban { addrs, .. } => {
@@ -182,12 +182,12 @@ pub fn act_at(
     what: &What,
     stamp: InputStamp,
 ) -> Result<u64, NoMemory>
-    requires kept { AllOf (IsKept stamp.at stamp.serial) jails.old }
+    requires kept { AllOf (IsWellKept stamp.at stamp.serial) jails.old }
     requires serial { stamp.serial ≤ 2 ^ 62 }
     requires bounded { IsBoundedWhat what.now }
     ensures jails { IfOk result (λ next. in_jail moves_now name.now (acted stamp.at stamp.word what.now) stamp.serial (map now_of jails.old) ≡ record { jails = map now_of jails.new; next = next }) }
-    ensures told { OnOk result (told.new ≡ told.old ++ told_in moves_now name.now (told_acted stamp.at stamp.word what.now stamp.serial) (map now_of jails.old)) }
-    ensures kept { IfOk result (λ next. AllOf (IsKept stamp.at next) jails.new) }
+    ensures told { OnOk result (told.new ≡ told.old ++ told_by_name moves_now name.now (told_acted stamp.at stamp.word what.now stamp.serial) (map now_of jails.old)) }
+    ensures kept { IfOk result (λ next. AllOf (IsWellKept stamp.at next) jails.new) }
 {
     let place = place_of(jails, name);
     if place < jails.len() {

@@ -6,7 +6,7 @@ ghost use Rattle.f2b_model.specs.Bounds.{IsBounded, IsBoundedWhat};
 ghost use Rattle.f2b_model.specs.Moves.{ignored, same_cidr};
 ghost use Rattle.f2b_model.specs.NowMoves.{limited_now};
 ghost use Rattle.jail_rooms.specs.Acted.{changed};
-ghost use Rattle.jail_rooms.specs.Kept.{now_of, IsKept};
+ghost use Rattle.jail_rooms.specs.Kept.{now_of, IsWellKept};
 
 use crate::jail::Jail;
 use f2b_base::{Cidr, JailDef, NoMemory, Seq, What};
@@ -53,7 +53,7 @@ fn limit(alloc: Global, jail: &mut Jail, findtime: u64, maxretry: u64)
     requires maxretry { 1 ≤ maxretry }
     requires most { maxretry < 2 ^ 32 }
     ensures jail { now_of jail.new ≡ limited_now findtime maxretry (now_of jail.old) }
-    ensures kept { (at next : ℕ) → IsKept at next jail.old → IsKept at next jail.new }
+    ensures kept { (at next : ℕ) → IsWellKept at next jail.old → IsWellKept at next jail.new }
 {
     jail.room
         .limit(alloc, &mut jail.definition, findtime, maxretry);
@@ -64,7 +64,7 @@ pub fn change(alloc: Global, jail: &mut Jail, what: &What) -> Result<(), NoMemor
     requires jail { IsBounded jail.old.definition }
     requires what { IsBoundedWhat what.now }
     ensures jail { OnOk result (now_of jail.new ≡ changed what.now (now_of jail.old)) }
-    ensures kept { (at next : ℕ) → IsKept at next jail.old → OnOk result (IsKept at next jail.new) }
+    ensures kept { (at next : ℕ) → IsWellKept at next jail.old → OnOk result (IsWellKept at next jail.new) }
 {
     match what {
         What::Ignore { cidr, add, .. } => ignore(&mut jail.definition, *cidr, *add)?,

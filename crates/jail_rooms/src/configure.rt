@@ -4,7 +4,7 @@ ghost use Rattle.f2b_base.specs.declared.jail.JailDef.{JailDef};
 ghost use Rattle.f2b_model.specs.Bounds.{IsBounded};
 ghost use Rattle.f2b_model.specs.Lists.{AllOf, AreDistinct};
 ghost use Rattle.f2b_model.specs.Steps.{configured, find_jail, kept_or_fresh, moves_now};
-ghost use Rattle.jail_rooms.specs.Kept.{now_of, IsKept};
+ghost use Rattle.jail_rooms.specs.Kept.{now_of, IsWellKept};
 ghost use Rattle.jail_rooms.specs.Places.{jail_place};
 
 use crate::jail::Jail;
@@ -17,7 +17,7 @@ fn jail_for(alloc: Global, left: &mut Vec<Jail>, definition: &JailDef) -> Result
     requires { IsBounded definition.now }
     ensures jail { IfOk result (λ jail. now_of jail ≡ kept_or_fresh moves_now definition.now (find_jail moves_now definition.now.name (map now_of left.old.items))) }
     ensures left { OnOk result (left.new.items ≡ remove left.old.items (jail_place definition.now.name left.old.items)) }
-    ensures kept { (at next : ℕ) → AllOf (IsKept at next) left.old.items → IfOk result (IsKept at next) }
+    ensures kept { (at next : ℕ) → AllOf (IsWellKept at next) left.old.items → IfOk result (IsWellKept at next) }
 {
     let place = place_of(left.as_slice(), &definition.name);
     if place == left.len() {
@@ -36,7 +36,7 @@ pub fn configure(
     requires bounded { AllOf IsBounded definitions.now }
     requires names { AreDistinct bytes_eq (map (λ (d : JailDef). d.name) definitions.now) }
     ensures jails { IfOk result (λ new. map now_of new.items ≡ configured moves_now definitions.now (map now_of before.items)) }
-    ensures kept { (at next : ℕ) → AllOf (IsKept at next) before.items → IfOk result (λ new. AllOf (IsKept at next) new.items) }
+    ensures kept { (at next : ℕ) → AllOf (IsWellKept at next) before.items → IfOk result (λ new. AllOf (IsWellKept at next) new.items) }
 {
     let mut left = before;
     let mut new = Vec::new(alloc);

@@ -3,7 +3,7 @@ ghost use Rattle.std.specs.Prelude.{◌≡◌, ◌≤◌, ◌++◌, cond, length
 ghost use Rattle.std.specs.List.{list_any};
 ghost use Rattle.f2b_model.specs.NowMoves.{dropped_now};
 ghost use Rattle.f2b_model.specs.Steps.{ended_by_time, is_due, is_meant_jail, moves_now, unbanned};
-ghost use Rattle.f2b_model.specs.Told.{told_each, told_ends, told_unbanned};
+ghost use Rattle.f2b_model.specs.Told.{told_by_jails, told_ends, told_unbanned};
 ghost use Rattle.f2b_base.specs.Limits.{last_moment};
 ghost use Rattle.f2b_model.specs.declared.jail_now.JailNow.{JailNow};
 ghost use Rattle.jail_rooms.specs.Kept.{now_of};
@@ -32,7 +32,7 @@ pub fn is_any_idle(jails: &[Jail]) -> bool
 pub fn end_due_bans(jails: &mut [Jail], told: &mut Seq<Happening>, at: u64) -> Result<(), NoMemory>
     requires { at ≤ last_moment }
     ensures jails { OnOk result (AreMoved (ended_by_time moves_now at) at (length jails.old) jails.old jails.new) }
-    ensures told { OnOk result (told.new ≡ told.old ++ told_each (told_ends moves_now at) (map now_of jails.old)) }
+    ensures told { OnOk result (told.new ≡ told.old ++ told_by_jails (told_ends moves_now at) (map now_of jails.old)) }
 {
     for index in 0..jails.len() {
         jails[index].end_due(told, at)?;
@@ -59,7 +59,7 @@ pub fn unban_jails(
 ) -> Result<(), NoMemory>
     requires { at ≤ last_moment }
     ensures jails { OnOk result (AreMoved (λ (j : JailNow). cond (is_meant_jail name.now j.definition) (unbanned moves_now at addrs.now j) j) at (length jails.old) jails.old jails.new) }
-    ensures told { OnOk result (told.new ≡ told.old ++ told_each (told_unbanned moves_now name.now addrs.now) (map now_of jails.old)) }
+    ensures told { OnOk result (told.new ≡ told.old ++ told_by_jails (told_unbanned moves_now name.now addrs.now) (map now_of jails.old)) }
 {
     for index in 0..jails.len() {
         jails[index].unban(told, name, addrs, at)?;

@@ -8,7 +8,7 @@ ghost use Rattle.f2b_model.specs.StorableViews.{jail_taken_up};
 ghost use Rattle.f2b_model.specs.Told.{told_ends, told_unbanned};
 ghost use Rattle.f2b_model.specs.declared.jail_now.JailNow.{JailNow};
 ghost use Rattle.jail_moves.specs.Rooms.{IsStored};
-ghost use Rattle.jail_rooms.specs.Kept.{now_of, IsKept};
+ghost use Rattle.jail_rooms.specs.Kept.{now_of, IsWellKept};
 ghost use Rattle.jail_rooms.specs.Moved.{IsMoved};
 
 use f2b_base::{Addr, JailDef, JailView, NoMemory, Plain, Seq, Text};
@@ -38,7 +38,7 @@ impl Jail {
     pub fn fresh(alloc: Global, definition: &JailDef) -> Result<Jail, NoMemory>
         requires { IsBounded definition.now }
         ensures jail { IfOk result (λ jail. now_of jail ≡ fresh_now definition.now) }
-        ensures kept { IfOk result (λ jail. (at next : ℕ) → IsKept at next jail) }
+        ensures kept { IfOk result (λ jail. (at next : ℕ) → IsWellKept at next jail) }
     {
         let room = Room::fresh(alloc, definition)?;
         Ok(Jail {
@@ -58,7 +58,7 @@ impl Jail {
         requires bounded { IsBounded definition.now }
         requires stored { (next : ℕ) × IsStored at next view.now }
         ensures jail { IfOk result (λ jail. now_of jail ≡ jail_taken_up at definition.now view.now) }
-        ensures kept { IfOk result (λ jail. (next : ℕ) → IsStored at next view.now → IsKept at next jail) }
+        ensures kept { IfOk result (λ jail. (next : ℕ) → IsStored at next view.now → IsWellKept at next jail) }
     {
         let room = Room::of(alloc, definition, view, at)?;
         Ok(Jail {
@@ -72,7 +72,7 @@ impl Jail {
     pub fn under(self, alloc: Global, definition: &JailDef) -> Result<Jail, NoMemory>
         requires { IsBounded definition.now }
         ensures jail { IfOk result (λ jail. now_of jail ≡ kept_now definition.now (now_of self)) }
-        ensures kept { (at next : ℕ) → IsKept at next self → IfOk result (IsKept at next) }
+        ensures kept { (at next : ℕ) → IsWellKept at next self → IfOk result (IsWellKept at next) }
     {
         let Jail {
             definition: before,

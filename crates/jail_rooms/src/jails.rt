@@ -11,7 +11,7 @@ ghost use Rattle.f2b_model.specs.NowMoves.{dropped_now};
 ghost use Rattle.f2b_model.specs.Nows.{JailsNow};
 ghost use Rattle.f2b_model.specs.Sound.{AreFitDefs};
 ghost use Rattle.f2b_model.specs.Steps.{at_jail, at_reading, done, each_jail, find_jail, is_ban_due, is_meant_jail, moves_now, unbanned};
-ghost use Rattle.f2b_model.specs.Told.{told_done, told_each, told_ends, told_in, told_unbanned};
+ghost use Rattle.f2b_model.specs.Told.{told_done, told_by_jails, told_ends, told_by_name, told_unbanned};
 ghost use Rattle.f2b_base.specs.Limits.{default_purge, last_moment};
 ghost use Rattle.f2b_model.specs.StorableViews.{IsStorableView, taken_up};
 ghost use Rattle.f2b_model.specs.Views.{jail_view};
@@ -21,7 +21,7 @@ ghost use Rattle.f2b_model.specs.OfJails.{is_of_jails};
 ghost use Rattle.f2b_model.specs.Bounds.{IsBoundedWhat, IsBounded};
 ghost use Rattle.jail_rooms.specs.Acted.{acted, told_acted};
 ghost use Rattle.jail_rooms.specs.Memory.{swept};
-ghost use Rattle.jail_rooms.specs.Shown.{ban_from, defs_of, lately_in, totals_of};
+ghost use Rattle.jail_rooms.specs.Shown.{ban_from, defs_of, jail_failed_lately, totals_of};
 
 use crate::acts::{InputStamp, act_at, jail_named};
 use crate::configure::configure;
@@ -30,7 +30,7 @@ use crate::equality::are_definitions;
 use crate::jail::Jail;
 use crate::shown::jail_of;
 use crate::stored::{active_bans, definitions, jails_of, views};
-use crate::sweep::{rest_after, sweep_all};
+use crate::sweep::{rest_after, sweep_jails};
 use f2b_base::{
     Addr, Ban, DEFAULT_PURGE, Defs, JailDef, JailView, NoMemory, Seq, Text, View, What,
 };
@@ -43,7 +43,7 @@ use std::marker::Model;
 #[derive(Drop)]
 pub struct Jails {
     alloc: Global,
-    /// The greatest moment so far.
+    /// The greatest reading so far.
     at: u64,
     /// For how many seconds a ban that is over counts.
     purge: u64,
@@ -59,7 +59,7 @@ impl Model for Jails {
     ghost use Rattle.std.specs.Prelude.{◌≤◌, map};
     ghost use Rattle.f2b_model.specs.Lists.{AllOf};
     ghost use Rattle.f2b_base.specs.Limits.{last_moment};
-    ghost use Rattle.jail_rooms.specs.Kept.{now_of, IsKept};
+    ghost use Rattle.jail_rooms.specs.Kept.{now_of, IsWellKept};
     ghost use Rattle.jail_rooms.specs.Memory.{JailsKept};
     ghost use Rattle.jail_rooms.specs.Stale.{stale_count};
 
@@ -71,7 +71,7 @@ impl Model for Jails {
       rests_until = j.next_sweep;
     } };
 
-    ghost invariant = { λ j. (j.at ≤ last_moment) × AllOf (IsKept j.at j.next_ban) j.jails.items };
+    ghost invariant = { λ j. (j.at ≤ last_moment) × AllOf (IsWellKept j.at j.next_ban) j.jails.items };
 }
 
 impl Jails {
@@ -111,7 +111,7 @@ impl Jails {
         })
     }
 
-    /// The greatest moment so far, in seconds since 1970. Takes no memory.
+    /// The greatest reading so far, in seconds since 1970. Takes no memory.
     pub fn now(&self) -> u64
         ensures moment { result ≡ self.now.state.at }
         ensures within { result ≤ last_moment }
@@ -185,7 +185,7 @@ impl Jails {
     /// such jail. It takes time by the addresses that have failures, and no memory.
     pub fn failed_lately(&self, name: &str, now: u64) -> u64
         requires { self.now.state.at ≤ now }
-        ensures { result ≡ option_map_or (lately_in now) (find_jail moves_now name.now self.now.state.jails) 0 }
+        ensures { result ≡ option_map_or (jail_failed_lately now) (find_jail moves_now name.now self.now.state.jails) 0 }
     {
         match jail_of(self.jails.as_slice(), name) {
             Some(jail) => jail.room.failed_lately(&jail.definition, now),
@@ -221,7 +221,7 @@ impl Jails {
         if self.at < self.next_sweep {
             return 0;
         }
-        let forgotten = sweep_all(self.jails.as_mut_slice(), most);
+        let forgotten = sweep_jails(self.jails.as_mut_slice(), most);
         self.next_sweep = rest_after(forgotten, most, self.at, self.next_sweep);
         forgotten
     }
@@ -230,7 +230,7 @@ impl Jails {
     pub fn raised(self, told: &mut Seq<Happening>, secs: u64) -> Result<Jails, NoMemory>
         requires { secs ≤ last_moment }
         ensures jails { IfOk result (λ jails. jails.state ≡ at_reading moves_now secs self.state) }
-        ensures told { OnOk result (told.new ≡ told.old ++ told_each (told_ends moves_now (max self.state.at secs)) self.state.jails) }
+        ensures told { OnOk result (told.new ≡ told.old ++ told_by_jails (told_ends moves_now (max self.state.at secs)) self.state.jails) }
         ensures rests { IfOk result (λ jails. jails.rests_until ≡ self.rests_until) }
     {
         let Jails {
@@ -265,7 +265,7 @@ impl Jails {
         requires serial { self.state.next_ban ≤ 2 ^ 62 }
         requires bounded { IsBoundedWhat what.now }
         ensures jails { IfOk result (λ jails. jails.state ≡ at_jail moves_now name.now (acted self.state.at word what.now) self.state) }
-        ensures told { OnOk result (told.new ≡ told.old ++ told_in moves_now name.now (told_acted self.state.at word what.now self.state.next_ban) self.state.jails) }
+        ensures told { OnOk result (told.new ≡ told.old ++ told_by_name moves_now name.now (told_acted self.state.at word what.now self.state.next_ban) self.state.jails) }
         ensures rests { IfOk result (λ jails. jails.rests_until ≡ self.rests_until) }
     {
         let Jails {
@@ -300,7 +300,7 @@ impl Jails {
         addrs: &Option<Seq<Addr>>,
     ) -> Result<Jails, NoMemory>
         ensures jails { IfOk result (λ jails. jails.state ≡ each_jail moves_now (λ (j : JailNow). cond (is_meant_jail name.now j.definition) (unbanned moves_now self.state.at addrs.now j) j) self.state) }
-        ensures told { OnOk result (told.new ≡ told.old ++ told_each (told_unbanned moves_now name.now addrs.now) self.state.jails) }
+        ensures told { OnOk result (told.new ≡ told.old ++ told_by_jails (told_unbanned moves_now name.now addrs.now) self.state.jails) }
         ensures rests { IfOk result (λ jails. jails.rests_until ≡ self.rests_until) }
     {
         let Jails {

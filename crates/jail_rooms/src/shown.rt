@@ -2,7 +2,7 @@
 ghost use Rattle.std.specs.Prelude.{◌≡◌, ◌≤◌, ℕ, Some, None, bytes_eq, length, map, IfSome, MatchOption};
 ghost use Rattle.f2b_model.specs.Lists.{AllOf};
 ghost use Rattle.f2b_model.specs.Steps.{find_jail, moves_now};
-ghost use Rattle.jail_rooms.specs.Kept.{now_of, IsKept};
+ghost use Rattle.jail_rooms.specs.Kept.{now_of, IsWellKept};
 ghost use Rattle.jail_rooms.specs.Places.{jail_place};
 
 use crate::jail::Jail;
@@ -31,7 +31,7 @@ fn is_named(jail: &Jail, name: &str) -> bool
 /// The first jail of a name.
 pub fn jail_of<'a>(jails: &'a [Jail], name: &str) -> Option<&'a Jail>
     ensures jail { MatchOption result (find_jail moves_now name.now (map now_of jails.now) ≡ None) (λ j. find_jail moves_now name.now (map now_of jails.now) ≡ Some (now_of j.now)) }
-    ensures kept { (at next : ℕ) → AllOf (IsKept at next) jails.now → IfSome result (λ j. IsKept at next j.now) }
+    ensures kept { (at next : ℕ) → AllOf (IsWellKept at next) jails.now → IfSome result (λ j. IsWellKept at next j.now) }
 {
     jails.iter().find(|jail| is_named(jail, name))
 }

@@ -6,7 +6,7 @@ ghost use Rattle.f2b_model.specs.Steps.{moves_now};
 ghost use Rattle.f2b_model.specs.StorableViews.{jails_taken_up};
 ghost use Rattle.f2b_model.specs.Views.{jail_view};
 ghost use Rattle.f2b_model.specs.declared.jail_now.JailNow.{JailNow};
-ghost use Rattle.jail_rooms.specs.Kept.{now_of, IsKept};
+ghost use Rattle.jail_rooms.specs.Kept.{now_of, IsWellKept};
 ghost use Rattle.jail_rooms.specs.Stored.{AreStored};
 
 use crate::jail::Jail;
@@ -16,7 +16,7 @@ use std::alloc::Global;
 
 /// What is stored of each jail, in their order.
 pub fn views(alloc: Global, jails: &[Jail]) -> Result<Seq<JailView>, NoMemory>
-    requires { (at : ℕ) × ((next : ℕ) × AllOf (IsKept at next) jails.now) }
+    requires { (at : ℕ) × ((next : ℕ) × AllOf (IsWellKept at next) jails.now) }
     ensures { IfOk result (λ views. views ≡ map jail_view (map now_of jails.now)) }
 {
     let mut views = Seq::new(alloc);
@@ -61,7 +61,7 @@ pub fn jails_of(
 ) -> Result<Vec<Jail>, NoMemory>
     requires { (next : ℕ) × AreStored at next definitions.now views.now }
     ensures jails { IfOk result (λ jails. map now_of jails.items ≡ jails_taken_up at definitions.now views.now) }
-    ensures kept { (next : ℕ) → AreStored at next definitions.now views.now → IfOk result (λ jails. AllOf (IsKept at next) jails.items) }
+    ensures kept { (next : ℕ) → AreStored at next definitions.now views.now → IfOk result (λ jails. AllOf (IsWellKept at next) jails.items) }
 {
     let mut jails = Vec::new(alloc);
     for index in 0..views.len() {

@@ -2,7 +2,7 @@
 ghost use Rattle.std.specs.Prelude.{◌≡◌, ◌+◌, ◌<◌, ◌≤◌, ℕ, cond, map, nat_lt};
 ghost use Rattle.f2b_base.specs.Limits.{last_moment};
 ghost use Rattle.f2b_model.specs.Lists.{AllOf};
-ghost use Rattle.jail_rooms.specs.Kept.{now_of, IsKept};
+ghost use Rattle.jail_rooms.specs.Kept.{now_of, IsWellKept};
 ghost use Rattle.jail_rooms.specs.Memory.{sweep_rest};
 ghost use Rattle.jail_rooms.specs.Stale.{stale_count};
 
@@ -13,9 +13,9 @@ const SWEEP_REST: u64 = 16;
 
 /// Forgets the failures of up to `most` addresses that have none which still matters, jail by jail, and gives of how many. Takes no
 /// memory.
-pub fn sweep_all(jails: &mut [Jail], most: u64) -> u64
-    ensures jails { (at next : ℕ) → AllOf (IsKept at next) jails.old → map now_of jails.new ≡ map now_of jails.old }
-    ensures kept { (at next : ℕ) → AllOf (IsKept at next) jails.old → AllOf (IsKept at next) jails.new }
+pub fn sweep_jails(jails: &mut [Jail], most: u64) -> u64
+    ensures jails { (at next : ℕ) → AllOf (IsWellKept at next) jails.old → map now_of jails.new ≡ map now_of jails.old }
+    ensures kept { (at next : ℕ) → AllOf (IsWellKept at next) jails.old → AllOf (IsWellKept at next) jails.new }
     ensures most { result ≤ most }
     ensures left { stale_count jails.new + result ≡ stale_count jails.old }
     ensures none { result < most → stale_count jails.new ≡ 0 }

@@ -7,11 +7,11 @@ use Rattle.f2b_base.specs.declared.job.Outcome.{Outcome}
 use Rattle.f2b_base.specs.declared.job.Settled.{Settled}
 use Rattle.f2b_model.specs.declared.lane_happening.LaneHappening.{LaneHappening}
 use Rattle.f2b_model.specs.Checks.{is_closing, lane_of, checked_lane, void_ids, voided_at}
-use Rattle.f2b_model.specs.Jobs.{AllIdsBelow, is_head_id, is_success, job_by_id, settle_in, settled_as}
-use Rattle.f2b_model.specs.Lanes.{Lanes, books_now, void_all, restarted, lane_failed}
+use Rattle.f2b_model.specs.Jobs.{AllIdsBelow, is_head_id, is_success, job_by_id, jobs_after_ending, settled_as}
+use Rattle.f2b_model.specs.Lanes.{Lanes, books_now, with_voided, restarted, lane_failed}
 use Rattle.f2b_model.specs.LanesTold.{told_settled, told_try, told_try_of}
 use Rattle.f2b_model.specs.Orders.{Held}
-use Rattle.action_queue.specs.Checks.{void_each, voided_in}
+use Rattle.action_queue.specs.Checks.{jobs_voided, voided_ids}
 use Rattle.action_queue.specs.Tries.{ending_of}
 use Rattle.action_queue.proofs.BelowLemmas.{below_settle}
 use Rattle.lane_moves.specs.Pending.{Pending}
@@ -19,35 +19,35 @@ use Rattle.lane_moves.specs.Pending.{Pending}
 -- ---- jobs that are voided
 
 -- they add no id
-pub below_void : (next at : ℕ) (ids : List ℕ) (jobs : List Job) → AllIdsBelow next jobs → AllIdsBelow next (void_each at ids jobs)
+pub below_void : (next at : ℕ) (ids : List ℕ) (jobs : List Job) → AllIdsBelow next jobs → AllIdsBelow next (jobs_voided at ids jobs)
 below_void next at [] jobs below = below
-below_void next at (id ∷ ids) jobs below = below_void next at ids (settle_in (voided_at id at) jobs) (below_settle next (voided_at id at) jobs below)
+below_void next at (id ∷ ids) jobs below = below_void next at ids (jobs_after_ending (voided_at id at) jobs) (below_settle next (voided_at id at) jobs below)
 
 -- and nothing else of the lanes changes
-void_all-jobs : (at : ℕ) (ids : List ℕ) (l : Lanes (List Job)) → record l { jobs = void_each at ids l.jobs } ≡ void_all books_now at ids l
-void_all-jobs at [] l = refl
-void_all-jobs at (id ∷ ids) l = void_all-jobs at ids (record l { jobs = settle_in (voided_at id at) l.jobs })
+with_voided-jobs : (at : ℕ) (ids : List ℕ) (l : Lanes (List Job)) → record l { jobs = jobs_voided at ids l.jobs } ≡ with_voided books_now at ids l
+with_voided-jobs at [] l = refl
+with_voided-jobs at (id ∷ ids) l = with_voided-jobs at ids (record l { jobs = jobs_after_ending (voided_at id at) l.jobs })
 
 -- the lanes whose book of jobs was voided
 pub left : (at job : ℕ) (lane : LaneId) (old : Lanes (List Job)) (book : Pending) → checked_lane job old.jobs ≡ Some lane
-    → book ≡ record { jobs = void_each at (voided_in (checked_lane job old.jobs) old.jobs) old.jobs; next = old.next_job }
-    → record old { jobs = book.jobs; next_job = book.next } ≡ void_all books_now at (void_ids lane old.jobs) old
+    → book ≡ record { jobs = jobs_voided at (voided_ids (checked_lane job old.jobs) old.jobs) old.jobs; next = old.next_job }
+    → record old { jobs = book.jobs; next_job = book.next } ≡ with_voided books_now at (void_ids lane old.jobs) old
 left at job lane old book checked is =
     ap (λ (b : Pending). let l : Lanes (List Job) = record old { jobs = b.jobs; next_job = b.next } in l) is
-    ∙ ap (λ o. let l : Lanes (List Job) = record old { jobs = void_each at (voided_in o old.jobs) old.jobs } in l) checked
-    ∙ void_all-jobs at (void_ids lane old.jobs) old
+    ∙ ap (λ o. let l : Lanes (List Job) = record old { jobs = jobs_voided at (voided_ids o old.jobs) old.jobs } in l) checked
+    ∙ with_voided-jobs at (void_ids lane old.jobs) old
 
 -- ---- a check that failed
 
 -- the lane is about to stop
 pub closing_left : (at job : ℕ) (held : List Held) (lane : LaneId) (old : Lanes (List Job)) (book : Pending) → checked_lane job old.jobs ≡ Some lane → is_closing lane old.jobs ≡ true
-    → book ≡ record { jobs = void_each at (voided_in (checked_lane job old.jobs) old.jobs) old.jobs; next = old.next_job }
+    → book ≡ record { jobs = jobs_voided at (voided_ids (checked_lane job old.jobs) old.jobs) old.jobs; next = old.next_job }
     → record old { jobs = book.jobs; next_job = book.next } ≡ lane_failed books_now at held lane old
 closing_left at job held lane old book checked closing is = rw closing (left at job lane old book checked is)
 
 -- the lane starts anew where it is up
 pub open_left : (at job : ℕ) (held : List Held) (lane : LaneId) (old : Lanes (List Job)) (book : Pending) (new : Lanes (List Job)) → checked_lane job old.jobs ≡ Some lane → is_closing lane old.jobs ≡ false
-    → book ≡ record { jobs = void_each at (voided_in (checked_lane job old.jobs) old.jobs) old.jobs; next = old.next_job }
+    → book ≡ record { jobs = jobs_voided at (voided_ids (checked_lane job old.jobs) old.jobs) old.jobs; next = old.next_job }
     → new ≡ restarted books_now at held (lane_of lane old.up) (record old { jobs = book.jobs; next_job = book.next }) → new ≡ lane_failed books_now at held lane old
 open_left at job held lane old book new checked still is one =
     rw still (one ∙ ap (restarted books_now at held (lane_of lane old.up)) (left at job lane old book checked is))

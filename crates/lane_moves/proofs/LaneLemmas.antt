@@ -36,12 +36,12 @@ all_up_push at held (first ∷ lanes) lane l = all_up_push at held lanes lane (l
 pub take_item : {X : Type 0} (xs : List X) (i : ℕ) (x : X) → i < length xs → x ≡ get_or xs i x → take (i + 1) xs ≡ take i xs ++ x ∷ []
 take_item xs i x less is = take_more xs i x less ∙ ap (λ y. take i xs ++ y ∷ []) (sym is)
 
-pub all_down_step : (at : ℕ) (held : List Held) (lanes : List UpLane) (i : ℕ) (lane : UpLane) (old mid new : Lanes (List Job)) → i < length lanes → lane ≡ get_or lanes i lane
-    → mid ≡ all_down books_now at held (take i lanes) old → new ≡ lane_down books_now at held lane mid → new ≡ all_down books_now at held (take (i + 1) lanes) old
-all_down_step at held lanes i lane old mid new less is so_far one =
+pub all_down_step : (at : ℕ) (held : List Held) (lanes : List UpLane) (i : ℕ) (lane : UpLane) (old between new : Lanes (List Job)) → i < length lanes → lane ≡ get_or lanes i lane
+    → between ≡ all_down books_now at held (take i lanes) old → new ≡ lane_down books_now at held lane between → new ≡ all_down books_now at held (take (i + 1) lanes) old
+all_down_step at held lanes i lane old between new less is so_far one =
     one ∙ ap (lane_down books_now at held lane) so_far ∙ sym (ap (λ ls. all_down books_now at held ls old) (take_item lanes i lane less is) ∙ all_down_push at held (take i lanes) lane old)
 
-pub all_up_step : (at : ℕ) (held : List Held) (lanes : List UpLane) (i : ℕ) (lane : UpLane) (old mid new : Lanes (List Job)) → i < length lanes → lane ≡ get_or lanes i lane
-    → mid ≡ all_up books_now at held (take i lanes) old → new ≡ lane_up books_now at held lane mid → new ≡ all_up books_now at held (take (i + 1) lanes) old
-all_up_step at held lanes i lane old mid new less is so_far one =
+pub all_up_step : (at : ℕ) (held : List Held) (lanes : List UpLane) (i : ℕ) (lane : UpLane) (old between new : Lanes (List Job)) → i < length lanes → lane ≡ get_or lanes i lane
+    → between ≡ all_up books_now at held (take i lanes) old → new ≡ lane_up books_now at held lane between → new ≡ all_up books_now at held (take (i + 1) lanes) old
+all_up_step at held lanes i lane old between new less is so_far one =
     one ∙ ap (lane_up books_now at held lane) so_far ∙ sym (ap (λ ls. all_up books_now at held ls old) (take_item lanes i lane less is) ∙ all_up_push at held (take i lanes) lane old)

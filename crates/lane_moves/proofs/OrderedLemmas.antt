@@ -13,7 +13,7 @@ use Rattle.f2b_model.specs.declared.fill.Fill.{Fill}
 use Rattle.f2b_model.specs.declared.happening.Happening.{Happening}
 use Rattle.f2b_model.specs.declared.happening.Happening.TheVariants.{Counts, Begins, Ends}
 use Rattle.f2b_model.specs.Orders.{Held, takes, fill_of, order, order_showing, ban_orders, lane_orders, told_orders}
-use Rattle.f2b_model.specs.Turns.{Order, numbered}
+use Rattle.f2b_model.specs.Alternation.{Order, numbered}
 use Rattle.f2b_model.specs.declared.jail_bans.JailBans.{JailBans}
 use Rattle.f2b_model.specs.Active.{held_in_jail, held_of}
 use Rattle.lane_moves.specs.Pending.{Pending, ordered, filled_order, order_where}
@@ -43,15 +43,15 @@ both_ordered at xs ys old =
     (let e : old.next + length xs + length ys ≡ old.next + length (xs ++ ys) = omega (arith, length-append xs ys) in e)
 
 -- orders behind orders
-pub ordered_more : (at : ℕ) (xs ys : List Order) (old mid new : Pending) → mid ≡ ordered at xs old → new ≡ ordered at ys mid → new ≡ ordered at (xs ++ ys) old
-ordered_more at xs ys old mid new first second = second ∙ ap (ordered at ys) first ∙ both_ordered at xs ys old
+pub ordered_more : (at : ℕ) (xs ys : List Order) (old between new : Pending) → between ≡ ordered at xs old → new ≡ ordered at ys between → new ≡ ordered at (xs ++ ys) old
+ordered_more at xs ys old between new first second = second ∙ ap (ordered at ys) first ∙ both_ordered at xs ys old
 
 -- the orders of one element more of a list, where the orders of a list are those of its elements
 pub ordered_step : {X : Type 0} (orders : List X → List Order) (own : X → List Order) → ((xs : List X) (x : X) → orders (xs ++ x ∷ []) ≡ orders xs ++ own x)
-    → (at : ℕ) (xs : List X) (i : ℕ) (x : X) (old mid new : Pending) → i < length xs → x ≡ get_or xs i x
-    → mid ≡ ordered at (orders (take i xs)) old → new ≡ ordered at (own x) mid → new ≡ ordered at (orders (take (i + 1) xs)) old
-ordered_step orders own each at xs i x old mid new less is so_far one =
-    ordered_more at (orders (take i xs)) (own x) old mid new so_far one
+    → (at : ℕ) (xs : List X) (i : ℕ) (x : X) (old between new : Pending) → i < length xs → x ≡ get_or xs i x
+    → between ≡ ordered at (orders (take i xs)) old → new ≡ ordered at (own x) between → new ≡ ordered at (orders (take (i + 1) xs)) old
+ordered_step orders own each at xs i x old between new less is so_far one =
+    ordered_more at (orders (take i xs)) (own x) old between new so_far one
     ∙ ap (λ os. ordered at os old) (sym (ap orders (take_more xs i x less ∙ ap (λ y. take i xs ++ y ∷ []) (sym is)) ∙ each (take i xs) x))
 
 -- ---- orders of lists
@@ -118,12 +118,12 @@ pub no_order : (at : ℕ) (lines : List ℕ) (kind : JobKind) (h : Held) (lane :
 no_order at lines kind h lane old passed = rw passed (ordered_none at old)
 
 -- a ban more of a jail, read at its place
-pub held_step : (kind : JobKind) (lane : UpLane) (jail : List ℕ) (at : ℕ) (bans items : List Banned) (i : ℕ) (other : Banned) (old mid new : Pending) → items ≡ bans → i < length items
-    → mid ≡ ordered at (lane_orders kind lane (map (λ (b : Banned). record { jail = jail; ban = b }) (take i bans))) old
-    → new ≡ ordered at (order_where [] kind (record { jail = jail; ban = get_or items i other }) lane) mid
+pub held_step : (kind : JobKind) (lane : UpLane) (jail : List ℕ) (at : ℕ) (bans items : List Banned) (i : ℕ) (other : Banned) (old between new : Pending) → items ≡ bans → i < length items
+    → between ≡ ordered at (lane_orders kind lane (map (λ (b : Banned). record { jail = jail; ban = b }) (take i bans))) old
+    → new ≡ ordered at (order_where [] kind (record { jail = jail; ban = get_or items i other }) lane) between
     → new ≡ ordered at (lane_orders kind lane (map (λ (b : Banned). record { jail = jail; ban = b }) (take (i + 1) bans))) old
-held_step kind lane jail at bans items i other old mid new same less so_far one =
+held_step kind lane jail at bans items i other old between new same less so_far one =
     let within : i < length bans = omega (arith, less, ap length same) in
     ordered_step (λ bs. lane_orders kind lane (map (λ (b : Banned). record { jail = jail; ban = b }) bs)) (λ b. order_where [] kind (record { jail = jail; ban = b }) lane) (jail_orders_more kind lane jail)
-    at bans i (get_or items i other) old mid new within
+    at bans i (get_or items i other) old between new within
     (ap (λ bs. get_or bs i other) same ∙ get_or_default bans i other (get_or items i other) within) so_far one

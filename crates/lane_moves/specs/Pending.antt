@@ -8,7 +8,7 @@ use Rattle.f2b_model.specs.Jobs.{AllIdsBelow}
 use Rattle.f2b_model.specs.Orders.{Held, lane_id, takes, template, order_showing}
 use Rattle.f2b_model.specs.Render.{rendered}
 use Rattle.f2b_model.specs.Storable.{most_numbers}
-use Rattle.f2b_model.specs.Turns.{Order, numbered}
+use Rattle.f2b_model.specs.Alternation.{Order, numbered}
 
 -- the jobs that are not settled, and the id of the job to come
 pub record Pending : Type 0 where

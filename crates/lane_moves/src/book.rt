@@ -1,9 +1,9 @@
 //! The jobs that are not settled, with the id of the job to come. A job is written when it is ordered, and stands behind the others.
 ghost use Rattle.std.specs.Prelude.{ℕ, ◌≡◌, ◌≤◌, ◌<◌, ◌↔◌, IsTrue, true, [], ◌∷◌, option_copied, OnOk, IfOk, IfSome};
-ghost use Rattle.action_queue.specs.Checks.{void_each, voided_in};
+ghost use Rattle.action_queue.specs.Checks.{jobs_voided, voided_ids};
 ghost use Rattle.action_queue.specs.Tries.{ending_of};
 ghost use Rattle.f2b_model.specs.Checks.{checked_lane, is_closing};
-ghost use Rattle.f2b_model.specs.Jobs.{is_head_id, job_by_id, settle_in, settled_as, AreById};
+ghost use Rattle.f2b_model.specs.Jobs.{is_head_id, job_by_id, jobs_after_ending, settled_as, AreById};
 ghost use Rattle.f2b_model.specs.Orders.{lane_id};
 ghost use Rattle.f2b_model.specs.Storable.{most_numbers};
 ghost use Rattle.f2b_base.specs.Limits.{last_moment};
@@ -125,7 +125,7 @@ impl JobBook {
     pub(crate) fn settle(&mut self, id: u64, outcome: Outcome, at: u64) -> Settled
         requires head { is_head_id id self.old.jobs ≡ true }
         requires at { at ≤ last_moment }
-        ensures jobs { self.new ≡ record self.old { jobs = settle_in (ending_of id outcome at) self.old.jobs } }
+        ensures jobs { self.new ≡ record self.old { jobs = jobs_after_ending (ending_of id outcome at) self.old.jobs } }
         ensures answer { IfSome (job_by_id id self.old.jobs) (λ job. result ≡ settled_as (ending_of id outcome at) job) }
     {
         self.jobs.settle(id, outcome, at)
@@ -148,7 +148,7 @@ impl JobBook {
     /// Voids the job of that id and those of its lane behind it, up to the lane's first Stop, where the job is checked and the first of
     /// its lane. Takes no memory.
     pub(crate) fn void(&mut self, id: u64)
-        ensures { (at : ℕ) → self.new ≡ record self.old { jobs = void_each at (voided_in (checked_lane id self.old.jobs) self.old.jobs) self.old.jobs } }
+        ensures { (at : ℕ) → self.new ≡ record self.old { jobs = jobs_voided at (voided_ids (checked_lane id self.old.jobs) self.old.jobs) self.old.jobs } }
     {
         let _end = self.jobs.check_failed(id);
     }

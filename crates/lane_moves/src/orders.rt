@@ -56,7 +56,7 @@ fn order_ban(
 
 /// Orders the jobs of one thing that a step told: Ban jobs as a ban begins, which show the lines that were told with it, Unban jobs
 /// as one ends.
-fn order_one(
+fn order_happening(
     book: &mut JobBook,
     up: &[UpLane],
     happening: &Happening,
@@ -83,7 +83,7 @@ pub(crate) fn order_told(
     ensures { OnOk result (book.new ≡ ordered at (told_orders up.now told.now) book.old) }
 {
     for happening in told {
-        order_one(book, up, happening, at)?;
+        order_happening(book, up, happening, at)?;
     }
     Ok(())
 }
@@ -97,7 +97,7 @@ fn order_lane(book: &mut JobBook, kind: JobKind, lane: &UpLane, at: u64) -> Resu
 }
 
 /// Orders a job of that kind for each ban of a jail that the lane takes.
-fn order_held_in(
+fn order_held_by_jail(
     book: &mut JobBook,
     kind: JobKind,
     lane: &UpLane,
@@ -126,7 +126,7 @@ fn order_held(
     ensures { OnOk result (book.new ≡ ordered at (lane_orders kind lane.now (held_of held.now)) book.old) }
 {
     for jail in held {
-        order_held_in(book, kind, lane, jail, at)?;
+        order_held_by_jail(book, kind, lane, jail, at)?;
     }
     Ok(())
 }

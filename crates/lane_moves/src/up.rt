@@ -2,7 +2,7 @@
 ghost use Rattle.std.specs.Prelude.{◌≡◌, [], ◌∷◌, ◌++◌, not, filter, option_copied, IfOk, OnOk};
 ghost use Rattle.std.specs.List.{list_any};
 ghost use Rattle.f2b_model.specs.Checks.{lane_of, with_check};
-ghost use Rattle.f2b_model.specs.Lanes.{is_among, lanes_of, lanes_of_jail};
+ghost use Rattle.f2b_model.specs.Lanes.{includes_lane, lanes_of, lanes_of_jail};
 ghost use Rattle.f2b_model.specs.Orders.{is_lane, is_up, lane_id};
 
 use crate::families::{has_name, is_lane, same_up};
@@ -46,7 +46,7 @@ pub(crate) fn with_check<'a>(up: &'a [UpLane], id: &LaneId) -> Option<&'a UpLane
 
 /// Whether a lane is among those of a jail, with the same action.
 fn is_of_jail(jail: &JailDef, lane: &UpLane) -> bool
-    ensures { result ≡ is_among (lanes_of_jail jail.now) lane.now }
+    ensures { result ≡ includes_lane (lanes_of_jail jail.now) lane.now }
 {
     jail.actions
         .as_slice()
@@ -55,8 +55,8 @@ fn is_of_jail(jail: &JailDef, lane: &UpLane) -> bool
 }
 
 /// Whether a lane is among those of a configuration, with the same jail and the same action.
-pub(crate) fn is_among(defs: &Defs, lane: &UpLane) -> bool
-    ensures { result ≡ is_among (lanes_of defs.now) lane.now }
+pub(crate) fn includes_lane(defs: &Defs, lane: &UpLane) -> bool
+    ensures { result ≡ includes_lane (lanes_of defs.now) lane.now }
 {
     defs.jails
         .as_slice()
@@ -86,18 +86,18 @@ pub(crate) fn lacks_some(up: &[UpLane], defs: &Defs) -> bool
 
 /// Whether some lane is not among those of a configuration, with the same jail and the same action.
 pub(crate) fn has_others(up: &[UpLane], defs: &Defs) -> bool
-    ensures { result ≡ list_any (λ lane. not (is_among (lanes_of defs.now) lane)) up.now }
+    ensures { result ≡ list_any (λ lane. not (includes_lane (lanes_of defs.now) lane)) up.now }
 {
-    up.iter().any(|lane| !is_among(defs, lane))
+    up.iter().any(|lane| !includes_lane(defs, lane))
 }
 
 /// Copies of the lanes that are not among those of a configuration, in their order.
 pub(crate) fn others(alloc: Global, up: &[UpLane], defs: &Defs) -> Result<Seq<UpLane>, NoMemory>
-    ensures { IfOk result (λ lanes. lanes ≡ filter (λ lane. not (is_among (lanes_of defs.now) lane)) up.now) }
+    ensures { IfOk result (λ lanes. lanes ≡ filter (λ lane. not (includes_lane (lanes_of defs.now) lane)) up.now) }
 {
     let mut lanes = Seq::new(alloc);
     for lane in up {
-        if !is_among(defs, lane) {
+        if !includes_lane(defs, lane) {
             lanes.push(lane.copy()?)?;
         }
     }

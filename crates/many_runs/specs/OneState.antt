@@ -7,9 +7,9 @@ use Rattle.f2b_base.specs.declared.job.LaneId.{LaneId}
 use Rattle.f2b_base.specs.declared.view.View.{View}
 use Rattle.f2b_model.specs.Active.{held}
 use Rattle.f2b_model.specs.Jobs.{Ledger, head, pending, settled}
-use Rattle.f2b_model.specs.LaneSound.{is_banned_in}
+use Rattle.f2b_model.specs.LaneSound.{is_banned_by_lane}
 use Rattle.f2b_model.specs.Steps.{moves}
-use Rattle.f2b_model.specs.Turns.{Alternate, kinds_of, last_is_ban}
+use Rattle.f2b_model.specs.Alternation.{Alternate, kinds_of, last_is_ban}
 use Rattle.f2b_model.specs.Views.{view_of}
 use Rattle.f2b_model.specs.Whole.{State, empty_state, steps}
 use Rattle.f2b_world.specs.declared.answer.StartAnswer.{StartAnswer}
@@ -73,7 +73,7 @@ pub record AreOne (sessions : List Session) (slots : ℕ → List ℕ) : Type 0 
   -- it is up, and none where it is down
   pub settles : (lane : LaneId) (addr : Addr) → head lane (pending (state_after inputs).lanes.jobs) ≡ None
       → last_is_ban false (kinds_of lane addr (settled (state_after inputs).lanes.jobs))
-      ≡ is_banned_in (state_after inputs).lanes.up (held moves (state_after inputs).jails) lane addr
+      ≡ is_banned_by_lane (state_after inputs).lanes.up (held moves (state_after inputs).jails) lane addr
 
 -- runs of the server are one, whatever words each of them has, whatever is answered to it, and wherever each is stopped
 pub record RunsLaw : Type 0 where

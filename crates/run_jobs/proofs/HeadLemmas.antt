@@ -14,15 +14,15 @@ use Rattle.f2b_base.specs.declared.job.Settled.{Settled}
 use Rattle.f2b_base.specs.declared.job.Settled.TheVariants.{Done, GivenUp, Again}
 use Rattle.f2b_base.specs.declared.job.UpLane.{UpLane}
 use Rattle.f2b_model.specs.Active.{held}
-use Rattle.f2b_model.specs.Checks.{checked_lane, checked_lane_in, has_check, is_closing, is_stop, lane_of, void_ids, voided_at}
+use Rattle.f2b_model.specs.Checks.{checked_lane, lane_if_checked, has_check, is_closing, is_stop, lane_of, void_ids, voided_at}
 use Rattle.f2b_model.specs.Families.{same_lane}
-use Rattle.f2b_model.specs.Jobs.{AreById, Ending, Ledger, Tried, after_try, has_id, head, is_head, is_head_id, job_by_id, leads, pending, settle_in, settled_as, stands, with_ending}
-use Rattle.f2b_model.specs.Lanes.{Lanes, books, issue, lane_down, lane_up, all_down, all_up, try_ended, void_all, restarted, failed_in, others_down, lanes_configured, lanes_done, lanes_step, lanes_of, is_among}
+use Rattle.f2b_model.specs.Jobs.{AreById, Ending, Ledger, Tried, after_try, has_id, head, is_head, is_head_id, job_by_id, leads, pending, jobs_after_ending, settled_as, stands, with_ending}
+use Rattle.f2b_model.specs.Lanes.{Lanes, books, issue, lane_down, lane_up, all_down, all_up, try_ended, with_voided, restarted, lane_failed_if_checked, others_down, lanes_configured, lanes_done, lanes_step, lanes_of, includes_lane}
 use Rattle.f2b_model.specs.Lists.{AllOf}
 use Rattle.f2b_model.specs.Orders.{Held, lane_id, is_up, down_orders, up_orders, restart_orders, told_orders}
 use Rattle.f2b_model.specs.Steps.{at_reading, moves, step_by}
 use Rattle.f2b_model.specs.Told.{jails_told}
-use Rattle.f2b_model.specs.Turns.{Order, numbered}
+use Rattle.f2b_model.specs.Alternation.{Order, numbered}
 use Rattle.f2b_model.specs.Whole.{State, is_whole_spent, step}
 use Rattle.f2b_model.specs.declared.happening.Happening.{Happening}
 use Rattle.f2b_model.proofs.ByIdLemmas.{by_id_below}
@@ -144,7 +144,7 @@ head_settled id lane job Done later other h = h
 head_settled id lane job GivenUp later other h = h
 head_settled id lane job (Again due) later other h = rw other h
 
-head_ended : (e : Ending) (id : ℕ) (lane : LaneId) (jobs : List Job) → (e.job ≡ id → ⊥) → has_id id (head lane jobs) ≡ true → has_id id (head lane (settle_in e jobs)) ≡ true
+head_ended : (e : Ending) (id : ℕ) (lane : LaneId) (jobs : List Job) → (e.job ≡ id → ⊥) → has_id id (head lane jobs) ≡ true → has_id id (head lane (jobs_after_ending e jobs)) ≡ true
 head_ended e id lane [] apart h = h
 head_ended e id lane (job ∷ jobs) apart h = elim (cases_Bool (same_lane job.lane lane)) [
   | inl y ↦
@@ -152,9 +152,9 @@ head_ended e id lane (job ∷ jobs) apart h = elim (cases_Bool (same_lane job.la
       let no : (e.job == job.id) ≡ false = ne_eqb e.job job.id (λ is. apart (is ∙ eqb-true job.id id own)) in
       rw (no, y) own
   | inr n ↦
-      let on : has_id id (head lane (settle_in e jobs)) ≡ true = head_ended e id lane jobs apart (rw n at h) in
+      let on : has_id id (head lane (jobs_after_ending e jobs)) ≡ true = head_ended e id lane jobs apart (rw n at h) in
       elim (cases_Bool (e.job == job.id)) [
-        | inl k ↦ rw k (head_settled id lane job (settled_as e job) (settle_in e jobs) n on)
+        | inl k ↦ rw k (head_settled id lane job (settled_as e job) (jobs_after_ending e jobs) n on)
         | inr k ↦ rw (k, n) on
       ]
 ]
@@ -174,7 +174,7 @@ found_passes p (y ∷ ys) x is = elim (cases_Bool (p y)) [
 ]
 
 -- a job leads the lane that is checked for it
-checked_leads : (job : ℕ) (jobs : List Job) (o : Option Job) (lane : LaneId) → job_by_id job jobs ≡ o → checked_lane_in jobs o ≡ Some lane → has_id job (head lane jobs) ≡ true
+checked_leads : (job : ℕ) (jobs : List Job) (o : Option Job) (lane : LaneId) → job_by_id job jobs ≡ o → lane_if_checked jobs o ≡ Some lane → has_id job (head lane jobs) ≡ true
 checked_leads job jobs None lane is checked = absurd (let e : None ≡ Some lane = checked in cc)
 checked_leads job jobs (Some j) lane is checked = elim (cases_Bool (is_head jobs j && has_check j.kind)) [
   | inl y ↦
@@ -221,7 +221,7 @@ module _ (started running : List ℕ) (at id : ℕ) (mine : LaneId) where
   configured_stays : (mid after : List Held) (new : List UpLane) (l : Lanes Ledger) → Stays l → Stays (lanes_configured books at mid after new l)
   configured_stays mid after new l stays =
       let fewer : Lanes Ledger = others_down books at mid new (record l { stopping = false }) in
-      ups_stay after (filter (λ lane. not (is_up fewer.up (lane_id lane))) new) fewer (downs_stay mid (filter (λ lane. not (is_among new lane)) l.up) (record l { stopping = false }) stays)
+      ups_stay after (filter (λ lane. not (is_up fewer.up (lane_id lane))) new) fewer (downs_stay mid (filter (λ lane. not (includes_lane new lane)) l.up) (record l { stopping = false }) stays)
 
   ended_heads : (e : Ending) (l : Lanes Ledger) → (e.job ≡ id → ⊥) → Heads id mine l → IsFirstOf (pending (with_ending l.jobs e))
   ended_heads e l apart heads = subst IsFirstOf (sym (pending-with_ending l.jobs e)) (head_ended e id mine (pending l.jobs) apart heads)
@@ -234,7 +234,7 @@ module _ (started running : List ℕ) (at id : ℕ) (mine : LaneId) where
         | inr n ↦ rw n stays
       ]
 
-  voids_stay : (ids : List ℕ) (l : Lanes Ledger) → AllOf (λ (v : ℕ). v < l.next_job) ids → has id ids ≡ false → Stays l → Stays (void_all books at ids l)
+  voids_stay : (ids : List ℕ) (l : Lanes Ledger) → AllOf (λ (v : ℕ). v < l.next_job) ids → has id ids ≡ false → Stays l → Stays (with_voided books at ids l)
   voids_stay [] l less none stays = stays
   voids_stay (v ∷ vs) l less none stays =
       let parts = or_parts (v == id) (has id vs) none in
@@ -246,7 +246,7 @@ module _ (started running : List ℕ) (at id : ℕ) (mine : LaneId) where
   restart_stays held None l stays = stays
   restart_stays held (Some lane) l stays = issued_stays (restart_orders lane held) l stays
 
-  failed_stays : (held : List Held) (job : ℕ) (o : Option LaneId) (l : Lanes Ledger) → checked_lane job (pending l.jobs) ≡ o → (job ≡ id → ⊥) → Stays l → Stays (failed_in books at held o l)
+  failed_stays : (held : List Held) (job : ℕ) (o : Option LaneId) (l : Lanes Ledger) → checked_lane job (pending l.jobs) ≡ o → (job ≡ id → ⊥) → Stays l → Stays (lane_failed_if_checked books at held o l)
   failed_stays held job None l is apart stays = stays
   failed_stays held job (Some lane) l is apart stays =
       let all : List Job = pending l.jobs in
@@ -254,10 +254,10 @@ module _ (started running : List ℕ) (at id : ℕ) (mine : LaneId) where
       let less : AllOf (λ (v : ℕ). v < l.next_job) ids = ids_voided l.next_job lane all (ids_pending l.next_job l.jobs.endings l.jobs.made (by_id_below 0 l.jobs.made l.next_job stays.0.rise)) in
       let rise : AreById 0 all l.next_job = rise_pending l.jobs.endings 0 l.jobs.made l.next_job stays.0.rise in
       let none : has id ids ≡ false = void_apart id job lane mine all l.next_job rise stays.1 (checked_leads job all (job_by_id job all) lane refl is) (λ same. apart (sym same)) in
-      let left : Stays (void_all books at ids l) = voids_stay ids l less none stays in
+      let left : Stays (with_voided books at ids l) = voids_stay ids l less none stays in
       elim (cases_Bool (is_closing lane all)) [
         | inl y ↦ rw y left
-        | inr n ↦ rw n (restart_stays held (lane_of lane l.up) (void_all books at ids l) left)
+        | inr n ↦ rw n (restart_stays held (lane_of lane l.up) (with_voided books at ids l) left)
       ]
 
   done_stays : (what : What) (mid after : List Held) (l : Lanes Ledger) → IsStarted started running what → IsFreeOf id what → Stays l → Stays (lanes_done books at what mid after l)

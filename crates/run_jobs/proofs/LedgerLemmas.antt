@@ -10,7 +10,7 @@ use Rattle.f2b_base.specs.declared.job.LaneId.{LaneId}
 use Rattle.f2b_model.specs.Families.{same_lane}
 use Rattle.f2b_model.specs.Jobs.{AreById, ArePending, Ending, How, Tried, Voided, Ledger, as_made, back_from, endings_of, has_id, head, is_settled, pending, settles, settles_how, stands, with_ending, with_jobs}
 use Rattle.f2b_model.specs.LaneSound.{AreBelow, AreMade, IsOrdered}
-use Rattle.f2b_model.specs.Turns.{Order, numbered}
+use Rattle.f2b_model.specs.Alternation.{Order, numbered}
 use Rattle.f2b_model.proofs.BackLemmas.{back_ordered, pending-back_from}
 use Rattle.f2b_model.proofs.ByIdLemmas.{by_id_behind, by_id_from, by_id_rises}
 use Rattle.f2b_model.proofs.JobLemmas.{AreBelow_more, none_of}

@@ -9,10 +9,10 @@ use Rattle.f2b_base.specs.declared.job.UpLane.{UpLane}
 use Rattle.f2b_model.specs.declared.happening.Happening.{Happening}
 use Rattle.f2b_model.specs.Checks.{checked_lane, is_closing, lane_of, void_ids, voided_at}
 use Rattle.f2b_model.specs.Jobs.{Tried, Ledger, is_head_id, pending, with_ending}
-use Rattle.f2b_model.specs.Lanes.{Lanes, books, issue, lane_down, lane_up, all_down, all_up, try_ended, void_all, restarted, failed_in, others_down, lanes_configured, lanes_done, lanes_step, lanes_of, is_among}
+use Rattle.f2b_model.specs.Lanes.{Lanes, books, issue, lane_down, lane_up, all_down, all_up, try_ended, with_voided, restarted, lane_failed_if_checked, others_down, lanes_configured, lanes_done, lanes_step, lanes_of, includes_lane}
 use Rattle.f2b_model.specs.Lists.{AllOf}
 use Rattle.f2b_model.specs.Orders.{Held, lane_id, is_up, down_orders, up_orders, restart_orders, told_orders}
-use Rattle.f2b_model.specs.Turns.{Order}
+use Rattle.f2b_model.specs.Alternation.{Order}
 use Rattle.f2b_model.proofs.ByIdLemmas.{by_id_below}
 use Rattle.f2b_model.proofs.IdLemmas.{ids_pending, ids_voided}
 use Rattle.child_table.specs.Children.{has}
@@ -42,7 +42,7 @@ module _ (started : List ℕ) (at : ℕ) where
   configured_fine : (mid after : List Held) (new : List UpLane) (l : Lanes Ledger) → StandsInOrder started l → StandsInOrder started (lanes_configured books at mid after new l)
   configured_fine mid after new l fine =
       let fewer : Lanes Ledger = others_down books at mid new (record l { stopping = false }) in
-      ups_fine after (filter (λ lane. not (is_up fewer.up (lane_id lane))) new) fewer (downs_fine mid (filter (λ lane. not (is_among new lane)) l.up) (record l { stopping = false }) fine)
+      ups_fine after (filter (λ lane. not (is_up fewer.up (lane_id lane))) new) fewer (downs_fine mid (filter (λ lane. not (includes_lane new lane)) l.up) (record l { stopping = false }) fine)
 
   try_fine : (job : ℕ) (outcome : Outcome) (l : Lanes Ledger) → has job started ≡ true → StandsInOrder started l → StandsInOrder started (try_ended books at job outcome l)
   try_fine job outcome l is fine = elim (cases_Bool (is_head_id job (pending l.jobs))) [
@@ -50,7 +50,7 @@ module _ (started : List ℕ) (at : ℕ) where
     | inr n ↦ rw n fine
   ]
 
-  voids_fine : (ids : List ℕ) (l : Lanes Ledger) → AllOf (λ (id : ℕ). id < l.next_job) ids → StandsInOrder started l → StandsInOrder started (void_all books at ids l)
+  voids_fine : (ids : List ℕ) (l : Lanes Ledger) → AllOf (λ (id : ℕ). id < l.next_job) ids → StandsInOrder started l → StandsInOrder started (with_voided books at ids l)
   voids_fine [] l less fine = fine
   voids_fine (id ∷ ids) l less fine =
       voids_fine ids (record l { jobs = with_ending l.jobs (voided_at id at) }) less.1 (voided_fine started l.jobs l.next_job (voided_at id at) fine less.0 refl)
@@ -59,15 +59,15 @@ module _ (started : List ℕ) (at : ℕ) where
   restart_fine held None l fine = fine
   restart_fine held (Some lane) l fine = issued_fine (restart_orders lane held) l fine
 
-  failed_fine : (held : List Held) (o : Option LaneId) (l : Lanes Ledger) → StandsInOrder started l → StandsInOrder started (failed_in books at held o l)
+  failed_fine : (held : List Held) (o : Option LaneId) (l : Lanes Ledger) → StandsInOrder started l → StandsInOrder started (lane_failed_if_checked books at held o l)
   failed_fine held None l fine = fine
   failed_fine held (Some lane) l fine =
       let ids : List ℕ = void_ids lane (pending l.jobs) in
       let less : AllOf (λ (id : ℕ). id < l.next_job) ids = ids_voided l.next_job lane (pending l.jobs) (ids_pending l.next_job l.jobs.endings l.jobs.made (by_id_below 0 l.jobs.made l.next_job fine.rise)) in
-      let left : StandsInOrder started (void_all books at ids l) = voids_fine ids l less fine in
+      let left : StandsInOrder started (with_voided books at ids l) = voids_fine ids l less fine in
       elim (cases_Bool (is_closing lane (pending l.jobs))) [
         | inl y ↦ rw y left
-        | inr n ↦ rw n (restart_fine held (lane_of lane l.up) (void_all books at ids l) left)
+        | inr n ↦ rw n (restart_fine held (lane_of lane l.up) (with_voided books at ids l) left)
       ]
 
   done_fine : (running : List ℕ) (what : What) (mid after : List Held) (l : Lanes Ledger) → IsStarted started running what → StandsInOrder started l → StandsInOrder started (lanes_done books at what mid after l)

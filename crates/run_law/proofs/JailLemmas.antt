@@ -15,7 +15,7 @@ use Rattle.f2b_model.specs.Lanes.{books}
 use Rattle.f2b_model.specs.Lists.{in_order}
 use Rattle.f2b_model.specs.Moves.{JailAndSerial, banned, counts, counted, dropped, ended, followed, found, is_banned}
 use Rattle.f2b_model.specs.State.{Jail, JailsState, active_of, open_of}
-use Rattle.f2b_model.specs.Steps.{at_reading, banned_in_turn, done, end_all, ended_by_time, ends_before, found_in_turn, in_jail, is_due, is_meant, is_meant_jail, is_spent, moves, own_end, raised, read_in_jail, step_by, unbanned}
+use Rattle.f2b_model.specs.Steps.{at_reading, banned_in_turn, done, bans_ended, ended_by_time, ends_before, found_in_turn, in_jail, is_due, is_meant, is_meant_jail, is_spent, moves, own_end, raised, read_in_jail, step_by, unbanned}
 use Rattle.f2b_model.specs.Watches.{is_watched}
 use Rattle.f2b_model.specs.Whole.{State, is_whole_spent, step}
 use Rattle.f2b_model.proofs.ListLemmas.{by_test}
@@ -46,12 +46,12 @@ read_same at word path place fs n j = by_test (is_watched path j.watches) _
 ended_same : (b : Ban) (moment : ℕ) (j : Jail) → log_jail (ended b.addr moment j) ≡ log_jail j
 ended_same b moment j = by_test (is_banned b.addr (active_of j.bans)) _ (λ e. rw e refl) (λ e. rw e refl)
 
-end_all_same : (moment : Ban → ℕ) (bs : List Ban) (j : Jail) → log_jail (end_all moves moment bs j) ≡ log_jail j
-end_all_same moment [] j = refl
-end_all_same moment (b ∷ bs) j = end_all_same moment bs (ended b.addr (moment b) j) ∙ ended_same b (moment b) j
+bans_ended_same : (moment : Ban → ℕ) (bs : List Ban) (j : Jail) → log_jail (bans_ended moves moment bs j) ≡ log_jail j
+bans_ended_same moment [] j = refl
+bans_ended_same moment (b ∷ bs) j = bans_ended_same moment bs (ended b.addr (moment b) j) ∙ ended_same b (moment b) j
 
 by_time_same : (at : ℕ) (j : Jail) → log_jail (ended_by_time moves at j) ≡ log_jail j
-by_time_same at j = end_all_same own_end (in_order ends_before (filter (is_due at) (active_of j.bans))) j
+by_time_same at j = bans_ended_same own_end (in_order ends_before (filter (is_due at) (active_of j.bans))) j
 
 -- ---- all jails
 
@@ -94,7 +94,7 @@ unbanned_same jail addrs word w = each_same (λ (j : Jail). cond (is_meant_jail 
   where
     one : (j : Jail) → log_jail (cond (is_meant_jail jail j.definition) (unbanned moves w.at addrs j) j) ≡ log_jail j
     one j = by_test (is_meant_jail jail j.definition) _
-        (λ e. rw e (end_all_same (λ (b : Ban). w.at) (filter (is_meant addrs) (active_of j.bans)) j))
+        (λ e. rw e (bans_ended_same (λ (b : Ban). w.at) (filter (is_meant addrs) (active_of j.bans)) j))
         (λ e. rw e refl)
 
 pub attempt_same : (jail : List ℕ) (addr : Addr) → Leaves (Attempt jail addr)

@@ -5,7 +5,7 @@ use Rattle.f2b_base.specs.declared.jail.Defs.{Defs}
 use Rattle.f2b_model.specs.Lanes.{are_just, lanes_of}
 use Rattle.f2b_model.specs.State.{Jail}
 use Rattle.f2b_model.specs.Whole.{State}
-use Rattle.jail_rooms.specs.Same.{are_same_defs}
+use Rattle.jail_rooms.specs.Equality.{are_same_defs}
 
 abbrev pub is_any_idle : List Jail → Bool
 is_any_idle js = list_any (λ (j : Jail). j.idle) js

@@ -13,9 +13,9 @@ use Rattle.f2b_model.specs.State.{Jail}
 use Rattle.f2b_model.specs.Whole.{Now, State, now_of}
 use Rattle.f2b_model.specs.declared.jail_now.JailNow.{JailNow}
 use Rattle.jail_core.proofs.ConfigLemmas.{changes_is}
-use Rattle.jail_rooms.specs.Same.{are_same_defs}
+use Rattle.jail_rooms.specs.Equality.{are_same_defs}
 use Rattle.jail_rooms.specs.Shown.{defs_of as shown_defs}
-use Rattle.jail_rooms.proofs.SameLemmas.{same_defs_law}
+use Rattle.jail_rooms.proofs.EqualityLemmas.{same_defs_law}
 use Rattle.run_law.specs.Changes.{config_changes, defs_of, is_any_idle}
 use Rattle.run_law.specs.Server.{Server}
 use Rattle.run_steps.specs.Keeping.{KeepsClocked}

@@ -25,9 +25,9 @@ use Rattle.f2b_model.proofs.StepLemmas.{all_of-more}
 use Rattle.filter_regex.specs.Rules.{Rules, rules_of}
 use Rattle.jail_core.proofs.ConfigLemmas.{any_idle, changes_is}
 use Rattle.jail_core.proofs.CoreLemmas.{fresh_serials}
-use Rattle.jail_rooms.specs.Same.{are_same_defs}
+use Rattle.jail_rooms.specs.Equality.{are_same_defs}
 use Rattle.jail_rooms.proofs.ConfigureLemmas.{defs_now}
-use Rattle.jail_rooms.proofs.SameLemmas.{same_defs_law}
+use Rattle.jail_rooms.proofs.EqualityLemmas.{same_defs_law}
 use Rattle.log_follow.specs.Watches.{IsPlace}
 use Rattle.run_law.specs.Paths.{Path, with_paths}
 use Rattle.run_start.specs.Configured.{HasJails}

@@ -12,7 +12,7 @@ use Rattle.std.proofs.lemmas.List.Sorted.{sum_by-IsPermutation}
 use Rattle.std.proofs.lemmas.List.Sums.{sum_by-cons}
 use Rattle.std.proofs.lemmas.Map.Lookups.{exact_bytes}
 use Rattle.f2b_base.specs.declared.jail.WatchDef.{WatchDef}
-use Rattle.f2b_model.specs.Lists.{IsInOrder, IsOrder, NoneBefore, in_order, placed, placed_all}
+use Rattle.f2b_model.specs.Lists.{IsInOrder, IsOrder, NoneBefore, in_order, placed, with_placed}
 use Rattle.f2b_model.proofs.ListLemmas.{by_test, in_order_is}
 use Rattle.log_follow.specs.Globs.{IsExpansion, behind_slash, fits, watch_at}
 use Rattle.run_law.specs.Paths.{expanded, text_before}
@@ -127,10 +127,10 @@ placed_counts n x (y ∷ ys) =
     let more = placed_counts n x ys in
     omega (arith, first, behind, more)))
 
-placed_all_counts : (n : List ℕ) (done xs : List (List ℕ)) → counted n (placed_all text_before done xs) ≡ counted n done + counted n xs
-placed_all_counts n done [] = (let none : counted n [] ≡ 0 = refl in omega (arith, none))
-placed_all_counts n done (x ∷ xs) =
-    let more = placed_all_counts n (placed text_before x done) xs in
+with_placed_counts : (n : List ℕ) (done xs : List (List ℕ)) → counted n (with_placed text_before done xs) ≡ counted n done + counted n xs
+with_placed_counts n done [] = (let none : counted n [] ≡ 0 = refl in omega (arith, none))
+with_placed_counts n done (x ∷ xs) =
+    let more = with_placed_counts n (placed text_before x done) xs in
     let one = placed_counts n x done in
     let here = counted-cons n x xs in
     omega (arith, more, one, here)
@@ -179,7 +179,7 @@ ordered_is names ordered moved sorted =
     (sorted_in_order ordered (λ k d below. before_is (get_or ordered (k + 1) d) (get_or ordered k d) ∙ sorted k d (omega arith) below))
     (in_order_is text_before texts_order names)
     (λ n. (let a : counted n ordered ≡ counted n names = sum_by-IsPermutation (one_if n) names ordered moved in
-    let b : counted n (in_order text_before names) ≡ counted n [] + counted n names = placed_all_counts n [] names in
+    let b : counted n (in_order text_before names) ≡ counted n [] + counted n names = with_placed_counts n [] names in
     omega (arith, a, b)))
 
 -- the logs that a path stands for are those of the law

@@ -1,5 +1,5 @@
 use Rattle.std.proofs.Common.{refl}
-use Rattle.ban_table.proofs.PurgeLemmas.{dropped_next, dropped_all}
+use Rattle.ban_table.proofs.PurgeLemmas.{dropped_next, dropped_at_the_end}
 use Rattle.ban_table.proofs.purge.purge_front.Goals as goal
 
 pub loop-entry-init : goal.loop-entry-init
@@ -12,5 +12,5 @@ loop-entry-preserved c =
 
 pub returns-clause-items : goal.returns-clause-items
 returns-clause-items c =
-    dropped_all c.args.limit c.args.past.now c.loop-entry.past c.pop_until.new.self c.args.counts.now c.loop-entry.counts c.loop-entry.invariant c.in_default.ensures.late
+    dropped_at_the_end c.args.limit c.args.past.now c.loop-entry.past c.pop_until.new.self c.args.counts.now c.loop-entry.counts c.loop-entry.invariant c.in_default.ensures.late
     c.in_default.ensures.none

@@ -1,5 +1,5 @@
 use Rattle.std.proofs.Common.{◌<◌, length, ◌∙◌, arith}
-use Rattle.ban_table.proofs.PurgeLemmas.{sifted_kept, sifted_gone, sifted_all, sifted_none}
+use Rattle.ban_table.proofs.PurgeLemmas.{sifted_kept, sifted_gone, sifted_at_the_end, sifted_none}
 use Rattle.ban_table.proofs.purge.sift.Goals as goal
 use Rattle.ban_table.proofs.purge.sift.Goals.{then-limit-entry, else-limit-entry}
 
@@ -22,4 +22,4 @@ loop-preserved c =
 
 pub returns-clause-items : goal.returns-clause-items
 returns-clause-items c =
-    sifted_all c.args.limit c.loop.counter c.args.past.now c.loop.past c.args.counts.now c.loop.counts c.loop.invariant (omega (arith, c.len-end.ensures, c.loop-test.false))
+    sifted_at_the_end c.args.limit c.loop.counter c.args.past.now c.loop.past c.args.counts.now c.loop.counts c.loop.invariant (omega (arith, c.len-end.ensures, c.loop-test.false))

@@ -6,7 +6,7 @@ use Rattle.f2b_model.specs.Lists.{AllOf}
 use Rattle.ban_table.specs.Places.{key_of}
 use Rattle.jail_moves.specs.declared.addresses.AddrWindow.{AddrWindow}
 use Rattle.jail_moves.specs.Addresses.{window_at, AreNotBefore, Grows}
-use Rattle.jail_moves.proofs.WindowCounts.{Found, entered_through, err_then, found, not_before_through, ok_then, own_in_own, same_through}
+use Rattle.jail_moves.proofs.WindowCounts.{Found, entered_through, err_then, found, not_before_through, ok_then, own_failures_own, same_through}
 use Rattle.jail_moves.proofs.addresses.enter.Goals as goal
 
 at : (c : goal.In-Some) → window_at (key_of c.args.failure.addr) c.args.windows.now.entries ≡ Some c.in-Some.window.now
@@ -23,7 +23,7 @@ add-requires-clause-forward c = subst (AllOf (λ (f : Failure). f.time ≤ c.arg
 
 pub add-requires-clause-own : goal.add-requires-clause-own
 add-requires-clause-own c =
-    subst (AllOf (λ (f : Failure). is_of c.args.failure.addr f ≡ true)) (sym (known c).there) (own_in_own c.args.failure.addr c.args.windows.now.entries)
+    subst (AllOf (λ (f : Failure). is_of c.args.failure.addr f ≡ true)) (sym (known c).there) (own_failures_own c.args.failure.addr c.args.windows.now.entries)
 
 pub returns-in-Some-clause-ok : goal.returns-in-Some-clause-ok
 returns-in-Some-clause-ok c =

@@ -2,7 +2,7 @@
 use Rattle.std.proofs.Common.{◌++◌, ◌∙◌, ap, ap₂}
 use Rattle.std.specs.List.{filter}
 use Rattle.f2b_model.specs.Full.{is_recent}
-use Rattle.jail_moves.proofs.WindowEntries.{all_of, all_of-values, copied_all, copied_on}
+use Rattle.jail_moves.proofs.WindowEntries.{all_of, all_of-values, copied_at_the_end, copied_on}
 use Rattle.jail_moves.proofs.addresses.recent_failures.Goals as goal
 
 pub loop-address-init : goal.loop-address-init
@@ -18,4 +18,4 @@ loop-address-preserved c =
 
 pub returns : goal.returns
 returns c =
-    copied_all (is_recent c.args.moment c.args.findtime) c.loop-address.failures _ c.loop-address.address-iterator c.in-None.ensures.steps.0 c.loop-address.invariant
+    copied_at_the_end (is_recent c.args.moment c.args.findtime) c.loop-address.failures _ c.loop-address.address-iterator c.in-None.ensures.steps.0 c.loop-address.invariant

@@ -3,7 +3,7 @@ use Rattle.std.proofs.Common.{ℕ, ◌≤◌, Result, Ok, Err, OnErr, Some, None
 use Rattle.std.specs.List.{filter}
 use Rattle.f2b_model.specs.Full.{IsFull}
 use Rattle.f2b_model.specs.Moves.{is_near_to}
-use Rattle.jail_moves.specs.Addresses.{failures_in, AreWindows}
+use Rattle.jail_moves.specs.Addresses.{failures_of_windows, AreWindows}
 use Rattle.jail_moves.proofs.WindowLosses.{near_lost, not_full_alone}
 use Rattle.jail_moves.proofs.addresses.take_out.Goals as goal
 
@@ -23,7 +23,7 @@ whatever P (Err e) p = p
 pub returns-in_err-failures-in-Some-clause-full : goal.returns-in_err-failures-in-Some-clause-full
 returns-in_err-failures-in-Some-clause-full c =
     let none : (maxretry : ℕ) → 2 ≤ maxretry → AreWindows c.args.findtime maxretry c.args.windows.now.entries
-    → IsFull c.args.findtime maxretry c.args.addr (failures_in c.args.windows.now.entries) → ⊥ =
+    → IsFull c.args.findtime maxretry c.args.addr (failures_of_windows c.args.windows.now.entries) → ⊥ =
     λ maxretry several windows full.
     not_full_alone c.args.findtime maxretry c.args.addr c.args.windows.now.entries c.in-Some.gone windows (sym c.in-Some.is ∙ c.remove.ensures.value)
     c.in_err-failures-in-Some.ensures.err several full in

@@ -3,9 +3,9 @@ use Rattle.ban_table.specs.Tables.{ended}
 use Rattle.jail_moves.proofs.EndLemmas.{IsOneLess, one_less, told_one_less, all_are_ended, all_are_told}
 use Rattle.jail_moves.proofs.ends.end_due.Goals as goal
 
--- what one turn of the loop does
-turn : (c : goal.In_ok-end) → IsOneLess c.args.at c.in-Some.field-0.now c.loop-ban.table c.end.new.table
-turn c =
+-- what one round of the loop does
+is_one_less : (c : goal.In_ok-end) → IsOneLess c.args.at c.in-Some.field-0.now c.loop-ban.table c.end.new.table
+is_one_less c =
     let ban = c.in-Some.field-0.now in
     one_less c.args.at ban c.loop-ban.table c.end.new.table c.in-Some.ensures.rising c.in-Some.ensures.once c.in-Some.ensures.first
     (c.in_ok-end.ensures.bans ∙ ap (λ moment. ended ban.addr moment c.loop-ban.table) c.own_end.ensures)
@@ -14,12 +14,12 @@ pub loop-ban-init : goal.loop-ban-init
 loop-ban-init c = (refl, refl)
 
 pub loop-ban-smaller : goal.loop-ban-smaller
-loop-ban-smaller c = (turn c).fewer
+loop-ban-smaller c = (is_one_less c).fewer
 
 pub loop-ban-preserved : goal.loop-ban-preserved
 loop-ban-preserved c = (
-  sym (turn c).ended ∙ c.loop-ban.invariant.0,
-  told_one_less c.args.at c.args.name.now c.in-Some.field-0.now c.loop-ban.table c.end.new.table c.loop-ban.told c.end.new.told _ (turn c) c.in_ok-end.ensures.told c.loop-ban.invariant.1,
+  sym (is_one_less c).ended ∙ c.loop-ban.invariant.0,
+  told_one_less c.args.at c.args.name.now c.in-Some.field-0.now c.loop-ban.table c.end.new.table c.loop-ban.told c.end.new.told _ (is_one_less c) c.in_ok-end.ensures.told c.loop-ban.invariant.1,
 )
 
 pub returns-clause-bans : goal.returns-clause-bans

@@ -1,5 +1,5 @@
 use Rattle.std.proofs.Common.{◌+◌, drop, refl, sym, ◌∙◌, subst}
-use Rattle.jail_moves.proofs.PastLemmas.{IsLast, last_next, last_never, last_all}
+use Rattle.jail_moves.proofs.PastLemmas.{IsLast, last_next, last_never, last_at_the_end}
 use Rattle.jail_moves.proofs.stored.last_end.Goals as goal
 use Rattle.jail_moves.proofs.stored.last_end.Goals.{in-At, in_default}
 
@@ -19,4 +19,4 @@ loop-ban-preserved c =
     ]
 
 pub returns : goal.returns
-returns c = last_all c.args.at c.loop-ban.last c.args.active.now c.loop-ban.ban-index c.loop-ban-test.false c.loop-ban.invariant
+returns c = last_at_the_end c.args.at c.loop-ban.last c.args.active.now c.loop-ban.ban-index c.loop-ban-test.false c.loop-ban.invariant

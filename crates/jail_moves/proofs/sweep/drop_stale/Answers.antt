@@ -1,8 +1,8 @@
 -- One window after the other.
 use Rattle.std.proofs.Common.{◌≡◌, ℕ, ◌+◌, length, sym, ◌∙◌, subst, arith}
-use Rattle.jail_moves.specs.Addresses.{failures_in}
+use Rattle.jail_moves.specs.Addresses.{failures_of_windows}
 use Rattle.jail_moves.specs.Stale.{stale_addrs}
-use Rattle.jail_moves.proofs.SweepLemmas.{dropped_all, dropped_left, dropped_more, dropped_none}
+use Rattle.jail_moves.proofs.SweepLemmas.{swept_at_the_end, dropped_left, dropped_more, dropped_none}
 use Rattle.jail_moves.proofs.WindowCounts.{not_before_gone}
 use Rattle.jail_moves.proofs.sweep.drop_stale.Goals as goal
 
@@ -32,7 +32,7 @@ returns-in-None-clause-left c = λ maxretry held.
 
 pub returns-in-None-clause-none : goal.returns-in-None-clause-none
 returns-in-None-clause-none c = λ maxretry held fewer.
-    dropped_all c.args.findtime maxretry c.args.now c.loop-dropped.dropped c.loop-dropped.from c.args.windows.now.entries c.loop-dropped.windows.entries
+    swept_at_the_end c.args.findtime maxretry c.args.now c.loop-dropped.dropped c.loop-dropped.from c.args.windows.now.entries c.loop-dropped.windows.entries
     (c.loop-dropped.invariant.dropped maxretry held) (sym c.in-None.is ∙ c.first_stale.ensures)
 
 pub returns-clause-sweeps : goal.returns-clause-sweeps
@@ -44,5 +44,5 @@ returns-clause-left c = λ maxretry held.
     (c.loop-dropped.invariant.dropped maxretry held) in
     let all : c.loop-dropped.dropped ≡ c.args.most = omega arith in
     subst
-    (λ (n : ℕ). length (stale_addrs c.args.now c.args.findtime (failures_in c.loop-dropped.windows.entries)) + n ≡ length (stale_addrs c.args.now c.args.findtime (failures_in c.args.windows.now.entries)))
+    (λ (n : ℕ). length (stale_addrs c.args.now c.args.findtime (failures_of_windows c.loop-dropped.windows.entries)) + n ≡ length (stale_addrs c.args.now c.args.findtime (failures_of_windows c.args.windows.now.entries)))
     all left

@@ -3,7 +3,7 @@ use Rattle.std.proofs.lemmas.List.{map-append}
 use Rattle.f2b_base.specs.declared.jail.JailDef.{JailDef}
 use Rattle.f2b_model.specs.Steps.{configured, find_jail, kept_or_fresh, moves_now}
 use Rattle.f2b_model.specs.declared.jail_now.JailNow.{JailNow}
-use Rattle.jail_rooms.specs.Kept.{now_of, IsKept}
+use Rattle.jail_rooms.specs.Kept.{now_of, IsWellKept}
 use Rattle.jail_rooms.specs.Places.{jail_place}
 use Rattle.jail_rooms.specs.declared.jail.Jail.{Jail}
 use Rattle.jail_rooms.proofs.LeftLemmas.{AreToCome, all_of_left, all_of_more, first_to_come, next_to_come}
@@ -42,8 +42,8 @@ loop-definition-preserved c =
           ∙ sym (map_item f ds i d lt c.definition-item.is);
       kept = λ at next kept.
           let so_far = c.loop-definition.invariant.kept at next kept in (
-            rw taken (all_of_left (IsKept at next) (jail_place d.name old) old so_far.0),
-            rw pushed (all_of_more (IsKept at next) new jail so_far.1 (c.in_ok-jail_for.ensures.kept at next so_far.0)),
+            rw taken (all_of_left (IsWellKept at next) (jail_place d.name old) old so_far.0),
+            rw pushed (all_of_more (IsWellKept at next) new jail so_far.1 (c.in_ok-jail_for.ensures.kept at next so_far.0)),
           );
     }
 

@@ -1,9 +1,9 @@
 use Rattle.std.proofs.Common.{◌≡◌, ◌<◌, ◌≤◌, ℕ, List, length, arith, ◌∙◌, ap, rules}
 use Rattle.std.proofs.lemmas.Result.{IfOk-weaker}
-use Rattle.jail_rooms.specs.Kept.{IsKept}
+use Rattle.jail_rooms.specs.Kept.{IsWellKept}
 use Rattle.jail_rooms.specs.Places.{jail_place}
 use Rattle.jail_rooms.specs.declared.jail.Jail.{Jail}
-use Rattle.jail_rooms.proofs.PlaceLemmas.{find_jail_at, find_jail_none, one_of_all}
+use Rattle.jail_rooms.proofs.PlaceLemmas.{find_jail_at, find_jail_none, holds_at_place}
 use Rattle.jail_rooms.proofs.configure.jail_for.Goals as goal
 
 pub returns-then-place-len-clause-jail : goal.returns-then-place-len-clause-jail
@@ -16,7 +16,7 @@ returns-then-place-len-clause-jail c =
     rw (find_jail_none name items past) c.fresh.ensures.jail
 
 pub returns-then-place-len-clause-kept : goal.returns-then-place-len-clause-kept
-returns-then-place-len-clause-kept c = λ at next kept. IfOk-weaker c.fresh.result (λ jail. (a n : ℕ) → IsKept a n jail) (IsKept at next) (λ jail all. all at next) c.fresh.ensures.kept
+returns-then-place-len-clause-kept c = λ at next kept. IfOk-weaker c.fresh.result (λ jail. (a n : ℕ) → IsWellKept a n jail) (IsWellKept at next) (λ jail all. all at next) c.fresh.ensures.kept
 
 pub returns-clause-jail : goal.returns-clause-jail
 returns-clause-jail c =
@@ -34,4 +34,4 @@ returns-clause-kept c = λ at next kept.
     let long : c.len.result ≡ length items = search rules in
     let read : length c.as_slice.result.now ≡ length items = ap length c.as_slice.ensures.value in
     let lt : c.place_of-place.result < length items = omega (arith, long, read, c.place_of-place.ensures.within, c.if-place-len.false) in
-    c.under.ensures.kept at next (one_of_all (IsKept at next) c.place_of-place.result items c.remove-jail.result kept lt c.remove-jail.ensures.value)
+    c.under.ensures.kept at next (holds_at_place (IsWellKept at next) c.place_of-place.result items c.remove-jail.result kept lt c.remove-jail.ensures.value)

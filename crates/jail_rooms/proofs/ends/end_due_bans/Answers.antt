@@ -2,12 +2,12 @@ use Rattle.std.proofs.Common.{◌≡◌, ◌<◌, List, ◌++◌, length, map, t
 use Rattle.f2b_model.specs.declared.happening.Happening.{Happening}
 use Rattle.f2b_model.specs.declared.jail_now.JailNow.{JailNow}
 use Rattle.f2b_model.specs.Steps.{ended_by_time, moves_now}
-use Rattle.f2b_model.specs.Told.{told_each, told_ends}
+use Rattle.f2b_model.specs.Told.{told_by_jails, told_ends}
 use Rattle.jail_rooms.specs.Kept.{now_of}
 use Rattle.jail_rooms.specs.Moved.{AreMoved, IsMoved}
 use Rattle.jail_rooms.specs.declared.jail.Jail.{Jail}
 use Rattle.jail_rooms.proofs.MovedLemmas.{one_more, still_there}
-use Rattle.jail_rooms.proofs.TakeLemmas.{take_all, told_item}
+use Rattle.jail_rooms.proofs.TakeLemmas.{take_whole, told_item}
 use Rattle.jail_rooms.proofs.ends.end_due_bans.Goals as goal
 
 pub loop-index-preserved : goal.loop-index-preserved
@@ -27,7 +27,7 @@ loop-index-preserved c =
       c.in_ok-end_due.ensures.told
           ∙ ap (λ (r : Jail). c.loop-index.told ++ tell (now_of r)) (sym own)
           ∙ ap (λ (r : List Happening). r ++ tell (now_of j)) c.loop-index.invariant.1
-          ∙ append_assoc c.args.told.now (told_each tell (map now_of (take i old))) (tell (now_of j))
+          ∙ append_assoc c.args.told.now (told_by_jails tell (map now_of (take i old))) (tell (now_of j))
           ∙ ap (λ (r : List Happening). c.args.told.now ++ r) (sym (told_item tell old i j lt there)),
     )
 
@@ -39,4 +39,4 @@ returns-clause-jails c =
 pub returns-clause-told : goal.returns-clause-told
 returns-clause-told c =
     let all : c.loop-index.index ≡ length c.args.jails.now = omega (arith, c.loop-index-test.false, c.loop-index.auto.index-end) in
-    c.loop-index.invariant.1 ∙ ap (λ (r : List Jail). c.args.told.now ++ told_each (told_ends moves_now c.args.at) (map now_of r)) (take_all c.args.jails.now c.loop-index.index all)
+    c.loop-index.invariant.1 ∙ ap (λ (r : List Jail). c.args.told.now ++ told_by_jails (told_ends moves_now c.args.at) (map now_of r)) (take_whole c.args.jails.now c.loop-index.index all)

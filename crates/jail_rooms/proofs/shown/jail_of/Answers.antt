@@ -9,7 +9,7 @@ use borrow.Author.Tests.{tests}
 use Rattle.f2b_model.proofs.ListLemmas.{by_test}
 use Rattle.f2b_model.specs.Lists.{AllOf}
 use Rattle.f2b_model.specs.Steps.{find_jail, moves_now}
-use Rattle.jail_rooms.specs.Kept.{now_of, IsKept}
+use Rattle.jail_rooms.specs.Kept.{now_of, IsWellKept}
 use Rattle.jail_rooms.specs.declared.jail.Jail.{Jail}
 use Rattle.jail_rooms.proofs.shown.jail_of.Goals as goal
 
@@ -32,18 +32,18 @@ found c =
     (λ x b q k. search (rules, tests))
 
 -- what holds of all holds of the one that is found
-found_of_all : {X : Type 0} (P : X → Type 0) (p : X → Bool) (xs : List X) (x : X) → AllOf P xs → find p xs ≡ Some x → P x
-found_of_all P p [] x all is = absurd (let h : None ≡ Some x = is in cc)
-found_of_all P p (y ∷ ys) x all is =
+found_meets : {X : Type 0} (P : X → Type 0) (p : X → Bool) (xs : List X) (x : X) → AllOf P xs → find p xs ≡ Some x → P x
+found_meets P p [] x all is = absurd (let h : None ≡ Some x = is in cc)
+found_meets P p (y ∷ ys) x all is =
     by_test (p y) _
     (λ t. let h : Some y ≡ Some x = rw t at is in let same : y ≡ x = cc in subst P same all.0)
-    (λ t. let h : find p ys ≡ Some x = rw t at is in found_of_all P p ys x all.1 h)
+    (λ t. let h : find p ys ≡ Some x = rw t at is in found_meets P p ys x all.1 h)
 
 -- so of the jail that is lent
 lent_kept : (at next : ℕ) (name : List ℕ) (js : List Jail) (r : Option (Bor Jail)) → option_map (λ (b : Bor Jail). b.now) r ≡ find (λ (j : Jail). bytes_eq j.definition.name name) js
-    → AllOf (IsKept at next) js → IfSome r (λ j. IsKept at next j.now)
+    → AllOf (IsWellKept at next) js → IfSome r (λ j. IsWellKept at next j.now)
 lent_kept at next name js None is kept = tt
-lent_kept at next name js (Some j) is kept = found_of_all (IsKept at next) (λ (k : Jail). bytes_eq k.definition.name name) js j.now kept (sym is)
+lent_kept at next name js (Some j) is kept = found_meets (IsWellKept at next) (λ (k : Jail). bytes_eq k.definition.name name) js j.now kept (sym is)
 
 pub returns-clause-jail : goal.returns-clause-jail
 returns-clause-jail c = lent_jail c.args.name.now c.args.jails.now c.find.result (found c)

@@ -9,4 +9,4 @@ loop-jail-preserved c =
     let kind = c.args.kind in
     let lane = c.args.lane.now in
     ordered_step (λ jails. lane_orders kind lane (held_of jails)) (λ jail. lane_orders kind lane (held_in_jail jail)) (held_orders_more kind lane) c.args.at c.args.held.now c.loop-jail.jail-index c.jail-item.result
-    c.args.book.now c.loop-jail.book c.order_held_in.new.book c.loop-jail-test.true c.jail-item.is c.loop-jail.invariant c.in_ok-order_held_in.ensures
+    c.args.book.now c.loop-jail.book c.order_held_by_jail.new.book c.loop-jail-test.true c.jail-item.is c.loop-jail.invariant c.in_ok-order_held_by_jail.ensures

@@ -1,6 +1,6 @@
 -- An ending takes the job out, or lets it wait for another try.
 use Rattle.std.proofs.Common.{◌≡◌, sym, ap, ◌∙◌, Some}
-use Rattle.f2b_model.specs.Jobs.{settle_in, settled_as, after_try}
+use Rattle.f2b_model.specs.Jobs.{jobs_after_ending, settled_as, after_try}
 use Rattle.action_queue.specs.Index.{jobs_of, job_at, with_job}
 use Rattle.action_queue.specs.Tries.{ending_of}
 use Rattle.action_queue.proofs.EndLemmas.{settle_with, index_after, again_each, heads_of, answer_of, no_head}
@@ -22,7 +22,7 @@ returns-in-Some-clause-jobs c =
     let there : job_at c.args.id c.self.inside.jobs.entries ≡ Some c.in-Some.job.now = sym c.in-Some.ensures.value in
     ap jobs_of (c.apply.ensures.jobs c.in-Some.job.now there ∙ ap (λ s. with_job c.args.id (after_try c.in-Some.job.now s) c.self.inside.jobs.entries) c.settled_as-settled.ensures.value)
     ∙ settle_with (ending_of c.args.id c.args.outcome c.args.now) 0 c.self.inside.jobs.entries c.in-Some.job.now c.self.invariant.keyed there
-    ∙ ap (settle_in (ending_of c.args.id c.args.outcome c.args.now)) c.self.view_is
+    ∙ ap (jobs_after_ending (ending_of c.args.id c.args.outcome c.args.now)) c.self.view_is
 
 pub returns-in-Some-clause-answer : goal.returns-in-Some-clause-answer
 returns-in-Some-clause-answer c =

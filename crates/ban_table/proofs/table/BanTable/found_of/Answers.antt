@@ -1,7 +1,7 @@
 use Rattle.std.proofs.Common.{◌∙◌, ap, arith}
 use Rattle.std.specs.BTreeMap.{insert_entry}
 use Rattle.std.specs.Ordering.{nat_cmp}
-use Rattle.ban_table.proofs.FoundLemmas.{found_start, found_next, found_none, found_all}
+use Rattle.ban_table.proofs.FoundLemmas.{found_start, found_next, found_none, found_at_the_end}
 use Rattle.ban_table.proofs.table.BanTable.found_of.Goals as goal
 use Rattle.ban_table.proofs.table.BanTable.found_of.Goals.{in-Some+in_ok-insert, in_default}
 
@@ -21,4 +21,4 @@ loop-addr-preserved c =
     ]
 
 pub returns : goal.returns
-returns c = found_all c.loop-addr.found.entries c.args.addrs.now c.loop-addr.addr-index c.args.self.now.active (omega arith) c.loop-addr.invariant
+returns c = found_at_the_end c.loop-addr.found.entries c.args.addrs.now c.loop-addr.addr-index c.args.self.now.active (omega arith) c.loop-addr.invariant

@@ -8,5 +8,5 @@ returns-clause-short c =
     let w = c.self.inside in
     let tidy = c.self.invariant in
     rw (← c.self.view_is) (λ unfilled. (
-    let bound = few w.findtime w.maxretry tidy.recent.0 tidy.of_one.0 (failures_of w.kept) tidy.positive tidy.of_one.1 tidy.recent.1 (unfilled tidy.of_one.0) in
+    let bound = few w.findtime w.maxretry tidy.recent.0 tidy.one_address.0 (failures_of w.kept) tidy.positive tidy.one_address.1 tidy.recent.1 (unfilled tidy.one_address.0) in
     omega arith))

@@ -5,7 +5,7 @@ use Rattle.f2b_model.specs.declared.jail_now.JailNow.{JailNow}
 use Rattle.f2b_model.specs.Matches.{matches_of}
 use Rattle.f2b_model.specs.Moves.{JailAndSerial, is_banned, new_ban}
 use Rattle.f2b_model.specs.Told.{begins}
-use Rattle.jail_moves.specs.Rooms.{Contents, jail_in, with_ban, IsKeptJail}
+use Rattle.jail_moves.specs.Rooms.{Contents, jail_of_contents, with_ban, IsKeptJail}
 use Rattle.jail_moves.proofs.LineLemmas.{no_lines}
 use Rattle.jail_moves.proofs.RoomLemmas.{banned_anew, forgotten_kept, with_ban_kept}
 use Rattle.jail_moves.proofs.room.Room.ban.Goals as goal
@@ -18,7 +18,7 @@ returns-clause-jail c =
     let same : c.begin.new.self ≡ with_ban c.args.definition.now c.args.at c.args.word c.args.serial c.args.addr 0 (record c.args.self.now { windows = c.forget.new.self }) =
     c.in_ok-begin.ensures.room ∙ ap (λ (r : Contents). with_ban c.args.definition.now c.args.at c.args.word c.args.serial c.args.addr 0 (record r { windows = c.forget.new.self })) c.self.view_is in
     (banned_anew c.args.at c.args.word c.args.serial c.args.addr c.args.definition.now c.args.self.now c.forget.new.self (free c) (search rules)).0
-    ∙ ap (λ (r : Contents). let o : JailAndSerial JailNow = record { jail = jail_in c.args.definition.now r; next = c.args.serial + 1 } in o) (sym same)
+    ∙ ap (λ (r : Contents). let o : JailAndSerial JailNow = record { jail = jail_of_contents c.args.definition.now r; next = c.args.serial + 1 } in o) (sym same)
 
 pub returns-clause-kept : goal.returns-clause-kept
 returns-clause-kept c =

@@ -6,7 +6,7 @@ use Rattle.f2b_model.specs.declared.jail_now.JailNow.{JailNow}
 use Rattle.f2b_model.specs.Matches.{matches_of}
 use Rattle.f2b_model.specs.Moves.{JailAndSerial, counts, new_ban}
 use Rattle.f2b_model.specs.Told.{begins}
-use Rattle.jail_moves.specs.Rooms.{Contents, jail_in, with_ban, IsCounted, IsKeptJail}
+use Rattle.jail_moves.specs.Rooms.{Contents, jail_of_contents, with_ban, IsCounted, IsKeptJail}
 use Rattle.jail_moves.proofs.RoomLemmas.{counted_kept, found_full, with_ban_kept}
 use Rattle.jail_moves.proofs.room.Room.found.Goals as goal
 
@@ -33,7 +33,7 @@ pub returns-in_ok-begin-in-Some-clause-jail : goal.returns-in_ok-begin-in-Some-c
 returns-in_ok-begin-in-Some-clause-jail c =
     (found_full c.args.at c.args.word c.args.serial c.in-Some.near c.args.failure.now c.args.definition.now c.args.self.now c.count.new.self
     c.requires.kept (does_count c) (counted_of c)).0
-    ∙ ap (λ (r : Contents). let o : JailAndSerial JailNow = record { jail = jail_in c.args.definition.now r; next = c.args.serial + 1 } in o) (sym (room_is c))
+    ∙ ap (λ (r : Contents). let o : JailAndSerial JailNow = record { jail = jail_of_contents c.args.definition.now r; next = c.args.serial + 1 } in o) (sym (room_is c))
 
 pub returns-in_ok-begin-in-Some-clause-told : goal.returns-in_ok-begin-in-Some-clause-told
 unfolding began

@@ -4,8 +4,8 @@ use Rattle.f2b_base.specs.declared.ban.Failure.{Failure}
 use Rattle.f2b_base.specs.declared.view.WatchView.{WatchView}
 use Rattle.f2b_model.specs.StorableViews.{can_matter, is_over, unfilled}
 use Rattle.fail_window.specs.Opened.{Opened}
-use Rattle.jail_moves.specs.Rooms.{Contents, jail_in, IsKeptJail}
-use Rattle.jail_moves.proofs.RoomLemmas.{failures_taken_up, stored_in, stored_kept}
+use Rattle.jail_moves.specs.Rooms.{Contents, jail_of_contents, IsKeptJail}
+use Rattle.jail_moves.proofs.RoomLemmas.{failures_taken_up, taken_up_stored, stored_kept}
 use Rattle.jail_moves.proofs.room.Room.of.Goals as goal
 
 -- what the room holds, by what was read of it
@@ -34,9 +34,9 @@ pub returns-clause-jail : goal.returns-clause-jail
 unfolding contents stored_table
 returns-clause-jail c =
     let w = c.in_ok-windows.windows in
-    ap₂ (λ (ws : List WatchView) (t : BanLists). jail_in c.args.definition.now (record (contents c (Rattle.jail_moves.specs.contracts.windows.Windows.the_view c.windows.inside) t) { watches = ws })) c.in_ok-copy.ensures c.in_ok-table_of.ensures.table
-    ∙ ap (λ (o : Opened). jail_in c.args.definition.now (contents c o (stored_table c))) c.windows.view_is
-    ∙ stored_in c.args.at c.min-moment.result c.args.definition.now c.args.view.now w c.min-moment.ensures (read c)
+    ap₂ (λ (ws : List WatchView) (t : BanLists). jail_of_contents c.args.definition.now (record (contents c (Rattle.jail_moves.specs.contracts.windows.Windows.the_view c.windows.inside) t) { watches = ws })) c.in_ok-copy.ensures c.in_ok-table_of.ensures.table
+    ∙ ap (λ (o : Opened). jail_of_contents c.args.definition.now (contents c o (stored_table c))) c.windows.view_is
+    ∙ taken_up_stored c.args.at c.min-moment.result c.args.definition.now c.args.view.now w c.min-moment.ensures (read c)
 
 pub returns-clause-kept : goal.returns-clause-kept
 unfolding contents

@@ -4,9 +4,9 @@ use Rattle.f2b_base.specs.declared.ban.Failure.{Failure}
 use Rattle.f2b_model.specs.Full.{is_of}
 use Rattle.f2b_model.proofs.OrderlyLemmas.{all_of-filter}
 use Rattle.f2b_model.proofs.StepLemmas.{all_of-more}
-use Rattle.jail_moves.specs.Addresses.{failures_in, Counts, Entry}
+use Rattle.jail_moves.specs.Addresses.{failures_of_windows, Counts, Entry}
 use Rattle.jail_moves.proofs.WindowCounts.{ok_then}
-use Rattle.jail_moves.proofs.WindowTurns.{added, held_either}
+use Rattle.jail_moves.proofs.WindowChanges.{added, held_either}
 use Rattle.jail_moves.proofs.windows.Windows.add.Goals as goal
 
 pub count-requires-clause-held : goal.count-requires-clause-held
@@ -14,7 +14,7 @@ count-requires-clause-held c = (c.sweep_in_turn.ensures.sweeps c.self.inside.max
 
 pub count-requires-clause-forward : goal.count-requires-clause-forward
 count-requires-clause-forward c =
-    all_of-filter (λ (f : Failure). f.time ≤ c.args.now) (is_of c.args.failure.addr) (failures_in c.sweep_in_turn.new.windows.entries)
+    all_of-filter (λ (f : Failure). f.time ≤ c.args.now) (is_of c.args.failure.addr) (failures_of_windows c.sweep_in_turn.new.windows.entries)
     ((c.sweep_in_turn.ensures.sweeps c.self.inside.maxretry c.self.invariant.0).times c.args.now (rw (← c.self.view_is) at c.requires.forward))
 
 pub invariant_of-self : goal.invariant_of-self

@@ -2,7 +2,7 @@
 use Rattle.std.proofs.Common.{List, ap}
 use Rattle.f2b_base.specs.declared.ban.Failure.{Failure}
 use Rattle.fail_window.specs.Opened.{Opened}
-use Rattle.jail_moves.proofs.WindowTurns.{held_without}
+use Rattle.jail_moves.proofs.WindowChanges.{held_without}
 use Rattle.jail_moves.proofs.windows.Windows.forget.Goals as goal
 
 pub invariant_of-self : goal.invariant_of-self

@@ -6,7 +6,7 @@ use Rattle.f2b_base.specs.declared.ban.Failure.{Failure}
 use Rattle.f2b_model.specs.Full.{is_of}
 use Rattle.f2b_model.specs.Lists.{AllOf}
 use Rattle.jail_moves.specs.declared.addresses.AddrWindow.{AddrWindow}
-use Rattle.jail_moves.specs.Addresses.{failures_in, Entry}
+use Rattle.jail_moves.specs.Addresses.{failures_of_windows, Entry}
 use Rattle.jail_moves.proofs.WindowReads.{AreRead, next_is_last, none_read, read_full, read_held, read_is, read_open, read_past}
 use Rattle.jail_moves.proofs.windows.Windows.of.Goals as goal
 use Rattle.jail_moves.proofs.windows.Windows.of.Goals.{then-can_matter+in_ok-copy+in_ok-_near+in-Some+in_ok-push, then-can_matter+in_ok-copy+in_ok-_near+in_default, else-can_matter}
@@ -18,7 +18,7 @@ loop-failure-init c =
 
 pub count-requires-clause-forward : goal.count-requires-clause-forward
 count-requires-clause-forward c =
-    subst (λ (f : Failure). AllOf (λ (g : Failure). g.time ≤ c.failure-item.result.time) (filter (is_of f.addr) (failures_in c.loop-failure.by_addr.entries))) (sym c.in_ok-copy.ensures)
+    subst (λ (f : Failure). AllOf (λ (g : Failure). g.time ≤ c.failure-item.result.time) (filter (is_of f.addr) (failures_of_windows c.loop-failure.by_addr.entries))) (sym c.in_ok-copy.ensures)
     (next_is_last c.args.findtime c.args.maxretry c.args.moment c.loop-failure.failure-index c.args.failures.now c.loop-failure.full c.loop-failure.by_addr.entries c.failure-item.result
     c.loop-failure.invariant c.loop-failure-test.true c.failure-item.is)
 
@@ -52,13 +52,13 @@ loop-failure-preserved c =
 pub invariant_of-result : goal.invariant_of-result
 invariant_of-result c = (
   read_held c.args.findtime c.args.maxretry c.args.moment c.loop-failure.failure-index c.args.failures.now c.loop-failure.full c.as_slice.result.now c.loop-failure.by_addr.entries
-      c.remove_each.new.windows.entries c.requires.in_order c.loop-failure.invariant c.loop-failure-test.false c.as_slice.ensures
-      (c.remove_each.ensures c.args.findtime c.args.maxretry),
+      c.remove_windows.new.windows.entries c.requires.in_order c.loop-failure.invariant c.loop-failure-test.false c.as_slice.ensures
+      (c.remove_windows.ensures c.args.findtime c.args.maxretry),
   c.earliest-earliest.ensures,
 )
 
 pub returns-clause-failures : goal.returns-clause-failures
 returns-clause-failures c =
     read_is c.args.findtime c.args.maxretry c.args.moment c.loop-failure.failure-index c.args.failures.now c.loop-failure.full c.as_slice.result.now c.loop-failure.by_addr.entries
-    c.remove_each.new.windows.entries c.requires.in_order c.loop-failure.invariant c.loop-failure-test.false c.as_slice.ensures
-    (c.remove_each.ensures c.args.findtime c.args.maxretry)
+    c.remove_windows.new.windows.entries c.requires.in_order c.loop-failure.invariant c.loop-failure-test.false c.as_slice.ensures
+    (c.remove_windows.ensures c.args.findtime c.args.maxretry)

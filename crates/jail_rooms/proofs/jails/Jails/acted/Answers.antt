@@ -3,11 +3,11 @@ use Rattle.f2b_model.specs.Lists.{AllOf}
 use Rattle.f2b_model.specs.Nows.{JailsNow}
 use Rattle.f2b_model.specs.Moves.{JailAndSerial}
 use Rattle.f2b_model.specs.Steps.{JailsAndSerial, at_jail, in_jail, moves_now, with_serial}
-use Rattle.f2b_model.specs.Told.{told_in}
+use Rattle.f2b_model.specs.Told.{told_by_name}
 use Rattle.f2b_model.specs.declared.happening.Happening.{Happening}
 use Rattle.f2b_model.specs.declared.jail_now.JailNow.{JailNow}
 use Rattle.jail_rooms.specs.Acted.{acted, told_acted}
-use Rattle.jail_rooms.specs.Kept.{now_of, IsKept}
+use Rattle.jail_rooms.specs.Kept.{now_of, IsWellKept}
 use Rattle.jail_rooms.specs.Memory.{JailsKept}
 use Rattle.jail_rooms.specs.declared.jail.Jail.{Jail}
 use Rattle.jail_rooms.proofs.TakeLemmas.{as_a_whole}
@@ -25,7 +25,7 @@ same c = c.act_at.auto.jails ∙ ap (λ (r : List Jail). length r) (slice c)
 pub act_at-requires-clause-kept : goal.act_at-requires-clause-kept
 act_at-requires-clause-kept c =
     let read : c.as_mut_slice.result.now ≡ c.self.inside.jails.items = search rules in
-    subst (AllOf (IsKept c.self.inside.at c.self.inside.next_ban)) (sym read) c.self.invariant.1
+    subst (AllOf (IsWellKept c.self.inside.at c.self.inside.next_ban)) (sym read) c.self.invariant.1
 
 pub returns-clause-jails : goal.returns-clause-jails
 returns-clause-jails c =
@@ -40,7 +40,7 @@ returns-clause-jails c =
 pub returns-clause-told : goal.returns-clause-told
 returns-clause-told c =
     let i = c.self.inside in
-    let tell : JailsNow → List Happening = λ w. told_in moves_now c.args.name.now (told_acted w.at c.args.word c.args.what.now w.next_ban) w.jails in
+    let tell : JailsNow → List Happening = λ w. told_by_name moves_now c.args.name.now (told_acted w.at c.args.word c.args.what.now w.next_ban) w.jails in
     c.in_ok-next_ban.ensures.told
     ∙ ap (λ (js : List Jail). c.args.told.now ++ tell (record { at = i.at; purge = i.purge; jails = map now_of js; next_ban = i.next_ban })) (slice c)
     ∙ ap (λ (k : JailsKept). c.args.told.now ++ tell k.state) c.self.view_is
@@ -48,5 +48,5 @@ returns-clause-told c =
 pub invariant_of-result : goal.invariant_of-result
 invariant_of-result c = (
   c.self.invariant.0,
-  subst (AllOf (IsKept c.self.inside.at c.in_ok-next_ban.next_ban)) (sym (as_a_whole c.act_at.new.jails c.self.inside.jails.items _ (same c) (search rules))) c.in_ok-next_ban.ensures.kept,
+  subst (AllOf (IsWellKept c.self.inside.at c.in_ok-next_ban.next_ban)) (sym (as_a_whole c.act_at.new.jails c.self.inside.jails.items _ (same c) (search rules))) c.in_ok-next_ban.ensures.kept,
 )

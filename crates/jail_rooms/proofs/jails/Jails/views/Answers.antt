@@ -4,7 +4,7 @@ use Rattle.f2b_base.specs.declared.ban.Failure.{Failure}
 use Rattle.f2b_base.specs.declared.view.JailView.{JailView}
 use Rattle.f2b_model.specs.Lists.{AllOf}
 use Rattle.f2b_model.specs.Views.{jail_view}
-use Rattle.jail_rooms.specs.Kept.{now_of, IsKept}
+use Rattle.jail_rooms.specs.Kept.{now_of, IsWellKept}
 use Rattle.jail_rooms.specs.Memory.{JailsKept}
 use Rattle.jail_rooms.specs.declared.jail.Jail.{Jail}
 use Rattle.jail_rooms.proofs.StoredLemmas.{view_times}
@@ -25,4 +25,4 @@ returns-clause-times c =
 pub views-requires : goal.views-requires
 views-requires c =
     let i = c.self.inside in
-    (i.at, (i.next_ban, subst (AllOf (IsKept i.at i.next_ban)) (sym c.as_slice.ensures.value) c.self.invariant.1))
+    (i.at, (i.next_ban, subst (AllOf (IsWellKept i.at i.next_ban)) (sym c.as_slice.ensures.value) c.self.invariant.1))

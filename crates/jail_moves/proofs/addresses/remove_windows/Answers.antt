@@ -1,6 +1,6 @@
 -- One address after the other.
-use Rattle.jail_moves.proofs.WindowReads.{loses_all, loses_next, loses_none}
-use Rattle.jail_moves.proofs.addresses.remove_each.Goals as goal
+use Rattle.jail_moves.proofs.WindowReads.{loses_at_the_end, loses_next, loses_none}
+use Rattle.jail_moves.proofs.addresses.remove_windows.Goals as goal
 
 pub loop-addr-init : goal.loop-addr-init
 loop-addr-init c = λ findtime maxretry windows. loses_none findtime maxretry c.args.addrs.now c.args.windows.now.entries windows
@@ -13,5 +13,5 @@ loop-addr-preserved c = λ findtime maxretry windows.
 
 pub returns : goal.returns
 returns c = λ findtime maxretry windows.
-    loses_all findtime maxretry c.loop-addr.addr-index c.args.addrs.now c.args.windows.now.entries c.loop-addr.windows.entries c.loop-addr-test.false
+    loses_at_the_end findtime maxretry c.loop-addr.addr-index c.args.addrs.now c.args.windows.now.entries c.loop-addr.windows.entries c.loop-addr-test.false
     (c.loop-addr.invariant findtime maxretry windows)

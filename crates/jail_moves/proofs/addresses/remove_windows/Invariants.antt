@@ -1,6 +1,6 @@
 use Rattle.std.proofs.Common.{ℕ, take}
 use Rattle.jail_moves.specs.Addresses.{AreWindows, LosesEach}
-use Rattle.jail_moves.proofs.addresses.remove_each.Given as goal
+use Rattle.jail_moves.proofs.addresses.remove_windows.Given as goal
 
 abbrev pub invariant-loop-addr : goal.invariant-loop-addr
 invariant-loop-addr l =

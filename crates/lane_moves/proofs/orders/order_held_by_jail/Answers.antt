@@ -6,7 +6,7 @@ use Rattle.f2b_base.specs.declared.addr.Addr.TheVariants.{V4}
 use Rattle.f2b_base.specs.declared.ban.Until.TheVariants.{Never}
 use Rattle.lane_moves.specs.Pending.{ordered}
 use Rattle.lane_moves.proofs.OrderedLemmas.{ordered_none, no_orders, held_step}
-use Rattle.lane_moves.proofs.orders.order_held_in.Goals as goal
+use Rattle.lane_moves.proofs.orders.order_held_by_jail.Goals as goal
 
 pub returns-then-ne : goal.returns-then-ne
 returns-then-ne c =

@@ -6,7 +6,7 @@ use Rattle.std.proofs.lemmas.Bool.{cases_Bool, or_parts}
 use Rattle.f2b_base.specs.declared.addr.Addr.{Addr}
 use Rattle.f2b_base.specs.declared.job.LaneId.{LaneId}
 use Rattle.f2b_base.specs.declared.job.JobKind.{JobKind}
-use Rattle.f2b_model.specs.Turns.{Order, order_of, numbered, touches, banned_after, follow}
+use Rattle.f2b_model.specs.Alternation.{Order, order_of, numbered, touches, banned_after, follow}
 use Rattle.f2b_model.specs.LaneSound.{AtMostOne}
 
 pub orders_numbered : (next at : ℕ) (os : List Order) → map order_of (numbered next at os) ≡ os
@@ -37,10 +37,10 @@ AllKind kind [] = Unit {0}
 AllKind kind (o ∷ os) = (o.kind ≡ kind) × AllKind kind os
 
 -- orders of one kind, of which at most one is of the address
-pub follow_of_one : (id : LaneId) (addr : Addr) (kind : JobKind) (b c : Bool) (os : List Order) → AllKind kind os → AtMostOne (touches id addr) os → list_any (touches id addr) os ≡ true → banned_after kind b ≡ Some c
+pub follow_of_kind : (id : LaneId) (addr : Addr) (kind : JobKind) (b c : Bool) (os : List Order) → AllKind kind os → AtMostOne (touches id addr) os → list_any (touches id addr) os ≡ true → banned_after kind b ≡ Some c
     → follow id addr b os ≡ Some c
-follow_of_one id addr kind b c [] kinds one some may = cc
-follow_of_one id addr kind b c (o ∷ os) kinds one some may = elim (cases_Bool (touches id addr o)) [
+follow_of_kind id addr kind b c [] kinds one some may = cc
+follow_of_kind id addr kind b c (o ∷ os) kinds one some may = elim (cases_Bool (touches id addr o)) [
   | inl h ↦ rw (h, kinds.0, may) (follow_none id addr c os (one.0 h))
-  | inr h ↦ let later : list_any (touches id addr) os ≡ true = rw h at some in rw h (follow_of_one id addr kind b c os kinds.1 one.1 later may)
+  | inr h ↦ let later : list_any (touches id addr) os ≡ true = rw h at some in rw h (follow_of_kind id addr kind b c os kinds.1 one.1 later may)
 ]

@@ -19,7 +19,7 @@ use Rattle.f2b_base.specs.declared.jail.JailDef.{JailDef}
 use Rattle.f2b_base.specs.declared.jail.WatchDef.{WatchDef}
 use Rattle.f2b_model.specs.Moves.{same_cidr}
 use Rattle.f2b_model.proofs.SameLemmas.{same_addr-true, same_family-same, same_family-true}
-use Rattle.jail_rooms.specs.Same.{are_same_defs, same_action, same_date, same_jail, same_rule, same_text, same_watch}
+use Rattle.jail_rooms.specs.Equality.{are_same_defs, same_action, same_date, same_jail, same_rule, same_text, same_watch}
 
 -- two masks
 address_same : (a : Addr) → same_addr a a ≡ true

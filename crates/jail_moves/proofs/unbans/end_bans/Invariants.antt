@@ -2,7 +2,7 @@ use Rattle.std.proofs.Common.{◌≡◌, ◌++◌, map, take, drop}
 use Rattle.f2b_base.specs.declared.ban.Ban.{Ban}
 use Rattle.f2b_model.specs.declared.happening.Happening.TheVariants.{Ends}
 use Rattle.jail_moves.specs.Rooms.{all_ended}
-use Rattle.jail_moves.proofs.unbans.end_each.Given as goal
+use Rattle.jail_moves.proofs.unbans.end_bans.Given as goal
 
 abbrev pub invariant-loop-ban : goal.invariant-loop-ban
 invariant-loop-ban l =

@@ -7,7 +7,7 @@ use Rattle.f2b_base.specs.declared.jail.JailDef.{JailDef}
 use Rattle.f2b_model.specs.Families.{same_up}
 use Rattle.f2b_model.specs.Lanes.{lanes_of_jail}
 use Rattle.lane_moves.proofs.LaneLemmas.{any_flat}
-use Rattle.lane_moves.proofs.up.is_among.Goals as goal
+use Rattle.lane_moves.proofs.up.includes_lane.Goals as goal
 
 pub returns : goal.returns
 returns c =

@@ -1,14 +1,14 @@
 -- One jail after the other.
 use Rattle.std.proofs.Common.{◌≡◌, suc, ◌+◌, ◌<◌, List, length, get_or, take, refl, ◌∙◌, ap, subst, arith}
 use Rattle.std.proofs.Math.ListN.{set}
-use Rattle.jail_moves.specs.Rooms.{stale_in}
-use Rattle.jail_rooms.specs.Kept.{IsKept}
+use Rattle.jail_moves.specs.Rooms.{stale_addresses}
+use Rattle.jail_rooms.specs.Kept.{IsWellKept}
 use Rattle.jail_rooms.specs.Stale.{stale_count}
 use Rattle.jail_rooms.specs.declared.jail.Jail.{Jail}
-use Rattle.jail_rooms.proofs.PlaceLemmas.{kept_set, one_of_all}
+use Rattle.jail_rooms.proofs.PlaceLemmas.{kept_set, holds_at_place}
 use Rattle.jail_rooms.proofs.SweepLemmas.{all_stay, fewer_stale, one_more_stale}
-use Rattle.jail_rooms.proofs.TakeLemmas.{take_all}
-use Rattle.jail_rooms.proofs.sweep.sweep_all.Goals as goal
+use Rattle.jail_rooms.proofs.TakeLemmas.{take_whole}
+use Rattle.jail_rooms.proofs.sweep.sweep_jails.Goals as goal
 
 pub loop-index-init : goal.loop-index-init
 loop-index-init c = record { same = λ at next kept. (refl, kept); within = omega arith; count = refl; none = λ some. refl }
@@ -30,7 +30,7 @@ loop-index-preserved c =
     record {
       same = λ at next kept.
           let so_far = c.loop-index.invariant.same at next kept in
-          let own : IsKept at next jail = one_of_all (IsKept at next) i jails jail so_far.1 lt jail_is in (
+          let own : IsWellKept at next jail = holds_at_place (IsWellKept at next) i jails jail so_far.1 lt jail_is in (
             all_stay i jails jail new jail_is (c.sweep-forgotten.ensures.jail jail.definition own.findtime) ∙ so_far.0,
             kept_set at next next i jails new so_far.1 (omega arith) (c.sweep-forgotten.ensures.kept at next jail.definition own),
           );
@@ -38,7 +38,7 @@ loop-index-preserved c =
       count = omega arith;
       none = λ some.
           let before = c.loop-index.invariant.none (omega arith) in
-          let here : length (stale_in new.room) ≡ 0 = ap length (c.sweep-forgotten.ensures.none (omega arith)) in
+          let here : length (stale_addresses new.room) ≡ 0 = ap length (c.sweep-forgotten.ensures.none (omega arith)) in
           let more = one_more_stale i jails new lt in
           subst (λ k. stale_count (take k (set jails i new)) ≡ 0) up (omega arith);
     }
@@ -56,6 +56,6 @@ pub returns-clause-none : goal.returns-clause-none
 returns-clause-none c = λ fewer.
     let within = c.loop-index.invariant.within in
     let end : c.loop-index.index ≡ length c.loop-index.jails = omega (arith, c.loop-index.auto.jails, c.loop-index-test.false, c.loop-index.auto.index-end) in
-    let all = ap stale_count (take_all c.loop-index.jails c.loop-index.index end) in
+    let all = ap stale_count (take_whole c.loop-index.jails c.loop-index.index end) in
     let none = c.loop-index.invariant.none (omega arith) in
     omega arith
