@@ -83,7 +83,7 @@ Matched lines:
    1) 192.0.2.7 1709287200 2024-03-01T10:00:00+00:00 1-20 2024-03-01T10:00:00Z fail from 192.0.2.7
    1) - - - 4-22 mx {now} fail from mx.example.org
 WARNING datepattern finds a date elsewhere than at the beginning of 2 lines: where lines begin with their dates, write {{^LN-BEG}} before it, or alone
-WARNING the last 2 dates are too old, or to come, by whole half hours: where they name no zone, write --timezone UTC+0200, and logtimezone = UTC+0200
+WARNING the last 2 dates are too old, or to come, by whole half hours: write --timezone UTC+0200, and logtimezone = UTC+0200
 """
 
 

@@ -12,6 +12,10 @@ const FILES: &[File<'static>] = &[
         b"2024-03-01 12:00:00 a\n2024-03-01 12:00:00 b\n2024-03-01 11:50:00 c\n2024-03-01 12:00:01 d\nno date\n2024-03-01 12:00:02 e\nno date\n",
     ),
     ("/past", b"2024-03-01 12:00:00 a\n2024-03-01 10:00:05 b\n"),
+    (
+        "/named",
+        b"2024-03-01 12:00:00 a\n2024-03-01T12:00:01Z b\n2024-03-01 12:00:02 c\n",
+    ),
 ];
 
 const PLACES: [Row; 8] = [
@@ -78,12 +82,12 @@ fn shows_where_dates_stand(rt: HostRuntime) -> Result<(), Fail> {
 }
 
 /// It is ten seconds past ten at UTC.
-const ZONES: [Row; 13] = [
+const ZONES: [Row; 20] = [
     // A date of now in another zone, one second later, a minute earlier, and one second more.
     Row {
         words: &["-v", "2024-03-01 12:00:10 from 192.0.2.7", "^ from <HOST>$"],
         status: 0,
-        said: "Failregex: 1 total\n   1) [1] ^ from <HOST>$\nIgnoreregex: 0 total\nLines: 1 lines, 0 ignored, 1 matched, 0 missed\nMatched lines:\n   1) 192.0.2.7 1709287210 2024-03-01T10:00:10+00:00 1-19 2024-03-01 12:00:10 from 192.0.2.7\nWARNING the last 1 dates are too old, or to come, by whole half hours: where they name no zone, write --timezone UTC+0200, and logtimezone = UTC+0200\n",
+        said: "Failregex: 1 total\n   1) [1] ^ from <HOST>$\nIgnoreregex: 0 total\nLines: 1 lines, 0 ignored, 1 matched, 0 missed\nMatched lines:\n   1) 192.0.2.7 1709287210 2024-03-01T10:00:10+00:00 1-19 2024-03-01 12:00:10 from 192.0.2.7\nWARNING the last 1 dates are too old, or to come, by whole half hours: write --timezone UTC+0200, and logtimezone = UTC+0200\n",
     },
     Row {
         words: &["-v", "2024-03-01 12:00:11 from 192.0.2.7", "^ from <HOST>$"],
@@ -93,7 +97,7 @@ const ZONES: [Row; 13] = [
     Row {
         words: &["-v", "2024-03-01 11:59:10 from 192.0.2.7", "^ from <HOST>$"],
         status: 0,
-        said: "Failregex: 1 total\n   1) [1] ^ from <HOST>$\nIgnoreregex: 0 total\nLines: 1 lines, 0 ignored, 1 matched, 0 missed\nMatched lines:\n   1) 192.0.2.7 1709287210 2024-03-01T10:00:10+00:00 1-19 2024-03-01 11:59:10 from 192.0.2.7\nWARNING the last 1 dates are too old, or to come, by whole half hours: where they name no zone, write --timezone UTC+0200, and logtimezone = UTC+0200\n",
+        said: "Failregex: 1 total\n   1) [1] ^ from <HOST>$\nIgnoreregex: 0 total\nLines: 1 lines, 0 ignored, 1 matched, 0 missed\nMatched lines:\n   1) 192.0.2.7 1709287210 2024-03-01T10:00:10+00:00 1-19 2024-03-01 11:59:10 from 192.0.2.7\nWARNING the last 1 dates are too old, or to come, by whole half hours: write --timezone UTC+0200, and logtimezone = UTC+0200\n",
     },
     Row {
         words: &["-v", "2024-03-01 11:59:09 from 192.0.2.7", "^ from <HOST>$"],
@@ -110,7 +114,7 @@ const ZONES: [Row; 13] = [
     Row {
         words: &["-v", "2024-03-01 06:30:00 from 192.0.2.7", "^ from <HOST>$"],
         status: 0,
-        said: "Failregex: 1 total\n   1) [1] ^ from <HOST>$\nIgnoreregex: 0 total\nLines: 1 lines, 0 ignored, 1 matched, 0 missed\nMatched lines:\n   1) 192.0.2.7 1709274600 2024-03-01T06:30:00+00:00 1-19 2024-03-01 06:30:00 from 192.0.2.7\nWARNING the last 1 dates are too old, or to come, by whole half hours: where they name no zone, write --timezone UTC-0330, and logtimezone = UTC-0330\n",
+        said: "Failregex: 1 total\n   1) [1] ^ from <HOST>$\nIgnoreregex: 0 total\nLines: 1 lines, 0 ignored, 1 matched, 0 missed\nMatched lines:\n   1) 192.0.2.7 1709274600 2024-03-01T06:30:00+00:00 1-19 2024-03-01 06:30:00 from 192.0.2.7\nWARNING the last 1 dates are too old, or to come, by whole half hours: write --timezone UTC-0330, and logtimezone = UTC-0330\n",
     },
     // The zone of the words is another one than the log's.
     Row {
@@ -122,13 +126,13 @@ const ZONES: [Row; 13] = [
             "^ from <HOST>$",
         ],
         status: 0,
-        said: "Failregex: 1 total\n   1) [1] ^ from <HOST>$\nIgnoreregex: 0 total\nLines: 1 lines, 0 ignored, 1 matched, 0 missed\nMatched lines:\n   1) 192.0.2.7 1709278200 2024-03-01T10:00:00+02:30 1-19 2024-03-01 10:00:00 from 192.0.2.7\nWARNING the last 1 dates are too old, or to come, by whole half hours: where they name no zone, write --timezone UTC+0000, and logtimezone = UTC+0000\n",
+        said: "Failregex: 1 total\n   1) [1] ^ from <HOST>$\nIgnoreregex: 0 total\nLines: 1 lines, 0 ignored, 1 matched, 0 missed\nMatched lines:\n   1) 192.0.2.7 1709278200 2024-03-01T10:00:00+02:30 1-19 2024-03-01 10:00:00 from 192.0.2.7\nWARNING the last 1 dates are too old, or to come, by whole half hours: write --timezone UTC+0000, and logtimezone = UTC+0000\n",
     },
     // No zone is more than 14 hours ahead, or 12 hours behind.
     Row {
         words: &["-v", "2024-03-02 00:00:10 from 192.0.2.7", "^ from <HOST>$"],
         status: 0,
-        said: "Failregex: 1 total\n   1) [1] ^ from <HOST>$\nIgnoreregex: 0 total\nLines: 1 lines, 0 ignored, 1 matched, 0 missed\nMatched lines:\n   1) 192.0.2.7 1709287210 2024-03-01T10:00:10+00:00 1-19 2024-03-02 00:00:10 from 192.0.2.7\nWARNING the last 1 dates are too old, or to come, by whole half hours: where they name no zone, write --timezone UTC+1400, and logtimezone = UTC+1400\n",
+        said: "Failregex: 1 total\n   1) [1] ^ from <HOST>$\nIgnoreregex: 0 total\nLines: 1 lines, 0 ignored, 1 matched, 0 missed\nMatched lines:\n   1) 192.0.2.7 1709287210 2024-03-01T10:00:10+00:00 1-19 2024-03-02 00:00:10 from 192.0.2.7\nWARNING the last 1 dates are too old, or to come, by whole half hours: write --timezone UTC+1400, and logtimezone = UTC+1400\n",
     },
     Row {
         words: &["-v", "2024-03-02 00:30:10 from 192.0.2.7", "^ from <HOST>$"],
@@ -138,7 +142,7 @@ const ZONES: [Row; 13] = [
     Row {
         words: &["-v", "2024-02-29 22:00:10 from 192.0.2.7", "^ from <HOST>$"],
         status: 0,
-        said: "Failregex: 1 total\n   1) [1] ^ from <HOST>$\nIgnoreregex: 0 total\nLines: 1 lines, 0 ignored, 1 matched, 0 missed\nMatched lines:\n   1) 192.0.2.7 1709244010 2024-02-29T22:00:10+00:00 1-19 2024-02-29 22:00:10 from 192.0.2.7\nWARNING the last 1 dates are too old, or to come, by whole half hours: where they name no zone, write --timezone UTC-1200, and logtimezone = UTC-1200\n",
+        said: "Failregex: 1 total\n   1) [1] ^ from <HOST>$\nIgnoreregex: 0 total\nLines: 1 lines, 0 ignored, 1 matched, 0 missed\nMatched lines:\n   1) 192.0.2.7 1709244010 2024-02-29T22:00:10+00:00 1-19 2024-02-29 22:00:10 from 192.0.2.7\nWARNING the last 1 dates are too old, or to come, by whole half hours: write --timezone UTC-1200, and logtimezone = UTC-1200\n",
     },
     Row {
         words: &["-v", "2024-02-29 21:30:10 from 192.0.2.7", "^ from <HOST>$"],
@@ -149,13 +153,71 @@ const ZONES: [Row; 13] = [
     Row {
         words: &["-v", "/run", "^ from <HOST>$"],
         status: 0,
-        said: "Failregex: 0 total\nIgnoreregex: 0 total\nLines: 7 lines, 0 ignored, 0 matched, 7 missed\nMatched lines:\nWARNING the last 2 dates are too old, or to come, by whole half hours: where they name no zone, write --timezone UTC+0200, and logtimezone = UTC+0200\n",
+        said: "Failregex: 0 total\nIgnoreregex: 0 total\nLines: 7 lines, 0 ignored, 0 matched, 7 missed\nMatched lines:\nWARNING the last 2 dates are too old, or to come, by whole half hours: write --timezone UTC+0200, and logtimezone = UTC+0200\n",
     },
     // The last date is of now.
     Row {
         words: &["-v", "/past", "^ from <HOST>$"],
         status: 0,
         said: "Failregex: 0 total\nIgnoreregex: 0 total\nLines: 2 lines, 0 ignored, 0 matched, 2 missed\nMatched lines:\n",
+    },
+    // Dates that name their own zone are the same moment in each.
+    Row {
+        words: &[
+            "-v",
+            "2024-03-01T12:00:10Z from 192.0.2.7",
+            "^ from <HOST>$",
+        ],
+        status: 0,
+        said: "Failregex: 1 total\n   1) [1] ^ from <HOST>$\nIgnoreregex: 0 total\nLines: 1 lines, 0 ignored, 1 matched, 0 missed\nMatched lines:\n   1) 192.0.2.7 1709287210 2024-03-01T10:00:10+00:00 1-20 2024-03-01T12:00:10Z from 192.0.2.7\n",
+    },
+    Row {
+        words: &[
+            "-v",
+            "01/Mar/2024:09:00:00 +0100 from 192.0.2.7",
+            "^ from <HOST>$",
+        ],
+        status: 0,
+        said: "Failregex: 1 total\n   1) [1] ^ from <HOST>$\nIgnoreregex: 0 total\nLines: 1 lines, 0 ignored, 1 matched, 0 missed\nMatched lines:\n   1) 192.0.2.7 1709280000 2024-03-01T08:00:00+00:00 1-26 01/Mar/2024:09:00:00 +0100 from 192.0.2.7\n",
+    },
+    Row {
+        words: &["-v", "1709280000 from 192.0.2.7", "^ from <HOST>$"],
+        status: 0,
+        said: "Failregex: 1 total\n   1) [1] ^ from <HOST>$\nIgnoreregex: 0 total\nLines: 1 lines, 0 ignored, 1 matched, 0 missed\nMatched lines:\n   1) 192.0.2.7 1709280000 2024-03-01T08:00:00+00:00 1-10 1709280000 from 192.0.2.7\n",
+    },
+    Row {
+        words: &[
+            "-v",
+            "-d",
+            "%Y-%m-%d %H:%M:%S %z",
+            "2024-03-01 12:00:10 +0000 from 192.0.2.7",
+            "^ from <HOST>$",
+        ],
+        status: 0,
+        said: "Failregex: 1 total\n   1) [1] ^ from <HOST>$\nIgnoreregex: 0 total\nLines: 1 lines, 0 ignored, 1 matched, 0 missed\nMatched lines:\n   1) 192.0.2.7 1709287210 2024-03-01T10:00:10+00:00 1-25 2024-03-01 12:00:10 +0000 from 192.0.2.7\n",
+    },
+    // Dates that name none, by a pattern and without a year.
+    Row {
+        words: &[
+            "-v",
+            "-d",
+            "%Y-%m-%d %H:%M:%S",
+            "2024-03-01 12:00:10 from 192.0.2.7",
+            "^ from <HOST>$",
+        ],
+        status: 0,
+        said: "Failregex: 1 total\n   1) [1] ^ from <HOST>$\nIgnoreregex: 0 total\nLines: 1 lines, 0 ignored, 1 matched, 0 missed\nMatched lines:\n   1) 192.0.2.7 1709287210 2024-03-01T10:00:10+00:00 1-19 2024-03-01 12:00:10 from 192.0.2.7\nWARNING the last 1 dates are too old, or to come, by whole half hours: write --timezone UTC+0200, and logtimezone = UTC+0200\n",
+    },
+    Row {
+        words: &["-v", "Mar  1 12:00:10 from 192.0.2.7", "^ from <HOST>$"],
+        status: 0,
+        said: "Failregex: 1 total\n   1) [1] ^ from <HOST>$\nIgnoreregex: 0 total\nLines: 1 lines, 0 ignored, 1 matched, 0 missed\nMatched lines:\n   1) 192.0.2.7 1709287210 2024-03-01T10:00:10+00:00 1-15 Mar  1 12:00:10 from 192.0.2.7\nWARNING the last 1 dates are too old, or to come, by whole half hours: write --timezone UTC+0200, and logtimezone = UTC+0200\n",
+    },
+    // A date that names its own zone ends a row.
+    Row {
+        words: &["-v", "/named", "^ from <HOST>$"],
+        status: 0,
+        said: "Failregex: 0 total\nIgnoreregex: 0 total\nLines: 3 lines, 0 ignored, 0 matched, 3 missed\nMatched lines:\nWARNING the last 1 dates are too old, or to come, by whole half hours: write --timezone UTC+0200, and logtimezone = UTC+0200\n",
     },
 ];
 

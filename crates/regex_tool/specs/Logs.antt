@@ -1,5 +1,6 @@
 -- The lines of a log, what a filter finds in them, and what is seen of their dates.
-use Rattle.std.specs.Prelude.{ℕ, ℤ, Bool, List, [], ◌∷◌, ◌++◌, map, Option, None, Some, option_and_then, if◌then◌else◌}
+use Rattle.std.specs.Prelude.{ℕ, ℤ, pos, int_le, ◌-ℤ◌, ◌&&◌, Bool, false, List, [], ◌∷◌, ◌++◌, map, Option, None, Some, option_and_then, if◌then◌else◌}
+use Rattle.std.specs.Option.{option_map_or}
 use Rattle.date_detect.specs.Dates.{date_in}
 use Rattle.date_detect.specs.Forms.{Rule, rule_of}
 use Rattle.date_detect.specs.declared.search.Found.{Found}
@@ -55,15 +56,26 @@ date_by (Some dates) now zone line = date_of dates now zone line
 abbrev pub date_if : Looks → ℕ → Line → Option Found
 date_if looks now line = date_by looks.dates now looks.zone line
 
--- the other zone in which a date would be of the last minute
-abbrev pub other_if : ℕ → (zone : ℤ) → Option Found → Option ℤ
-other_if now zone = option_and_then (λ (date : Found). other_zone now zone date.secs)
+abbrev pub is_of_last_minute : ℕ → Found → Bool
+is_of_last_minute now date = int_le (pos 0) (pos now -ℤ date.secs) && int_le (pos now -ℤ date.secs) (pos 60)
+
+-- in that zone the line has a date, and one of the last minute
+abbrev pub is_now_in : Option Rule → ℕ → Line → (zone : ℤ) → Bool
+is_now_in dates now line zone = option_map_or (is_of_last_minute now) (date_by dates now zone line) false
+
+abbrev pub if_now_in : Option Rule → ℕ → Line → (zone : ℤ) → Option ℤ
+if_now_in dates now line zone = if is_now_in dates now line zone then Some zone else None
+
+-- The other zone of a line's date, which is too old, or to come, by whole half hours: there the date is of the last minute. One that
+-- names its own zone is the same moment in each, and so has no other zone.
+abbrev pub other_if : Option Rule → ℕ → (zone : ℤ) → Line → Option Found → Option ℤ
+other_if dates now zone line = option_and_then (λ (date : Found). option_and_then (if_now_in dates now line) (other_zone now zone date.secs))
 
 abbrev pub seen_of : Looks → ℕ → Line → Seen
 seen_of looks now line = record {
   finding = finding_of looks.rules now line;
   date = date_if looks now line;
-  other = other_if now looks.zone (date_if looks now line);
+  other = other_if looks.dates now looks.zone line (date_if looks now line);
 }
 
 -- the line of a rest, if there is one

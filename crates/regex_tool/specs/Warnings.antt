@@ -68,10 +68,10 @@ elsewhere_warning lines =
 unfoldable pub zone_advice : ℤ → List ℕ
 zone_advice other = offset_text other ++ codes ", and logtimezone = UTC" ++ offset_text other ++ codes "\n"
 
--- how many of the last ones are too old, or to come, by whole half hours, and in which zone the last one would not be
+-- how many of the last ones are too old, or to come, by whole half hours, and in which zone the last one is of the last minute
 abbrev pub run_warning : (run : ℕ) → ℤ → List ℕ
 run_warning run other =
-    counted (codes "WARNING the last ") run (codes " dates are too old, or to come, by whole half hours: where they name no zone, write --timezone UTC") ++ zone_advice other
+    counted (codes "WARNING the last ") run (codes " dates are too old, or to come, by whole half hours: write --timezone UTC") ++ zone_advice other
 
 abbrev pub zone_warning : (run : ℕ) → Option ℤ → List ℕ
 zone_warning run None = []

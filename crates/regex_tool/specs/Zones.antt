@@ -27,6 +27,6 @@ half_hours_since (pos seconds) =
 abbrev pub used_zone : ℤ → Option ℤ
 used_zone seconds = if int_le (neg_ℤ (pos 43_200)) seconds && int_le seconds (pos 50_400) then Some seconds else None
 
--- A date in a zone is too old, or to come, by whole half hours: in this other zone it would be of the last minute.
+-- A date in a zone is too old, or to come, by whole half hours: in this other zone it would be of the last minute, unless it names its own.
 unfoldable pub other_zone : (now : ℕ) → (zone moment : ℤ) → Option ℤ
 other_zone now zone moment = option_and_then (λ n. used_zone (zone +ℤ pos 93_600 -ℤ pos (n * 1_800))) (half_hours_since (seconds_since now moment))

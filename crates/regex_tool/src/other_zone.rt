@@ -1,4 +1,4 @@
-//! Dates of another zone: too old, or to come, by whole half hours.
+//! Moments that are too old, or to come, by whole half hours, as those of dates of another zone are.
 ghost use Rattle.std.specs.Prelude.{◌≡◌, ◌≤◌, ◌*◌, ◌+ℤ◌, ◌-ℤ◌, pos, IfSome};
 ghost use Rattle.regex_tool.specs.Zones.{half_hours_since, other_zone, seconds_since, used_zone};
 
@@ -39,7 +39,8 @@ fn zone_by(zone: Zone, number: u32) -> Option<Zone>
     Zone::used(zone.seconds() + i64::from(WIDEST) - i64::from(number * 1_800))
 }
 
-/// The other zone in which a date would be of the last minute, where it is too old, or to come, by whole half hours.
+/// The other zone in which a date of that moment would be of the last minute, where it is too old, or to come, by whole half hours and
+/// names no zone.
 #[tactic(auto, unfolding(crate::specs::Zones::other_zone))]
 pub(crate) fn other_zone(now: u64, zone: Zone, moment: i64) -> Option<Zone>
     ensures { result ≡ other_zone now zone moment }

@@ -1,6 +1,6 @@
 //! `LineSearch`, which looks into the lines of a log.
 ghost use Rattle.std.specs.Prelude.{◌≡◌, ◌<◌, ◌^◌, [], IfOk};
-ghost use Rattle.regex_tool.specs.Logs.{date_by, date_of, finding_of, other_if, seen_of};
+ghost use Rattle.regex_tool.specs.Logs.{date_by, date_of, finding_of, if_now_in, is_now_in, is_of_last_minute, other_if, seen_of};
 
 use crate::other_zone::other_zone;
 use crate::seen::Seen;
@@ -72,12 +72,56 @@ fn date_by(dates: &mut Option<DateSearcher<'_>>, line: &Line, now: u64, zone: Zo
     date_of(searcher, line, now, zone)
 }
 
-/// The other zone in which a date would be of the last minute.
-fn other_if(now: u64, zone: Zone, date: Option<Found>) -> Option<Zone>
-    ensures { result ≡ other_if now zone date }
+fn is_of_last_minute(now: u64, date: Found) -> bool
+    ensures { result ≡ is_of_last_minute now date }
+{
+    let since = i128::from(now) - i128::from(date.secs);
+    0 <= since && since <= 60
+}
+
+/// Whether in that zone the line has a date, and one of the last minute.
+fn is_now_in(dates: &mut Option<DateSearcher<'_>>, line: &Line, now: u64, zone: Zone) -> bool
+    ensures value { result ≡ is_now_in dates.old now line.now zone }
+    ensures same { dates.new ≡ dates.old }
+{
+    match date_by(dates, line, now, zone) {
+        Some(date) => is_of_last_minute(now, date),
+        None => false,
+    }
+}
+
+/// The zone itself, where that is so.
+fn if_now_in(
+    dates: &mut Option<DateSearcher<'_>>,
+    line: &Line,
+    now: u64,
+    zone: Zone,
+) -> Option<Zone>
+    ensures value { result ≡ if_now_in dates.old now line.now zone }
+    ensures same { dates.new ≡ dates.old }
+{
+    if is_now_in(dates, line, now, zone) {
+        Some(zone)
+    } else {
+        None
+    }
+}
+
+/// The other zone of a line's date, which is too old, or to come, by whole half hours: there the line is looked at once more, and its date
+/// is of the last minute. One that names its own zone has none.
+fn other_if(
+    dates: &mut Option<DateSearcher<'_>>,
+    line: &Line,
+    now: u64,
+    zone: Zone,
+    date: Option<Found>,
+) -> Option<Zone>
+    ensures value { result ≡ other_if dates.old now zone line.now date }
+    ensures same { dates.new ≡ dates.old }
 {
     let date = date?;
-    other_zone(now, zone, date.secs)
+    let other = other_zone(now, zone, date.secs)?;
+    if_now_in(dates, line, now, other)
 }
 
 impl<'f> LineSearch<'f> {
@@ -94,11 +138,12 @@ impl<'f> LineSearch<'f> {
         ensures same { self.new ≡ self.old }
     {
         let date = date_by(&mut self.dates, line, now, self.zone);
+        let other = other_if(&mut self.dates, line, now, self.zone, date);
         let finding = found(&mut self.finds, nobody, line, now)?;
         Ok(Seen {
             finding,
             date,
-            other: other_if(now, self.zone, date),
+            other,
         })
     }
 }

@@ -10,6 +10,6 @@ pub(crate) struct Seen {
     pub finding: Finding,
     /// Its date, where dates are to be shown.
     pub date: Option<Found>,
-    /// The other zone in which that date would be of the last minute, where it is too old, or to come, by whole half hours.
+    /// The other zone in which the line's date is of the last minute, where it is too old, or to come, by whole half hours.
     pub other: Option<Zone>,
 }

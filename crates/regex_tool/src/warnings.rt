@@ -168,8 +168,7 @@ fn push_advice(text: &mut Bytes, other: Zone) -> Result<(), NoMemory>
 fn push_run(alloc: Global, text: &mut Bytes, run: u64, other: Zone) -> Result<(), NoMemory>
     ensures { OnOk result (text.new ≡ text.old ++ run_warning run other) }
 {
-    let behind =
-        " dates are too old, or to come, by whole half hours: where they name no zone, write --timezone UTC";
+    let behind = " dates are too old, or to come, by whole half hours: write --timezone UTC";
     push_counted(alloc, text, "WARNING the last ", run, behind)?;
     push_advice(text, other)
 }
