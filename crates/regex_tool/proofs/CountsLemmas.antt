@@ -12,8 +12,8 @@ plus_cond true count = refl
 plus_cond false count = omega arith
 
 -- a line more is counted where the test holds of it
-pub count_by-one_more : (P : Finding → Bool) (findings : List Finding) (finding : Finding) → count_by P (findings ++ finding ∷ []) ≡ plus_if (P finding) (count_by P findings)
-count_by-one_more P findings finding = sum_by-append (λ x. cond (P x) 1 0) findings (finding ∷ []) ∙ plus_cond (P finding) (count_by P findings)
+pub count_by-one_more : {X : Type 0} (P : X → Bool) (xs : List X) (x : X) → count_by P (xs ++ x ∷ []) ≡ plus_if (P x) (count_by P xs)
+count_by-one_more P xs x = sum_by-append (λ y. cond (P y) 1 0) xs (x ∷ []) ∙ plus_cond (P x) (count_by P xs)
 
 count_by-one_more_as : (P : Finding → Bool) (findings : List Finding) (finding : Finding) (holds : Bool) → P finding ≡ holds →
     count_by P (findings ++ finding ∷ []) ≡ plus_if holds (count_by P findings)

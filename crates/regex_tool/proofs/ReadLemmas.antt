@@ -13,8 +13,8 @@ use Rattle.log_follow.specs.declared.carry.Carry.TheVariants.{Kept}
 use Rattle.log_follow.specs.declared.line.Line.{Line}
 use Rattle.regex_tool.specs.Counts.{counts_of, counted}
 use Rattle.regex_tool.specs.Logs.{Looks, date_if, finding_of, findings_of, last_line, log_lines, looks_of, seen_of}
-use Rattle.regex_tool.specs.Notes.{no_notes, notes_after, notes_with}
-use Rattle.regex_tool.specs.Results.{Adds, AddsFindings, AreResults, HasRead}
+use Rattle.regex_tool.specs.Notes.{no_notes, notes_after, notes_of}
+use Rattle.regex_tool.specs.Results.{Adds, AddsFindings, AddsNotes, AreResults, HasRead}
 use Rattle.regex_tool.specs.Sections.{no_sections, sections_after, sections_with}
 use Rattle.regex_tool.specs.declared.counts.Counts.{Counts}
 use Rattle.regex_tool.specs.declared.log_test.LogTest.{LogTest}
@@ -24,7 +24,7 @@ use Rattle.regex_tool.specs.declared.sections.Sections.{Sections}
 use Rattle.regex_tool.specs.declared.seen.Seen.{Seen}
 use Rattle.regex_tool.specs.declared.shows.Shows.{Shows}
 use Rattle.regex_tool.proofs.CountsLemmas.{counts_of-one_more}
-use Rattle.regex_tool.proofs.NoteLemmas.{notes-none, notes-one, notes-both}
+use Rattle.regex_tool.proofs.NoteLemmas.{notes_of-none, notes_of-one_more}
 use Rattle.regex_tool.proofs.SectionLemmas.{sections-none, sections-one, sections-both}
 
 -- a line more
@@ -53,6 +53,10 @@ findings_of-none : (rules : Rules) (now : ℕ) → findings_of rules now [] ≡ 
 unfolding findings_of
 findings_of-none rules now = refl
 
+-- a line more
+adds_note : (looks : Looks) (now : ℕ) (old new : DateNotes) (line : Line) → new ≡ notes_after old line (seen_of looks now line) → AddsNotes looks now old (line ∷ []) new
+adds_note looks now old new line is lines start = is ∙ (ap (λ (n : DateNotes). notes_after n line (seen_of looks now line)) start ∙ sym (notes_of-one_more looks now lines line))
+
 -- ---- what was read
 
 lines_of-none : lines_of [] ≡ []
@@ -76,7 +80,7 @@ are_more jail shows looks now at lines more old new same clock before adds =
     record {
       counts = own.counts jail (findings_of (rules_of jail) now lines) before.counts ∙ ap (counts_of jail) (sym (findings_of-append (rules_of jail) now lines more));
       sections = own.sections ∙ (ap (λ (s : Sections). sections_with s (looks_of jail shows) now more) before.sections ∙ sections-both (looks_of jail shows) now (no_sections shows) lines more);
-      notes = own.notes ∙ (ap (λ (n : DateNotes). notes_with n (looks_of jail shows) now more) before.notes ∙ notes-both (looks_of jail shows) now no_notes lines more);
+      notes = own.notes lines before.notes;
     }
 
 -- no line
@@ -85,7 +89,7 @@ are_none : (jail : JailDef) (shows : Shows) (now : ℕ) (results : Results) → 
 are_none jail shows now results counts sections notes = record {
   counts = counts ∙ ap (counts_of jail) (sym (findings_of-none (rules_of jail) now));
   sections = sections ∙ sym (sections-none (looks_of jail shows) now (no_sections shows));
-  notes = notes ∙ sym (notes-none (looks_of jail shows) now no_notes);
+  notes = notes ∙ sym (notes_of-none (looks_of jail shows) now);
 }
 
 -- a test begins with no bytes
@@ -173,7 +177,7 @@ pub adds_none_of : (looks : Looks) (now : ℕ) (results : Results) → Adds look
 adds_none_of looks now results = record {
   counts = λ jail findings start. adds_none results.counts jail findings start ∙ ap (λ (more : List Finding). counts_of jail (findings ++ more)) (sym (findings_of-none looks.rules now));
   sections = sym (sections-none looks now results.sections);
-  notes = sym (notes-none looks now results.notes);
+  notes = λ lines start. start ∙ ap (notes_of looks now) (sym (append-nil lines));
 }
 
 -- one line
@@ -184,7 +188,7 @@ adds_line looks now old new line seen is counts sections notes =
     record {
       counts = λ jail findings start. adds_finding old.counts new.counts seen.finding counts jail findings start ∙ ap (λ (more : List Finding). counts_of jail (findings ++ more)) one;
       sections = sections ∙ (ap (sections_after old.sections line) is ∙ sections-one looks now old.sections line);
-      notes = notes ∙ (ap (notes_after old.notes line) is ∙ notes-one looks now old.notes line);
+      notes = adds_note looks now old.notes new.notes line (notes ∙ ap (notes_after old.notes line) is);
     }
 
 -- some lines, and then others
@@ -194,7 +198,7 @@ adds_both looks now old mid new first second one other = record {
       adds_both_findings old.counts mid.counts new.counts (findings_of looks.rules now first) (findings_of looks.rules now second) one.counts other.counts jail findings start
       ∙ ap (λ (more : List Finding). counts_of jail (findings ++ more)) (sym (findings_of-append looks.rules now first second));
   sections = other.sections ∙ (ap (λ (s : Sections). sections_with s looks now second) one.sections ∙ sections-both looks now old.sections first second);
-  notes = other.notes ∙ (ap (λ (n : DateNotes). notes_with n looks now second) one.notes ∙ notes-both looks now old.notes first second);
+  notes = λ lines start. other.notes (lines ++ first) (one.notes lines start) ∙ ap (notes_of looks now) (append_assoc lines first second);
 }
 
 -- the next of them

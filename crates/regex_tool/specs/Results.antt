@@ -8,10 +8,11 @@ use Rattle.log_follow.specs.Lines.{lines_of}
 use Rattle.log_follow.specs.declared.line.Line.{Line}
 use Rattle.regex_tool.specs.Counts.{counts_of}
 use Rattle.regex_tool.specs.Logs.{Looks, findings_of, looks_of}
-use Rattle.regex_tool.specs.Notes.{no_notes, notes_with}
+use Rattle.regex_tool.specs.Notes.{notes_of}
 use Rattle.regex_tool.specs.Sections.{no_sections, sections_with}
 use Rattle.regex_tool.specs.declared.counts.Counts.{Counts}
 use Rattle.regex_tool.specs.declared.log_test.LogTest.{LogTest}
+use Rattle.regex_tool.specs.declared.notes.DateNotes.{DateNotes}
 use Rattle.regex_tool.specs.declared.results.Results.{Results}
 use Rattle.regex_tool.specs.declared.shows.Shows.{Shows}
 
@@ -19,7 +20,7 @@ use Rattle.regex_tool.specs.declared.shows.Shows.{Shows}
 pub record AreResults (jail : JailDef) (shows : Shows) (now : ℕ) (lines : List Line) (results : Results) : Type 0 where
   pub counts : results.counts ≡ counts_of jail (findings_of (rules_of jail) now lines)
   pub sections : results.sections ≡ sections_with (no_sections shows) (looks_of jail shows) now lines
-  pub notes : results.notes ≡ notes_with no_notes (looks_of jail shows) now lines
+  pub notes : results.notes ≡ notes_of (looks_of jail shows) now lines
 
 -- what was read of a log is these bytes
 pub record HasRead (jail : JailDef) (shows : Shows) (now : ℕ) (test : LogTest) (seen : List ℕ) : Type 0 where
@@ -32,8 +33,12 @@ pub record HasRead (jail : JailDef) (shows : Shows) (now : ℕ) (test : LogTest)
 abbrev pub AddsFindings : Counts → List Finding → Counts → Type 0
 AddsFindings old more new = (jail : JailDef) (findings : List Finding) → old ≡ counts_of jail findings → new ≡ counts_of jail (findings ++ more)
 
+-- lines were noted behind others
+abbrev pub AddsNotes : Looks → (now : ℕ) → DateNotes → List Line → DateNotes → Type 0
+AddsNotes looks now old more new = (lines : List Line) → old ≡ notes_of looks now lines → new ≡ notes_of looks now (lines ++ more)
+
 -- lines were counted, shown and noted behind others
 pub record Adds (looks : Looks) (now : ℕ) (old : Results) (lines : List Line) (new : Results) : Type 0 where
   pub counts : AddsFindings old.counts (findings_of looks.rules now lines) new.counts
   pub sections : new.sections ≡ sections_with old.sections looks now lines
-  pub notes : new.notes ≡ notes_with old.notes looks now lines
+  pub notes : AddsNotes looks now old.notes lines new.notes

@@ -15,9 +15,9 @@ use log_follow::Line;
 pub(crate) struct DateNotes {
     /// How many lines have their date elsewhere than at the beginning.
     pub elsewhere: u64,
-    /// How many dates in a row, up to the last one, are too old, or to come, by whole half hours.
+    /// How many dates in a row, up to the last one, are of another zone.
     pub run: u64,
-    /// The other zone in which the last date would be of the last minute.
+    /// The other zone that the last date is of.
     pub other: Option<Zone>,
 }
 
@@ -28,7 +28,7 @@ fn is_at_front(text: &[u8], date: Found) -> bool
     date.start == 0 || (date.start == 1 && text.starts_with(b"["))
 }
 
-/// One date more in a row, or none where this one is not too old, or to come, by whole half hours.
+/// One date more in a row, or none where this one is of no other zone.
 fn run_after(other: Option<Zone>, run: u64) -> Result<u64, NoMemory>
     ensures { IfOk result (λ more. more ≡ run_after other run) }
 {
