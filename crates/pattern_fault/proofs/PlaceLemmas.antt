@@ -7,12 +7,12 @@ is_tried : (next back len : ℕ) → back < len → len < next + (back + 1) → 
 is_tried next back len within beyond = grind arith
 
 -- the place that was tried last is none, and so none of those that were tried
-pub none_before : (text : List ℕ) (offset back : ℕ) → back < length text → (IsBefore text offset (length text - back) → ⊥)
-    → ((next : ℕ) → length text < next + back → next ≤ length text → IsBefore text offset next → ⊥)
-    → (next : ℕ) → length text < next + (back + 1) → next ≤ length text → IsBefore text offset next → ⊥
-none_before text offset back within none tried next beyond inside before = none_of (is_tried next back (length text) within beyond) where
+pub none_before : (text : List ℕ) (Holds : ℕ → Type 0) (back : ℕ) → back < length text → (Holds (length text - back) → ⊥)
+    → ((next : ℕ) → length text < next + back → next ≤ length text → Holds next → ⊥)
+    → (next : ℕ) → length text < next + (back + 1) → next ≤ length text → Holds next → ⊥
+none_before text Holds back within none tried next beyond inside before = none_of (is_tried next back (length text) within beyond) where
   none_of : (next ≡ length text - back) ⊎ (length text < next + back) → ⊥
-  none_of (inl same) = none (subst (IsBefore text offset) same before)
+  none_of (inl same) = none (subst Holds same before)
   none_of (inr later) = tried next later inside before
 
 take-zero : (text : List ℕ) → take 0 text ≡ []

@@ -1,3 +1,4 @@
 pub mod Constructs
+pub mod DateFaults
 pub mod FaultLines
 pub mod Places

@@ -19,7 +19,7 @@ pub(crate) struct PatternFault {
 }
 
 /// The first fault of a text, or `None` where it is a pattern.
-fn fault_of(alloc: Global, text: &str) -> Result<Option<Error>, NoMemory>
+pub(crate) fn fault_of(alloc: Global, text: &str) -> Result<Option<Error>, NoMemory>
     ensures none { IfOk result (λ fault. IfNone fault (IsSome (reading text.now))) }
     ensures some { IfOk result (λ fault. OnSome fault (reading text.now ≡ None)) }
     ensures within { IfOk result (λ fault. IfSome fault (λ f. f.span.start ≤ length text.now)) }

@@ -1,10 +1,10 @@
 //! The line that is told of a pattern which is no pattern.
-ghost use Rattle.std.specs.Prelude.{◌≡◌, ◌++◌, None, IfNone, IfOk, IfSome, IsCharBoundary, IsSome, OnOk, OnSome};
+ghost use Rattle.std.specs.Prelude.{◌≡◌, ◌≤◌, ◌++◌, None, IfNone, IfOk, IfSome, IsCharBoundary, IsSome, OnOk, OnSome};
 ghost use Rattle.std.specs.Fmt.{decimal};
 ghost use Rattle.f2b_world.specs.Reading.{reading};
 ghost use Rattle.host_ident.specs.Expanded.{expanded};
 ghost use Rattle.pattern_fault.specs.Constructs.{advice, construct_at};
-ghost use Rattle.pattern_fault.specs.FaultLines.{end_line, line_at, numbered_line, IsLineOn};
+ghost use Rattle.pattern_fault.specs.FaultLines.{end_line, line_behind, numbered_line, IsLineOn};
 
 use crate::construct::{advice, construct_between};
 use crate::fault::{PatternFault, pattern_fault};
@@ -12,7 +12,7 @@ use f2b_base::{NoMemory, Text};
 use std::alloc::Global;
 
 /// Why a text is no pattern, and for what many write by other dialects what to do without.
-fn why(pattern: &str, fault: PatternFault) -> &'static str
+pub(crate) fn why(pattern: &str, fault: PatternFault) -> &'static str
     requires { IsCharBoundary pattern.now fault.place }
     ensures { IfSome (construct_at pattern.now fault.place) (λ construct. result.now ≡ advice construct) }
 {
@@ -56,16 +56,23 @@ fn end_line(alloc: Global, why: &str) -> Result<Text, NoMemory>
     Text::from_str(alloc, line.as_str())
 }
 
-/// The line on a fault at a place.
-fn line_at(alloc: Global, pattern: &str, place: usize, why: &str) -> Result<Text, NoMemory>
-    requires { IsCharBoundary pattern.now place }
-    ensures { IfOk result (λ line. line ≡ line_at pattern.now place why.now) }
+/// The line on a fault at a place of a pattern, behind so many bytes of what was written.
+pub(crate) fn line_behind(
+    alloc: Global,
+    front: usize,
+    pattern: &str,
+    place: usize,
+    why: &str,
+) -> Result<Text, NoMemory>
+    requires front { front ≤ 9 }
+    requires place { IsCharBoundary pattern.now place }
+    ensures { IfOk result (λ line. line ≡ line_behind front pattern.now place why.now) }
 {
     if place == pattern.len() {
         return end_line(alloc, why);
     }
     let mut line = Text::new(alloc);
-    push_numbered(alloc, &mut line, place + 1, &pattern[place..], why)?;
+    push_numbered(alloc, &mut line, front + place + 1, &pattern[place..], why)?;
     Ok(line)
 }
 
@@ -79,6 +86,6 @@ pub fn fault_line(alloc: Global, pattern: &str) -> Result<Option<Text>, NoMemory
     let Some(fault) = pattern_fault(alloc, pattern)? else {
         return Ok(None);
     };
-    let line = line_at(alloc, pattern, fault.place, why(pattern, fault))?;
+    let line = line_behind(alloc, 0, pattern, fault.place, why(pattern, fault))?;
     Ok(Some(line))
 }

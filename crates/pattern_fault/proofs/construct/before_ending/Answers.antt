@@ -1,4 +1,4 @@
-use Rattle.std.proofs.Common.{◌≡◌, ◌-◌, true, false, length, nat_eq, rules, sym, subst, arith, ap}
+use Rattle.std.proofs.Common.{◌≡◌, ◌-◌, true, false, length, nat_eq, rules, sym, subst, arith}
 use Rattle.std.specs.List.{ends_with}
 use Rattle.std.specs.Str.{IsCharBoundary}
 use Rattle.std.proofs.lemmas.Str.Pattern.{ends_text}

@@ -1,5 +1,4 @@
 use Rattle.std.proofs.Common.{rules}
-use Rattle.pattern_fault.specs.Places.{IsPlaceIn}
 use Rattle.pattern_fault.proofs.line.fault_line.Goals as goal
 
 pub returns-clause-line : goal.returns-clause-line

@@ -8,16 +8,16 @@ loop-back-init c = λ next beyond within before. absurd (omega (arith, beyond, w
 
 pub loop-back-preserved : goal.loop-back-preserved
 loop-back-preserved c =
-    none_before c.args.pattern.now c.args.offset c.loop-back.back c.loop-back-test.true (λ before. search (rules, c.in_ok-is_before.ensures.yes.1 before, c.if-branch.false)) c.loop-back.invariant
+    none_before c.args.pattern.now _ c.loop-back.back c.loop-back-test.true (λ before. search (rules, c.in_ok-is_before.ensures.yes.1 before, c.if-branch.false)) c.loop-back.invariant
 
 pub returns-then-branch : goal.returns-then-branch
 returns-then-branch c = record {
-  before = c.in_ok-is_before.ensures.yes.0 (search rules);
+  holds = c.in_ok-is_before.ensures.yes.0 (search rules);
   last = λ next later within before. c.loop-back.invariant next (omega (arith, later, c.loop-back-test.true)) within before;
 }
 
 pub returns : goal.returns
 returns c = record {
-  before = front_is_before c.args.pattern.now c.args.offset (IsCharBoundary-start c.args.pattern.now c.utf8.pattern);
+  holds = front_is_before c.args.pattern.now c.args.offset (IsCharBoundary-start c.args.pattern.now c.utf8.pattern);
   last = λ next later within before. c.loop-back.invariant next (omega (arith, later, c.loop-back-test.false)) within before;
 }
