@@ -15,6 +15,10 @@ LOOK_AROUND = (
     " what must not\r\n"
 )
 
+NO_DIRECTIVE = (
+    "at byte 4 of the pattern, %B/%Y: no directive: there are %d, %m, %b, %Y, %y, %H, %M, %S, %z, %a, %f, and %% for a percent sign\r\n"
+)
+
 REPORT = """\
 Failregex: 1 total
    1) [1] ^ fail from <ADDR>$
@@ -180,10 +184,11 @@ def test_is_refused(room):
 
 
 # Filters with a fault, and what a terminal is told of each.
-FAULTY = {"second": "    (<ADDR>", "ignored": "ignoreregex = x(", "undated": "datepattern ="}
+FAULTY = {"second": "    (<ADDR>", "ignored": "ignoreregex = x(", "undated": "datepattern =", "unclosed": "datepattern = {^LN-BEG}%%d (%%m"}
 FAULTS = {
     "second": "at byte 1 of the pattern, (<ADDR>: unclosed group\r\n",
     "ignored": "at byte 2 of the pattern, (: unclosed group\r\n",
+    "unclosed": "at byte 13 of the pattern, (%m: unclosed group\r\n",
     "undated": "Epoch, ISO8601, {NONE}, {^LN-BEG}, or a pattern with %d, one of %m and %b, and at most once each %Y or %y, %H, %M, %S, %z, %a, %f and %%\r\n",
 }
 
@@ -212,6 +217,8 @@ def who_sits_at_a_terminal_is_helped(room):
     same(at_a_terminal(room, LINE, "(<ADDR>"), "at byte 1 of the pattern, (<ADDR>: unclosed group\r\n", "a group")
     same(at_a_terminal(room, LINE, 300 * "(" + "<ADDR>" + 300 * ")")[:28], "at byte 251 of the pattern, ", "a nest that is too deep")
     same(at_a_terminal(room, LINE, "fail"), "", "no host")
+    same(at_a_terminal(room, "-d", "%d/%B/%Y", LINE, PATTERN), NO_DIRECTIVE, "no directive")
+    same(at_a_terminal(room, "-d", "{^LN-BEG}%b", LINE, PATTERN), "at the end of the pattern: there is no %d, for the day\r\n", "no day")
     os.makedirs(room.path("conf/filter.d"), exist_ok=True)
     for name, items in FAULTY.items():
         write(room.path(f"conf/filter.d/{name}.conf"), f"[Definition]\nfailregex = from <ADDR>$\n{items}\n")

@@ -1,9 +1,12 @@
 -- The pattern at a place of a jail, and whether the words ask for details.
-use Rattle.std.specs.Prelude.{◌≡◌, ℕ, zero, suc, Bool, false, List, slice_get, Option, None, Some}
+use Rattle.std.specs.Prelude.{◌≡◌, ℕ, zero, suc, Bool, false, List, ◌++◌, slice_get, Option, None, Some}
+use Rattle.f2b_base.specs.declared.jail.DateSpec.{DateSpec}
+use Rattle.f2b_base.specs.declared.jail.DateSpec.TheVariants.{Pattern, AnchoredPattern}
 use Rattle.f2b_base.specs.declared.jail.JailDef.{JailDef}
 use Rattle.f2b_world.specs.Shelves.{Shelf}
 use Rattle.filter_regex.specs.declared.error.PatternPlace.{PatternPlace}
 use Rattle.filter_regex.specs.declared.error.PatternPlace.TheVariants.{Date, Pref, Fail, Ignore}
+use Rattle.jail_conf.specs.Dates.{anchor}
 use Rattle.regex_tool.specs.Asks.{Asks, asks_of}
 use Rattle.regex_tool.specs.Definitions.{IsDefined}
 
@@ -12,9 +15,15 @@ abbrev pub numbered : ℕ → List (List ℕ) → Option (List ℕ)
 numbered zero texts = None
 numbered (suc k) texts = slice_get texts k
 
--- the pattern at a place; that of dates has no tags, and is none of these
+-- a user's date pattern, with `{^LN-BEG}` where he wrote it
+abbrev pub date_text : DateSpec → Option (List ℕ)
+date_text (Pattern text) = Some text
+date_text (AnchoredPattern text) = Some (anchor ++ text)
+date_text _ = None
+
+-- the pattern at a place
 abbrev pub pattern_in : JailDef → PatternPlace → Option (List ℕ)
-pattern_in jail Date = None
+pattern_in jail Date = date_text jail.date
 pattern_in jail Pref = jail.pref
 pattern_in jail (Fail number) = numbered number jail.fail
 pattern_in jail (Ignore number) = numbered number jail.ignore_lines
