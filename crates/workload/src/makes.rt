@@ -1,0 +1,43 @@
+//! The patterns that a run asks for.
+ghost use Rattle.std.specs.Prelude.{◌≡◌, IsTrue, MatchOption, [], ◌∷◌};
+ghost use Rattle.f2b_world.specs.declared.event.Event.TheVariants.{Make};
+ghost use Rattle.workload.specs.Calls.{makes_in};
+
+use f2b_base::Text;
+use f2b_world::{Event, MakeAnswer};
+
+/// The pattern that an event asks for, and whether it was built.
+pub fn make_of(event: &Event) -> Option<(&Text, MakeAnswer)>
+    ensures { MatchOption result (makes_in (event.now ∷ []) ≡ []) (λ make. event.now ≡ Make make.0.now make.1) }
+{
+    match event {
+        Event::Make { text, answer } => Some((text, *answer)),
+        _ => None,
+    }
+}
+
+// Whether an event asks for that pattern, with that answer.
+fn is_make(event: &Event, text: &Text, answer: MakeAnswer) -> bool
+    ensures { IsTrue result → event.now ≡ Make text.now answer }
+{
+    match make_of(event) {
+        Some((other, given)) => other.as_str() == text.as_str() && given == answer,
+        None => false,
+    }
+}
+
+/// Whether the events ask for just these patterns, with these answers, in order.
+pub fn are_makes(events: &[Event], makes: &[Event]) -> bool
+    ensures { IsTrue result → makes.now ≡ makes_in events.now }
+{
+    let mut left = makes;
+    for event in events {
+        if let Some((text, answer)) = make_of(event) {
+            match left {
+                [first, rest @ ..] if is_make(first, text, answer) => left = rest,
+                _ => return false,
+            }
+        }
+    }
+    left.is_empty()
+}

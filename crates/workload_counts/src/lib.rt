@@ -1,0 +1,13 @@
+//! What a measurement counts: the numbers of one jail and of the jobs, by what a server keeps, and the line that tells them.
+//!
+//! ```text
+//! let counts = counts(engine.core(), "load")?;             // of the state that a run left
+//! sink.say(summary(alloc, 7, 20_000, &counts)?.as_slice()) // workload seed=7 size=20000 failures=F bans=B unbans=U jobs=J active=A
+//! ```
+#![tactic(auto)]
+
+mod counts;
+mod summary;
+
+pub use counts::{Counts, counts};
+pub use summary::summary;
