@@ -1,0 +1,5 @@
+pub mod RunLemmas
+pub mod AskLemmas
+pub mod ImageLemmas
+pub mod CountLemmas
+pub mod AgreeLemmas

@@ -1,8 +1,6 @@
 -- What a measurement asks of the world that it is called with.
 use Rattle.std.specs.Prelude.{ℕ, ◌≡◌, ◌++◌, Option, List, [], ◌∷◌}
 use Rattle.f2b_world.specs.Told.{History, Adds}
-use Rattle.f2b_world.specs.declared.answer.MakeAnswer.{MakeAnswer}
-use Rattle.f2b_world.specs.declared.answer.MakeAnswer.TheVariants.{Built}
 use Rattle.f2b_world.specs.declared.answer.Said.{Said}
 use Rattle.f2b_world.specs.declared.event.Event.{Event}
 use Rattle.f2b_world.specs.declared.event.Event.TheVariants.{Make, Say}
@@ -17,10 +15,20 @@ makes_in (_ ∷ es) = makes_in es
 abbrev pub AreMakes : List Event → Type 0
 AreMakes es = makes_in es ≡ es
 
+-- just these calls were made
+pub record Asks (old new : Option History) (calls : List Event) : Type 0 where
+  pub adds : Adds old new (λ g es. es ≡ calls)
+
+-- just the calls were made that the longer list has more
+pub record AsksMore (old new : Option History) (before after : List Event) : Type 0 where
+  pub more : List Event
+  pub behind : after ≡ before ++ more
+  pub asks : Asks old new more
+
 -- patterns were asked for, and nothing else
-abbrev pub OnlyAsks : Option History → Option History → Type 0
-OnlyAsks old new = Adds old new (λ g es. AreMakes es)
+pub record OnlyAsks (old new : Option History) : Type 0 where
+  pub adds : Adds old new (λ g es. AreMakes es)
 
 -- patterns were asked for, and then a line was said, with this answer
 pub record AsksThenSays (old new : Option History) (answer : Said) : Type 0 where
-  pub calls : Adds old new (λ g es. (makes : List Event) × (line : List ℕ) × AreMakes makes × (es ≡ makes ++ Say line answer ∷ []))
+  pub adds : Adds old new (λ g es. (makes : List Event) × (line : List ℕ) × AreMakes makes × (es ≡ makes ++ Say line answer ∷ []))

@@ -1,6 +1,6 @@
 -- A measurement that was made.
 use Rattle.std.specs.Prelude.{ℕ, ◌≡◌, ◌++◌, Option, List, [], ◌∷◌}
-use Rattle.f2b_world.specs.Told.{History, Adds}
+use Rattle.f2b_world.specs.Told.{History}
 use Rattle.f2b_world.specs.declared.answer.Said.TheVariants.{Done}
 use Rattle.f2b_world.specs.declared.event.Event.{Event}
 use Rattle.f2b_world.specs.declared.event.Event.TheVariants.{Say}
@@ -8,7 +8,7 @@ use Rattle.run_law.specs.declared.status.Status.{Status}
 use Rattle.workload_counts.specs.Summaries.{summary}
 use Rattle.workload_counts.specs.declared.counts.Counts.{Counts}
 use Rattle.workload_script.specs.Scripts.{script_for}
-use Rattle.workload.specs.Calls.{makes_in}
+use Rattle.workload.specs.Calls.{Asks, makes_in}
 use Rattle.workload.specs.Plays.{AreCountsOf, IsWholeRun}
 
 -- A whole run over the script of a seed and a size, with what it counted. Calls of the run fail at these places: a pattern that was not built.
@@ -23,7 +23,7 @@ pub record Measures (seed size : ℕ) (old new : Option History) (line : List �
   pub events : List Event
   pub counts : Counts
   pub measured : IsMeasured seed size events counts
-  pub asks : Adds old new (λ g es. es ≡ makes_in events)
+  pub asks : Asks old new (makes_in events)
   pub line : line ≡ summary seed size counts
 
 -- and the line was said, as the last call
@@ -31,4 +31,4 @@ pub record MeasuresAndSays (seed size : ℕ) (old new : Option History) : Type 0
   pub events : List Event
   pub counts : Counts
   pub measured : IsMeasured seed size events counts
-  pub calls : Adds old new (λ g es. es ≡ makes_in events ++ Say (summary seed size counts) Done ∷ [])
+  pub calls : Asks old new (makes_in events ++ Say (summary seed size counts) Done ∷ [])

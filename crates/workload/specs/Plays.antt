@@ -1,11 +1,11 @@
 -- A run over a script that is played from its beginning to the end.
 use Rattle.std.specs.Prelude.{ℕ, ◌≡◌, ◌≢◌, Option, Some, codes, length, List, [], ◌∷◌}
 use Rattle.f2b_base.specs.declared.input.Input.{Input}
-use Rattle.f2b_world.specs.Told.{History, Adds}
+use Rattle.f2b_world.specs.Told.{History}
 use Rattle.f2b_world.specs.declared.event.Event.{Event}
 use Rattle.f2b_mem.specs.Plays.{Plays}
 use Rattle.f2b_mem.specs.Stages.{history_of}
-use Rattle.f2b_mem.specs.Worlds.{events_of}
+use Rattle.f2b_mem.specs.Worlds.{events_of, history_of_world, script_of}
 use Rattle.f2b_mem.specs.declared.script.Script.{Script}
 use Rattle.many_runs.specs.OneState.{Count, view_then}
 use Rattle.many_runs.specs.Sessions.{Session}
@@ -16,7 +16,7 @@ use Rattle.run_law.specs.declared.status.Status.TheVariants.{NoMemory}
 use Rattle.workload_counts.specs.Counted.{counts_in}
 use Rattle.workload_counts.specs.declared.counts.Counts.{Counts}
 use Rattle.workload_script.specs.Scripts.{script_for}
-use Rattle.workload.specs.Calls.{makes_in}
+use Rattle.workload.specs.Calls.{Asks, makes_in}
 use Rattle.workload.specs.declared.played.Played.{Played}
 
 -- the words of the run
@@ -30,9 +30,14 @@ pub record IsWholeRun (script : Script) (status : Status) (events : List Event) 
   pub runs : IsRun (Some (history_of script [])) (Some (history_of script events)) conf_words status
   pub memory : status ≢ NoMemory
 
+-- a run over the script, which may have been cut
+pub record IsServed (script : Script) (played : Played) : Type 0 where
+  pub runs : IsRun (Some (history_of script [])) (history_of_world played.world) conf_words played.status
+
 -- such a run over the script of a seed and a size, in which the calls at these places fail, and its world behind it
 pub record IsPlayed (seed size : ℕ) (fails : List ℕ) (played : Played) : Type 0 where
   pub events : List Event
+  pub script : script_of played.world ≡ script_for seed size fails
   pub told : events_of played.world ≡ Some events
   pub run : IsWholeRun (script_for seed size fails) played.status events
 
@@ -58,7 +63,7 @@ pub record IsSomePlayed (seed size : ℕ) (played : Played) : Type 0 where
 pub record IsAgreed (seed size : ℕ) (old new : Option History) (played : Played) : Type 0 where
   pub fails : List ℕ
   pub run : IsPlayed seed size fails played
-  pub asks : Adds old new (λ g es. es ≡ makes_in run.events)
+  pub asks : Asks old new (makes_in run.events)
 
 -- what a run counted that was played, whatever its script
 pub record CountsOf (played : Played) (counts : Counts) : Type 0 where

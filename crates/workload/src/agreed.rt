@@ -1,6 +1,5 @@
 //! A run in which each pattern is answered as the caller answers it.
 ghost use Rattle.std.specs.Prelude.{◌≡◌, IfOk};
-ghost use Rattle.f2b_world.specs.Told.{Adds};
 ghost use Rattle.run_law.specs.Stages.{IsSteady};
 ghost use Rattle.workload.specs.Calls.{OnlyAsks};
 ghost use Rattle.workload.specs.Plays.{IsAgreed, IsPlayed, IsSomePlayed};
@@ -22,6 +21,7 @@ fn places(alloc: Global, place: Option<u64>) -> Result<Seq<u64>, NoMemory> {
 }
 
 /// The same run, or one in which the call at that place fails.
+#[tactic(auto, using(crate::proofs::AgreeLemmas::agreeing))]
 fn play_again(
     alloc: Global,
     seed: u64,
@@ -40,6 +40,7 @@ fn play_again(
 }
 
 /// A whole run, whose patterns the caller was asked for: where it does not build one, that one is not built in the run.
+#[tactic(auto, using(crate::proofs::AgreeLemmas::agreeing, crate::proofs::AskLemmas::asking))]
 pub fn play_agreed<K: Patterns>(
     alloc: Global,
     seed: u64,

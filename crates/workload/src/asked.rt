@@ -1,10 +1,10 @@
 //! The patterns of a run, as a caller is asked for them.
-ghost use Rattle.std.specs.Prelude.{◌≡◌, ◌++◌, [], ◌∷◌, IfOk, OnOk, OnErr};
-ghost use Rattle.f2b_world.specs.Told.{Adds, make_event};
+ghost use Rattle.std.specs.Prelude.{◌≡◌, [], ◌∷◌, List, ℕ, Some, IfOk, OnErr};
+ghost use Rattle.f2b_world.specs.Told.{make_event};
 ghost use Rattle.f2b_world.specs.declared.event.Event.TheVariants.{Make};
 ghost use Rattle.f2b_world.specs.declared.pattern.Made.TheVariants.{NoMemory as MadeNothing};
 ghost use Rattle.run_law.specs.Stages.{IsSteady};
-ghost use Rattle.workload.specs.Calls.{OnlyAsks};
+ghost use Rattle.workload.specs.Calls.{Asks, AsksMore, OnlyAsks};
 
 use crate::makes::make_of;
 use f2b_base::{NoMemory, Plain, Text};
@@ -33,38 +33,59 @@ fn answer_of(made: &Made) -> Result<MakeAnswer, NoMemory>
     }
 }
 
-/// Asks for one pattern.
+// Asks for one pattern, and says whether the answer is this one.
+#[tactic(auto, using(crate::proofs::AskLemmas::asking))]
 fn ask_one<K: Patterns>(
     sink: &mut K,
     makes: &mut Vec<Event>,
     text: &Text,
-) -> Result<MakeAnswer, NoMemory>
-    ensures ok { IfOk result (λ answer. (makes.new.items ≡ makes.old.items ++ Make text.now answer ∷ []) × Adds (K.stands sink.old).told (K.stands sink.new).told (λ g es. es ≡ Make text.now answer ∷ [])) }
+    answer: MakeAnswer,
+) -> Result<bool, NoMemory>
+    ensures ok { IfOk result (λ same. AsksMore (K.stands sink.old).told (K.stands sink.new).told makes.old.items makes.new.items) }
     ensures calls { OnlyAsks (K.stands sink.old).told (K.stands sink.new).told }
     ensures steady { IsSteady (K.stands sink.old) (K.stands sink.new) }
 {
     let text = text.copy()?;
     let made = sink.make(text.as_str());
-    let answer = answer_of(&made)?;
-    makes.push(Event::Make { text, answer })?;
-    Ok(answer)
+    let given = answer_of(&made)?;
+    makes.push(Event::Make {
+        text,
+        answer: given,
+    })?;
+    Ok(given == answer)
+}
+
+// Asks for the pattern of an event, if it is of one, and says whether the answer is the event's.
+#[tactic(auto, using(crate::proofs::AskLemmas::asking))]
+fn ask_again<K: Patterns>(
+    sink: &mut K,
+    makes: &mut Vec<Event>,
+    event: &Event,
+) -> Result<bool, NoMemory>
+    ensures ok { IfOk result (λ same. AsksMore (K.stands sink.old).told (K.stands sink.new).told makes.old.items makes.new.items) }
+    ensures calls { OnlyAsks (K.stands sink.old).told (K.stands sink.new).told }
+    ensures steady { IsSteady (K.stands sink.old) (K.stands sink.new) }
+{
+    match make_of(event) {
+        Some((text, answer)) => ask_one(sink, makes, text, answer),
+        None => Ok(true),
+    }
 }
 
 /// Asks for the patterns of these events, in order, up to the first that is answered otherwise.
+#[tactic(auto, using(crate::proofs::AskLemmas::asking))]
 pub fn ask<K: Patterns>(alloc: Global, sink: &mut K, events: &[Event]) -> Result<Asked, NoMemory>
-    ensures ok { IfOk result (λ asked. Adds (K.stands sink.old).told (K.stands sink.new).told (λ g es. es ≡ asked.makes.items)) }
+    ensures ok { IfOk result (λ asked. Asks (K.stands sink.old).told (K.stands sink.new).told asked.makes.items) }
     ensures calls { OnlyAsks (K.stands sink.old).told (K.stands sink.new).told }
     ensures steady { IsSteady (K.stands sink.old) (K.stands sink.new) }
 {
     let mut makes = Vec::new(alloc);
     for (place, event) in events.iter().enumerate() {
-        if let Some((text, answer)) = make_of(event) {
-            if ask_one(sink, &mut makes, text)? != answer {
-                return Ok(Asked {
-                    makes,
-                    other: Some(place as u64),
-                });
-            }
+        if !ask_again(sink, &mut makes, event)? {
+            return Ok(Asked {
+                makes,
+                other: Some(place as u64),
+            });
         }
     }
     Ok(Asked { makes, other: None })

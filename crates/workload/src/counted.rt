@@ -15,6 +15,7 @@ const JAIL: &str = "load";
 const LIMIT: u64 = 67_108_864;
 
 /// What the run counted, by what it left in its slots.
+#[tactic(auto, using(crate::proofs::CountLemmas::counting))]
 pub fn count(alloc: Global, played: Played) -> Result<Counts, NoMemory>
     ensures { IfOk result (CountsOf played) }
 {

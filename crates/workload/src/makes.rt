@@ -1,5 +1,5 @@
 //! The patterns that a run asks for.
-ghost use Rattle.std.specs.Prelude.{◌≡◌, IsTrue, MatchOption, [], ◌∷◌};
+ghost use Rattle.std.specs.Prelude.{◌≡◌, ◌++◌, [], ◌∷◌, IfSome, IsTrue, MatchOption, option_copied};
 ghost use Rattle.f2b_world.specs.declared.event.Event.TheVariants.{Make};
 ghost use Rattle.workload.specs.Calls.{makes_in};
 
@@ -26,18 +26,29 @@ fn is_make(event: &Event, text: &Text, answer: MakeAnswer) -> bool
     }
 }
 
+// The events that are left behind this one, where it is the first of them, or asks for no pattern.
+fn left_behind<'m>(event: &Event, left: &'m [Event]) -> Option<&'m [Event]>
+    ensures { IfSome (option_copied result) (λ rest. left.now ≡ makes_in (event.now ∷ []) ++ rest) }
+{
+    let Some((text, answer)) = make_of(event) else {
+        return Some(left);
+    };
+    match left {
+        [first, rest @ ..] if is_make(first, text, answer) => Some(rest),
+        _ => None,
+    }
+}
+
 /// Whether the events ask for just these patterns, with these answers, in order.
 pub fn are_makes(events: &[Event], makes: &[Event]) -> bool
     ensures { IsTrue result → makes.now ≡ makes_in events.now }
 {
     let mut left = makes;
     for event in events {
-        if let Some((text, answer)) = make_of(event) {
-            match left {
-                [first, rest @ ..] if is_make(first, text, answer) => left = rest,
-                _ => return false,
-            }
-        }
+        let Some(rest) = left_behind(event, left) else {
+            return false;
+        };
+        left = rest;
     }
     left.is_empty()
 }

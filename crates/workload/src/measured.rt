@@ -16,6 +16,7 @@ use std::alloc::Global;
 use workload_counts::summary;
 
 /// The line of a measurement, for which a caller is asked for patterns.
+#[tactic(auto, using(crate::proofs::AgreeLemmas::measuring))]
 fn measure<K: Patterns>(
     alloc: Global,
     seed: u64,
@@ -33,6 +34,7 @@ fn measure<K: Patterns>(
 
 /// Measures the server over the log of a seed and a size, and says the line of it. The caller is asked for the patterns of the run, and then
 /// that line is said, if memory lasts; nothing else is asked of it.
+#[tactic(auto, using(crate::proofs::AskLemmas::saying))]
 pub fn workload<K: Sink + Patterns>(alloc: Global, seed: u64, size: u32, sink: &mut K) -> WorkStatus
     ensures done { result ≡ WorkDone → MeasuresAndSays seed size (K.stands sink.old).told (K.stands sink.new).told }
     ensures failed { result ≡ LineFailed → AsksThenSays (K.stands sink.old).told (K.stands sink.new).told SayFailed }

@@ -1,13 +1,14 @@
 //! A run that was played.
-ghost use Rattle.std.specs.Prelude.{◌≡◌, ◌≢◌, ◌^◌, ◌<◌, IfOk, IsTrue, map, string_bytes, length};
-ghost use Rattle.f2b_mem.specs.Books.{is_kept};
-ghost use Rattle.f2b_mem.specs.Worlds.{events_of};
+ghost use Rattle.std.specs.Prelude.{◌≡◌, ◌≢◌, [], Some, IfOk, IsTrue, map, string_bytes};
+ghost use Rattle.f2b_mem.specs.Books.{WhereTold, is_kept};
+ghost use Rattle.f2b_mem.specs.Plays.{Plays};
+ghost use Rattle.f2b_mem.specs.Worlds.{events_of, script_of};
 ghost use Rattle.run_law.specs.declared.status.Status.TheVariants.{NoMemory as OutOfMemory};
-ghost use Rattle.workload.specs.Plays.{IsPlayed, conf_words};
+ghost use Rattle.workload.specs.Plays.{IsPlayed, IsServed, conf_words};
 ghost use Rattle.workload_script.specs.Scripts.{script_for};
 
 use f2b_base::{NoMemory, Plain, Seq};
-use f2b_mem::{MemWorld, Script};
+use f2b_mem::MemWorld;
 use run_law::Status;
 use server_top::server;
 use std::alloc::Global;
@@ -30,18 +31,21 @@ fn words(alloc: Global) -> Result<Vec<String>, NoMemory>
     Ok(words)
 }
 
-/// Whether the world plays the script still: that it does is told by no clause of a run.
-fn is_its_script(
+/// Whether the world plays its script still: that it does is told by no clause of a run.
+fn plays_still(
     alloc: Global,
-    played: &Script,
+    world: &MemWorld,
     seed: u64,
     size: u32,
     fails: Seq<u64>,
 ) -> Result<bool, NoMemory>
-    ensures { IfOk result (λ is. IsTrue is → played.now ≡ script_for seed size fails) }
+    ensures script { IfOk result (λ is. IsTrue is → script_of world.now ≡ script_for seed size fails) }
+    ensures plays { IfOk result (λ is. IsTrue is → WhereTold (events_of world.now) (Plays (script_for seed size fails))) }
 {
     let own = script(alloc, seed, size, fails)?;
-    Ok(same_script(played, &own))
+    // Asked for what it ensures alone.
+    let _events = world.events();
+    Ok(same_script(world.script(), &own))
 }
 
 /// Whether memory ran out in the run.
@@ -52,19 +56,38 @@ fn is_cut(status: &Status, world: &MemWorld) -> bool
     matches!(status, Status::NoMemory) || !world.is_told()
 }
 
+/// A world of the script, of which nothing was asked yet.
+fn unplayed(alloc: Global, seed: u64, size: u32, fails: Seq<u64>) -> Result<MemWorld, NoMemory>
+    ensures script { IfOk result (λ world. script_of world ≡ script_for seed size fails) }
+    ensures told { IfOk result (λ world. events_of world ≡ Some []) }
+{
+    let script = script(alloc, seed, size, fails)?;
+    Ok(MemWorld::new(alloc, script)?)
+}
+
+/// A run over it.
+#[tactic(auto, using(crate::proofs::RunLemmas::serving))]
+fn serve(alloc: Global, seed: u64, size: u32, fails: Seq<u64>) -> Result<Played, NoMemory>
+    ensures { IfOk result (IsServed (script_for seed size fails)) }
+{
+    let words = words(alloc)?;
+    let mut world = unplayed(alloc, seed, size, fails)?;
+    let status = server(alloc, words.as_slice(), &mut world);
+    Ok(Played { status, world })
+}
+
 /// A whole run over the script, in which the calls at these places fail.
+#[tactic(auto, using(crate::proofs::RunLemmas::playing))]
 pub fn play(alloc: Global, seed: u64, size: u32, fails: &Seq<u64>) -> Result<Played, NoMemory>
     ensures { IfOk result (IsPlayed seed size fails.now) }
 {
-    let words = words(alloc)?;
-    let script = script(alloc, seed, size, fails.copy()?)?;
-    let mut world = MemWorld::new(alloc, script)?;
-    let status = server(alloc, words.as_slice(), &mut world);
-    if is_cut(&status, &world) {
+    let played = serve(alloc, seed, size, fails.copy()?)?;
+    if is_cut(&played.status, &played.world) {
         return Err(NoMemory);
     }
-    if !is_its_script(alloc, world.script(), seed, size, fails.copy()?)? {
-        return Err(NoMemory);
+    if plays_still(alloc, &played.world, seed, size, fails.copy()?)? {
+        Ok(played)
+    } else {
+        Err(NoMemory)
     }
-    Ok(Played { status, world })
 }
