@@ -6,7 +6,7 @@ use crate::played::Played;
 use f2b_base::NoMemory;
 use reconcile::Engine;
 use std::alloc::Global;
-use workload_counts::{Counts, counts};
+use workload_counts::{Counts, count_core};
 
 /// The jail of the script.
 const JAIL: &str = "load";
@@ -27,5 +27,5 @@ pub fn count(alloc: Global, played: Played) -> Result<Counts, NoMemory>
     if !world.is_told() {
         return Err(NoMemory);
     }
-    counts(engine.core(), JAIL)
+    count_core(engine.core(), JAIL)
 }

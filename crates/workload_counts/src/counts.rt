@@ -53,7 +53,7 @@ fn counts_with(jail: Option<&JailView>, jobs: u64) -> Counts
 }
 
 /// The counts of the jail of a name, of which all but the jobs are 0 where there is none.
-pub fn counts(core: &Core, name: &str) -> Result<Counts, NoMemory>
+pub fn count_core(core: &Core, name: &str) -> Result<Counts, NoMemory>
     ensures { IfOk result (λ counts. counts ≡ counts_in name.now (spread core.now)) }
 {
     let view = core.view()?;

@@ -19,7 +19,7 @@ struct Row {
     says: &'static str,
 }
 
-const ROWS: [Row; 6] = [
+const ROWS: [Row; 7] = [
     // The only line of the log tells of an attacker. The two jobs are the start and the stop of the action.
     Row {
         seed: 0,
@@ -58,6 +58,14 @@ const ROWS: [Row; 6] = [
         fails: &[1],
         status: WorkStatus::Done,
         says: "workload seed=0 size=1 failures=0 bans=0 unbans=0 jobs=0 active=0\n",
+    },
+    // Each ban has a job for its begin and one for its end, which may come by the stop.
+    Row {
+        seed: 7,
+        size: 300,
+        fails: &[],
+        status: WorkStatus::Done,
+        says: "workload seed=7 size=300 failures=262 bans=2 unbans=0 jobs=6 active=2\n",
     },
     Row {
         seed: 7,
@@ -124,7 +132,7 @@ fn same<T: PartialEq + Debug>(rt: &impl Abort, saw: &T, want: &T) {
 }
 
 /// That a measurement ends so, and says this.
-fn row(rt: &impl Abort, alloc: Global, row: &Row) -> Result<(), Fail> {
+fn measure(rt: &impl Abort, alloc: Global, row: &Row) -> Result<(), Fail> {
     let mut sink = sink(alloc, row.fails)?;
     let status = workload(alloc, row.seed, row.size, &mut sink);
     same(rt, &status, &row.status);
@@ -138,7 +146,7 @@ fn row(rt: &impl Abort, alloc: Global, row: &Row) -> Result<(), Fail> {
 #[test]
 fn a_measurement_says_its_line(rt: HostRuntime) -> Result<(), Fail> {
     for each in &ROWS {
-        row(&rt, rt.alloc(), each)?;
+        measure(&rt, rt.alloc(), each)?;
     }
     Ok(())
 }

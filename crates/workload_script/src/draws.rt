@@ -2,7 +2,7 @@
 ghost use Rattle.std.specs.Prelude.{◌≡◌};
 ghost use Rattle.workload_script.specs.Words.{generator, next_generator, word_of};
 
-use rand::RngExt;
+use rand_core::utils::NextWord;
 use rand_pcg::Lcg64Xsh32;
 
 /// The generator that a seed starts.
@@ -15,9 +15,9 @@ pub fn generator(seed: u64) -> Lcg64Xsh32
 
 /// The word that comes next.
 #[tactic(auto, unfolding(crate::specs::Words::word_of, crate::specs::Words::next_generator))]
-pub fn draw(generator: &mut Lcg64Xsh32) -> u32
-    ensures word { result ≡ word_of generator.old }
-    ensures next { generator.new ≡ next_generator generator.old }
+pub fn draw(random: &mut Lcg64Xsh32) -> u32
+    ensures word { result ≡ word_of random.old }
+    ensures next { random.new ≡ next_generator random.old }
 {
-    generator.random::<u32>()
+    random.next_word()
 }

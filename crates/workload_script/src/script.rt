@@ -1,5 +1,5 @@
 //! The script.
-ghost use Rattle.std.specs.Prelude.{◌≡◌, IfOk};
+ghost use Rattle.std.specs.Prelude.{◌≡◌, [], IfOk};
 ghost use Rattle.workload_script.specs.Scripts.{script_for};
 
 use crate::changes::logs;

@@ -31,6 +31,7 @@ fn reading(number: u64) -> Reading
 }
 
 /// All readings: more than there are turns.
+#[tactic(auto, using(crate::proofs::StepLemmas::going))]
 pub(crate) fn readings(alloc: Global, size: u32) -> Result<Seq<Reading>, NoMemory>
     ensures { IfOk result (λ all. all ≡ readings_of (2 * size + 16)) }
 {

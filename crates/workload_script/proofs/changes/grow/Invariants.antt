@@ -5,6 +5,6 @@ use Rattle.workload_script.proofs.changes.grow.Given as goal
 
 abbrev pub invariant-loop-i : goal.invariant-loop-i
 invariant-loop-i l = record {
-  log : (seed : ℕ) → l.initial.log ≡ log_of seed l.fn.from → l.initial.generator ≡ after_words seed l.fn.from → l.log ≡ log_of seed l.i;
-  generator : (seed : ℕ) → l.initial.generator ≡ after_words seed l.fn.from → l.generator ≡ after_words seed l.i;
+  log : (seed : ℕ) → l.initial.log ≡ log_of seed l.fn.from → l.initial.random ≡ after_words seed l.fn.from → l.log ≡ log_of seed l.i;
+  random : (seed : ℕ) → l.initial.random ≡ after_words seed l.fn.from → l.random ≡ after_words seed l.i;
 }

@@ -8,6 +8,6 @@ abbrev pub invariant-loop-turn : goal.invariant-loop-turn
 invariant-loop-turn l = record {
   lines : l.lines ≡ lines_by l.size l.turn;
   log : l.log ≡ log_of l.seed l.lines;
-  generator : l.generator ≡ after_words l.seed l.lines;
+  random : l.random ≡ after_words l.seed l.lines;
   logs : l.logs ≡ logs_in l.seed l.size l.turn;
 }
