@@ -10,7 +10,7 @@
 #![tactic(auto)]
 
 mod number;
-mod serve;
+mod words;
 mod work;
 
-pub use serve::serve;
+pub use words::serve;

@@ -100,28 +100,34 @@ pub ruleset asking = (asks_none, more_none, more_make, asks_more, only_none, onl
 
 -- ---- the line
 
-pub says : (seed size : ℕ) (old mid new : Standing) (line : List ℕ) → Measures seed size old.told mid.told line → Called mid (Say line Done) new → MeasuresAndSays seed size old.told new.told
-says seed size old mid new line m call =
+pub says : (seed size : ℕ) (old mid new : Standing) (line shown : List ℕ) (answer : Said) → shown ≡ line → answer ≡ Done → Measures seed size old.told mid.told line
+    → Called mid (Say shown answer) new → MeasuresAndSays seed size old.told new.told
+says seed size old mid new line shown answer bytes done m call =
     let told : List Event = Say (summary seed size m.counts) Done ∷ [] in
-    let said : Asks mid.told new.told told = asks_as mid.told new.told (Say line Done ∷ []) told (ap (λ (bytes : List ℕ). let es : List Event = Say bytes Done ∷ [] in es) m.line) (called mid new (Say line Done) call) in
+    let same : Say shown answer ∷ [] ≡ told = ap₂ (λ (text : List ℕ) (said : Said). let es : List Event = Say text said ∷ [] in es) (bytes ∙ m.tells) done in
     record {
       events = m.events;
       counts = m.counts;
       measured = m.measured;
-      calls = asks_on old.told mid.told new.told (makes_in m.events) told (makes_in m.events ++ told) refl m.asks said;
+      calls = asks_on old.told mid.told new.told (makes_in m.events) told (makes_in m.events ++ told) refl m.asks (asks_as mid.told new.told (Say shown answer ∷ []) told same (called mid new (Say shown answer) call));
     }
 
-pub fails_to_say : (old mid new : Standing) (line : List ℕ) → OnlyAsks old.told mid.told → Called mid (Say line Failed) new → AsksThenSays old.told new.told Failed
-fails_to_say old mid new line a call = record {
-  adds = adds_then (λ g es. AreMakes es) (λ g es. es ≡ Say line Failed ∷ []) (λ g es. (makes : List Event) × (said : List ℕ) × AreMakes makes × (es ≡ makes ++ Say said Failed ∷ []))
-      old.told mid.told new.told a.adds (called mid new (Say line Failed) call).adds
-      (λ g h us vs p q. (us, line, p, ap (λ (r : List Event). us ++ r) q));
+-- ---- a line that could not be said
+
+as_failed : (mid new : Standing) (shown : List ℕ) (answer : Said) → answer ≡ Failed → Called mid (Say shown answer) new → Called mid (Say shown Failed) new
+as_failed mid new shown answer is call = subst (λ (said : Said). Called mid (Say shown said) new) is call
+
+pub fails_to_say : (old mid new : Standing) (shown : List ℕ) (answer : Said) → answer ≡ Failed → OnlyAsks old.told mid.told → Called mid (Say shown answer) new → AsksThenSays old.told new.told Failed
+fails_to_say old mid new shown answer is a call = record {
+  adds = adds_then (λ g es. AreMakes es) (λ g es. es ≡ Say shown Failed ∷ []) (λ g es. (makes : List Event) × (line : List ℕ) × AreMakes makes × (es ≡ makes ++ Say line Failed ∷ []))
+      old.told mid.told new.told a.adds (called mid new (Say shown Failed) (as_failed mid new shown answer is call)).adds
+      (λ g h us vs p q. (us, shown, p, ap (λ (r : List Event). us ++ r) q));
 }
 
-pub failed_sink : (old mid new : Standing) (line : List ℕ) → IsSteady old mid → Called mid (Say line Failed) new → Rose (old.faults OfSink) (new.faults OfSink)
-failed_sink old mid new line steady call = cause_later old mid new SinkFault steady call.counts.cause
+pub failed_sink : (old mid new : Standing) (shown : List ℕ) (answer : Said) → answer ≡ Failed → IsSteady old mid → Called mid (Say shown answer) new → Rose (old.faults OfSink) (new.faults OfSink)
+failed_sink old mid new shown answer is steady call = cause_later old mid new SinkFault steady (as_failed mid new shown answer is call).counts.cause
 
-pub steady_say : (old mid new : Standing) (line : List ℕ) (answer : Said) → IsSteady old mid → Called mid (Say line answer) new → IsSteady old new
-steady_say old mid new line answer steady call = steady_on old mid new steady (steady_call mid new (Say line answer) call)
+pub steady_say : (old mid new : Standing) (shown : List ℕ) (answer : Said) → IsSteady old mid → Called mid (Say shown answer) new → IsSteady old new
+steady_say old mid new shown answer steady call = steady_on old mid new steady (steady_call mid new (Say shown answer) call)
 
 pub ruleset saying = (says, fails_to_say, failed_sink, steady_say)

@@ -21,7 +21,9 @@ use Rattle.f2b_mem.specs.declared.script.Script.{Script}
 use Rattle.f2b_mem.specs.declared.world.MemWorld.{MemWorld}
 use Rattle.journal_slots.specs.Grammar.{Empty, parse_slot}
 use Rattle.journal_slots.specs.Tops.{Stored, Top, NoneOpen, Newest, NoJournal, meaning, stored_in, top_of}
+use Rattle.ban_journal.specs.Loads.{is_fault}
 use Rattle.ban_journal.specs.Positions.{top_in}
+use Rattle.ban_journal.specs.declared.load_error.LoadError.{LoadError}
 use Rattle.many_runs.specs.OneState.{Count, state_after, view_then}
 use Rattle.many_runs.specs.Sessions.{IsSession, Session, run_of, history_of as history_at, slots_of as slots_from}
 use Rattle.many_runs.proofs.JoinLemmas.{Leaves, leaves, sound_from}
@@ -156,15 +158,12 @@ module _ (seed size : ℕ) (fails : List ℕ) (status : Status) (events : List E
         | inr own ↦ own ∙ ap inputs_of run_is ∙ all
       ]
 
-  abbrev pub held_last : ℕ → List ℕ
-  held_last = held
-
   pub counts_are : (limit : ℕ) (e : EngineNow) (counts : Counts) → IsLoadedEngine limit held e → counts ≡ counts_in (codes "load") (spread e.core) → AreCountsOf s status events counts
   counts_are limit e counts is own = record {
     inputs = left.own;
     count = left.count;
     closed = closed_is;
-    counts = own ∙ ap (counts_in (codes "load")) (core_is limit e is);
+    numbers = own ∙ ap (counts_in (codes "load")) (core_is limit e is);
   }
 
 -- ---- a run that was played, and loaded from
@@ -177,19 +176,21 @@ kept_world : (world : MemWorld) → is_kept (events_of world) ≡ true → (h : 
 kept_world world kept =
     kept_history (script_of world) (events_of world) kept
 
-pub counted : (played : Played) (old new : Standing) (world : MemWorld) (limit : ℕ) (e : EngineNow) (counts : Counts)
-    → old.told ≡ history_of_world played.world → new.told ≡ history_of_world world → is_kept (events_of world) ≡ true → OnlyReads false old new
-    → WhereTold new.told (λ g. IsEngineLoaded limit (content g) (Ok e)) → counts ≡ counts_in (codes "load") (spread e.core) → CountsOf played counts
-counted played old new world limit e counts old_is new_is kept reads loads own = record {
+pub counted : (played : Played) (old new : Standing) (world : MemWorld) (limit : ℕ) (result : Result EngineNow LoadError) (e : EngineNow) (counts : Counts)
+    → old.told ≡ history_of_world played.world → new.told ≡ history_of_world world → is_kept (events_of world) ≡ true → result ≡ Ok e → OnlyReads (is_fault result) old new
+    → WhereTold new.told (λ g. IsEngineLoaded limit (content g) result) → counts ≡ counts_in (codes "load") (spread e.core) → CountsOf played counts
+counted played old new world limit result e counts old_is new_is kept result_is reads loads own = record {
   each = λ seed size fails run.
       let last : History = history_of (script_for seed size fails) run.events in
       let was : old.told ≡ Some last = old_is ∙ ap₂ (λ (s : Script) (es : Option (List Event)). history_in s es) run.script run.told in
       let h = kept_world world kept in
       let now : new.told ≡ Some h.0 = new_is ∙ h.1 in
-      let before = told_before false old.told new.told reads.told h.0 now in
+      let before = told_before (is_fault result) old.told new.told reads.told h.0 now in
       let same : last ≡ before.0 = same_Some last before.0 (sym was ∙ before.1) in
-      let slots : content h.0 ≡ content last = (λ i k. (before.2 k i).now) ∙ ap content (sym same) in
-      let engine : IsLoadedEngine limit (content last) e = subst (λ (c : ℕ → List ℕ). IsLoadedEngine limit c e) slots (loads h.0 now) in
+      let still : content h.0 ≡ content before.0 = λ i k. (before.2 k i).now in
+      let slots : content h.0 ≡ content last = still ∙ ap content (sym same) in
+      let P : (ℕ → List ℕ) → Result EngineNow LoadError → Type 0 = λ c r. IsEngineLoaded limit c r in
+      let engine : IsLoadedEngine limit (content last) e = subst (λ (r : Result EngineNow LoadError). P (content last) r) result_is (subst (λ (c : ℕ → List ℕ). P c result) slots (loads h.0 now)) in
       counts_are seed size fails played.status run.events run.run limit e counts engine own;
 }
 

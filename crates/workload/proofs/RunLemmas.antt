@@ -81,7 +81,7 @@ kept_events None is = absurd (cc)
 
 pub plays : (seed size : ℕ) (fails : List ℕ) (played : Played) → IsServed (script_for seed size fails) played → played.status ≢ NoMemory → is_kept (events_of played.world) ≡ true
     → script_of played.world ≡ script_for seed size fails → WhereTold (events_of played.world) (Plays (script_for seed size fails)) → IsPlayed seed size fails played
-plays seed size fails played served memory kept script plays =
+plays seed size fails played served memory kept script answers =
     let events = kept_events (events_of played.world) kept in
     let told : history_of_world played.world ≡ Some (history_of (script_for seed size fails) events.0) = ap₂ (λ (s : Script) (es : Option (List Event)). history_in s es) script events.1 in
     record {
@@ -89,7 +89,7 @@ plays seed size fails played served memory kept script plays =
       script = script;
       told = events.1;
       run = record {
-        plays = plays events.0 events.1;
+        plays = answers events.0 events.1;
         runs = subst (λ (new : Option History). IsRun (Some (first_of seed size fails)) new conf_words played.status) told served.runs;
         memory = memory;
       };

@@ -1,6 +1,7 @@
 -- What a measurement asks of the world that it is called with.
-use Rattle.std.specs.Prelude.{ℕ, ◌≡◌, ◌++◌, Option, List, [], ◌∷◌}
+use Rattle.std.specs.Prelude.{ℕ, ◌≡◌, ◌++◌, slice_get, MatchOption, Option, List, [], ◌∷◌}
 use Rattle.f2b_world.specs.Told.{History, Adds}
+use Rattle.f2b_world.specs.declared.answer.MakeAnswer.TheVariants.{TooBig}
 use Rattle.f2b_world.specs.declared.answer.Said.{Said}
 use Rattle.f2b_world.specs.declared.event.Event.{Event}
 use Rattle.f2b_world.specs.declared.event.Event.TheVariants.{Make, Say}
@@ -14,6 +15,19 @@ makes_in (_ ∷ es) = makes_in es
 -- these are all of them
 abbrev pub AreMakes : List Event → Type 0
 AreMakes es = makes_in es ≡ es
+
+-- ---- patterns that are refused
+
+-- a pattern was not built for its size
+abbrev pub IsRefused : Event → Type 0
+IsRefused (Make text TooBig) = Unit {0}
+IsRefused _ = ⊥
+
+-- the event at a place is of such a pattern
+abbrev pub IsRefusedAt : List Event → ℕ → Type 0
+IsRefusedAt es place = MatchOption (slice_get es place) ⊥ IsRefused
+
+-- ---- calls on the world
 
 -- just these calls were made
 pub record Asks (old new : Option History) (calls : List Event) : Type 0 where

@@ -1,6 +1,7 @@
 -- A run over a script that is played from its beginning to the end.
 use Rattle.std.specs.Prelude.{ℕ, ◌≡◌, ◌≢◌, Option, Some, codes, length, List, [], ◌∷◌}
 use Rattle.f2b_base.specs.declared.input.Input.{Input}
+use Rattle.f2b_model.specs.Lists.{AllOf}
 use Rattle.f2b_world.specs.Told.{History}
 use Rattle.f2b_world.specs.declared.event.Event.{Event}
 use Rattle.f2b_mem.specs.Plays.{Plays}
@@ -16,7 +17,7 @@ use Rattle.run_law.specs.declared.status.Status.TheVariants.{NoMemory}
 use Rattle.workload_counts.specs.Counted.{counts_in}
 use Rattle.workload_counts.specs.declared.counts.Counts.{Counts}
 use Rattle.workload_script.specs.Scripts.{script_for}
-use Rattle.workload.specs.Calls.{Asks, makes_in}
+use Rattle.workload.specs.Calls.{Asks, IsRefusedAt, makes_in}
 use Rattle.workload.specs.declared.played.Played.{Played}
 
 -- the words of the run
@@ -52,17 +53,14 @@ pub record AreCountsOf (script : Script) (status : Status) (events : List Event)
   pub inputs : List Input
   pub count : Count (session_of script events) inputs
   pub closed : IsRegular status → inputs ≡ (run_after conf_words (held_in (history_of script [])) events).closed
-  pub counts : counts ≡ counts_in (codes "load") (view_then inputs)
+  pub numbers : counts ≡ counts_in (codes "load") (view_then inputs)
 
--- a run over the script of a seed and a size, in which calls at some places fail
-pub record IsSomePlayed (seed size : ℕ) (played : Played) : Type 0 where
-  pub fails : List ℕ
-  pub played : IsPlayed seed size fails played
-
--- such a run, each pattern of which a caller was asked for, and answered as in the run
+-- A run over the script of a seed and a size, each pattern of which a caller was asked for, and answered as in the run. The calls that fail in it are
+-- patterns that are not built for their size.
 pub record IsAgreed (seed size : ℕ) (old new : Option History) (played : Played) : Type 0 where
   pub fails : List ℕ
   pub run : IsPlayed seed size fails played
+  pub refused : AllOf (IsRefusedAt run.events) fails
   pub asks : Asks old new (makes_in run.events)
 
 -- what a run counted that was played, whatever its script

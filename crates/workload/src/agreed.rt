@@ -1,21 +1,23 @@
 //! A run in which each pattern is answered as the caller answers it.
-ghost use Rattle.std.specs.Prelude.{◌≡◌, IfOk};
+ghost use Rattle.std.specs.Prelude.{◌≡◌, [], option_to_list, IfOk};
 ghost use Rattle.run_law.specs.Stages.{IsSteady};
 ghost use Rattle.workload.specs.Calls.{OnlyAsks};
-ghost use Rattle.workload.specs.Plays.{IsAgreed, IsPlayed, IsSomePlayed};
+ghost use Rattle.workload.specs.Plays.{IsAgreed, IsPlayed};
 
 use crate::asked::ask;
-use crate::makes::are_makes;
+use crate::makes::{are_makes, are_refused};
 use crate::played::{Played, play};
 use f2b_base::{NoMemory, Seq};
 use f2b_world::Patterns;
 use std::alloc::Global;
 
 /// One place, if there is one.
-fn places(alloc: Global, place: Option<u64>) -> Result<Seq<u64>, NoMemory> {
+fn places(alloc: Global, place: Option<usize>) -> Result<Seq<u64>, NoMemory>
+    ensures { IfOk result (λ places. places ≡ option_to_list place) }
+{
     let mut places = Seq::new(alloc);
     if let Some(place) = place {
-        places.push(place)?;
+        places.push(place as u64)?;
     }
     Ok(places)
 }
@@ -27,10 +29,10 @@ fn play_again(
     seed: u64,
     size: u32,
     first: Played,
-    place: Option<u64>,
+    place: Option<usize>,
 ) -> Result<Played, NoMemory>
-    requires { IsSomePlayed seed size first }
-    ensures { IfOk result (IsSomePlayed seed size) }
+    requires { IsPlayed seed size [] first }
+    ensures { IfOk result (IsPlayed seed size (option_to_list place)) }
 {
     if place.is_none() {
         return Ok(first);
@@ -54,7 +56,8 @@ pub fn play_agreed<K: Patterns>(
     let first = play(alloc, seed, size, &Seq::new(alloc))?;
     let asked = ask(alloc, sink, first.world.events())?;
     let played = play_again(alloc, seed, size, first, asked.other)?;
-    if are_makes(played.world.events(), asked.makes.as_slice()) {
+    let events = played.world.events();
+    if are_makes(events, asked.makes.as_slice()) && are_refused(events, asked.other) {
         Ok(played)
     } else {
         Err(NoMemory)

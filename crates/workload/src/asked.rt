@@ -17,7 +17,7 @@ pub struct Asked {
     /// Each pattern with its answer, as events.
     pub makes: Vec<Event>,
     /// The place in the run of the last of them, where it was answered otherwise than in the run.
-    pub other: Option<u64>,
+    pub other: Option<usize>,
 }
 
 // A pattern without itself.
@@ -84,7 +84,7 @@ pub fn ask<K: Patterns>(alloc: Global, sink: &mut K, events: &[Event]) -> Result
         if !ask_again(sink, &mut makes, event)? {
             return Ok(Asked {
                 makes,
-                other: Some(place as u64),
+                other: Some(place),
             });
         }
     }

@@ -1,7 +1,8 @@
 //! The patterns that a run asks for.
-ghost use Rattle.std.specs.Prelude.{◌≡◌, ◌++◌, [], ◌∷◌, IfSome, IsTrue, MatchOption, option_copied};
+ghost use Rattle.std.specs.Prelude.{◌≡◌, ◌++◌, [], ◌∷◌, IfSome, IsTrue, MatchOption, option_copied, option_to_list};
 ghost use Rattle.f2b_world.specs.declared.event.Event.TheVariants.{Make};
-ghost use Rattle.workload.specs.Calls.{makes_in};
+ghost use Rattle.f2b_model.specs.Lists.{AllOf};
+ghost use Rattle.workload.specs.Calls.{IsRefused, IsRefusedAt, makes_in};
 
 use f2b_base::Text;
 use f2b_world::{Event, MakeAnswer};
@@ -51,4 +52,30 @@ pub fn are_makes(events: &[Event], makes: &[Event]) -> bool
         left = rest;
     }
     left.is_empty()
+}
+
+// Whether an event is of a pattern that was not built for its size.
+fn is_refused(event: &Event) -> bool
+    ensures { IsTrue result → IsRefused event.now }
+{
+    matches!(
+        event,
+        Event::Make {
+            answer: MakeAnswer::TooBig,
+            ..
+        }
+    )
+}
+
+/// Whether the event at that place, if there is one, is of a pattern that was not built for its size.
+pub fn are_refused(events: &[Event], place: Option<usize>) -> bool
+    ensures { IsTrue result → AllOf (IsRefusedAt events.now) (option_to_list place) }
+{
+    let Some(place) = place else {
+        return true;
+    };
+    match events.get(place) {
+        Some(event) => is_refused(event),
+        None => false,
+    }
 }

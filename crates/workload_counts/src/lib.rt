@@ -7,7 +7,7 @@
 #![tactic(auto)]
 
 mod counts;
-mod summary;
+mod line;
 
 pub use counts::{Counts, count_core};
-pub use summary::summary;
+pub use line::summary;

@@ -7,11 +7,13 @@ use Rattle.workload_script.specs.Words.{word_at}
 abbrev pub first_second : ℕ
 first_second = 1700000000
 
--- what a word says of an attacker: of eight words one tells of none
+-- what an attacker did of whom a word tells
+abbrev pub attack : ℕ → List ℕ
+attack word = codes " fail from 198.18." ++ decimal (word % 4) ++ codes "." ++ decimal (word / 4 % 256)
+
+-- what a word tells: of eight words one tells of no attacker
 abbrev pub deed : ℕ → List ℕ
-deed word =
-    if word / 1024 % 8 == 0 then codes " ok"
-    else codes " fail from 198.18." ++ decimal (word % 4) ++ codes "." ++ decimal (word / 4 % 256)
+deed word = if word / 1024 % 8 == 0 then codes " ok" else attack word
 
 -- line i, with its end
 unfoldable pub line : ℕ → ℕ → List ℕ

@@ -17,9 +17,9 @@ mod conf;
 mod draws;
 mod lines;
 mod same;
-mod script;
+mod scripts;
 mod stop;
 mod turns;
 
 pub use same::same_script;
-pub use script::script;
+pub use scripts::script;

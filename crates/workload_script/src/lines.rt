@@ -1,6 +1,7 @@
 //! The lines of the log.
-ghost use Rattle.std.specs.Prelude.{◌≡◌, ◌++◌, ◌<◌, ◌^◌, IfOk, OnOk, string_bytes};
-ghost use Rattle.workload_script.specs.Lines.{deed, line};
+ghost use Rattle.std.specs.Prelude.{◌≡◌, ◌++◌, ◌<◌, ◌^◌, OnOk};
+ghost use Rattle.std.specs.Fmt.{decimal};
+ghost use Rattle.workload_script.specs.Lines.{attack, deed, line};
 
 use f2b_base::{Bytes, NoMemory};
 use std::alloc::Global;
@@ -8,16 +9,33 @@ use std::alloc::Global;
 /// When the log begins, in seconds since 1970.
 const FIRST_SECOND: u64 = 1_700_000_000;
 
-// What a word says of an attacker: of eight words one tells of none.
-fn deed(alloc: Global, word: u32) -> Result<String, NoMemory>
-    ensures { IfOk result (λ text. string_bytes text ≡ deed word) }
+fn push_number(alloc: Global, log: &mut Bytes, number: u64) -> Result<(), NoMemory>
+    ensures { OnOk result (log.new ≡ log.old ++ decimal number) }
+{
+    let digits = format!(in alloc; "{number}")?;
+    log.push_slice(digits.as_bytes())?;
+    Ok(())
+}
+
+// Adds what an attacker did of whom a word tells.
+fn push_attack(alloc: Global, log: &mut Bytes, word: u32) -> Result<(), NoMemory>
+    ensures { OnOk result (log.new ≡ log.old ++ attack word) }
+{
+    log.push_slice(b" fail from 198.18.")?;
+    push_number(alloc, log, u64::from(word % 4))?;
+    log.push_slice(b".")?;
+    push_number(alloc, log, u64::from(word / 4 % 256))
+}
+
+// Adds what a word tells: of eight words one tells of no attacker.
+fn push_deed(alloc: Global, log: &mut Bytes, word: u32) -> Result<(), NoMemory>
+    ensures { OnOk result (log.new ≡ log.old ++ deed word) }
 {
     if word / 1024 % 8 == 0 {
-        return Ok(String::from_str(alloc, " ok")?);
+        log.push_slice(b" ok")
+    } else {
+        push_attack(alloc, log, word)
     }
-    let third = word % 4;
-    let fourth = word / 4 % 256;
-    Ok(format!(in alloc; " fail from 198.18.{third}.{fourth}")?)
 }
 
 /// Adds line `i`, which a word makes.
@@ -26,9 +44,7 @@ pub fn push_line(alloc: Global, log: &mut Bytes, i: u64, word: u32) -> Result<()
     requires { i < 2 ^ 32 }
     ensures { OnOk result (log.new ≡ log.old ++ line i word) }
 {
-    let second = FIRST_SECOND + i;
-    let deed = deed(alloc, word)?;
-    let line = format!(in alloc; "{second}{deed}\n")?;
-    log.push_slice(line.as_bytes())?;
-    Ok(())
+    push_number(alloc, log, FIRST_SECOND + i)?;
+    push_deed(alloc, log, word)?;
+    log.push_slice(b"\n")
 }

@@ -1,7 +1,7 @@
 //! Whether two scripts are one, as a test whose clause says so: a derived `==` says nothing of a value that holds a list.
 ghost use Rattle.std.specs.Prelude.{◌≡◌, length, IsTrue};
 
-use f2b_base::{Reading, Seq, TreeAnswer, TreeFile};
+use f2b_base::{Reading, Seq, Tree, TreeAnswer, TreeFile};
 use f2b_mem::{ChildPlan, ClientPlan, FileChange, Image, Script};
 
 /// A value of which it can be told that another one is equal.
@@ -72,16 +72,23 @@ impl<T: Same> Same for Seq<T> {
     }
 }
 
+impl Same for Tree {
+    fn same(&self, other: &Tree) -> bool {
+        self.files.same(&other.files)
+    }
+}
+
+// Answers that are no tree count as different.
 impl Same for TreeAnswer {
     fn same(&self, other: &TreeAnswer) -> bool {
         match (self, other) {
-            (TreeAnswer::Tree(tree), TreeAnswer::Tree(other)) => tree.files.same(&other.files),
+            (TreeAnswer::Tree(tree), TreeAnswer::Tree(other)) => tree.same(other),
             _ => false,
         }
     }
 }
 
-/// Whether both scripts are one, whose trees are all given. Takes no memory.
+/// Whether both scripts are one, where all their trees are given. Takes no memory.
 pub fn same_script(script: &Script, other: &Script) -> bool
     ensures { IsTrue result → script.now ≡ other.now }
 {
