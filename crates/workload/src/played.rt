@@ -1,5 +1,5 @@
 //! A run that was played.
-ghost use Rattle.std.specs.Prelude.{◌≡◌, ◌≢◌, [], Some, IfOk, IsTrue, map, string_bytes};
+ghost use Rattle.std.specs.Prelude.{◌≡◌, ◌≢◌, true, false, [], Some, IfOk, IsTrue, map, string_bytes};
 ghost use Rattle.f2b_mem.specs.Books.{WhereTold, is_kept};
 ghost use Rattle.f2b_mem.specs.Plays.{Plays};
 ghost use Rattle.f2b_mem.specs.Worlds.{events_of, script_of};

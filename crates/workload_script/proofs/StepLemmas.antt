@@ -1,11 +1,11 @@
 -- Lists and words that go on by one.
-use Rattle.std.proofs.Common.{ℕ, zero, suc, ◌≡◌, ◌≤◌, ◌<◌, ◌+◌, ◌*◌, min, List, [], ◌∷◌, ◌++◌, refl, sym, ◌∙◌, ap, ap₂, arith}
+use Rattle.std.proofs.Common.{ℕ, suc, ◌≡◌, ◌≤◌, ◌+◌, List, [], ◌∷◌, ◌++◌, ◌∙◌, ap, ap₂, arith}
 use Rattle.f2b_base.specs.declared.outside.Reading.{Reading}
 use Rattle.f2b_mem.specs.declared.script.FileChange.{FileChange}
 use Rattle.rand_pcg.specs.Lcg.{Lcg}
 use Rattle.workload_script.specs.Lines.{line, log}
 use Rattle.workload_script.specs.Turns.{lines_by, log_in, logs_in, reading, readings}
-use Rattle.workload_script.specs.Words.{after_words, next_generator, word_at, word_of}
+use Rattle.workload_script.specs.Words.{after_words, next_generator, word_of}
 
 one_more : (n : ℕ) → suc n ≡ n + 1
 one_more n = omega arith

@@ -1,5 +1,5 @@
 -- The script of a seed and a size.
-use Rattle.std.specs.Prelude.{ℕ, ◌+◌, ◌-◌, ◌*◌, ◌^◌, ◌++◌, codes, List, [], ◌∷◌}
+use Rattle.std.specs.Prelude.{ℕ, ◌+◌, ◌-◌, ◌*◌, ◌^◌, codes, List, [], ◌∷◌}
 use Rattle.f2b_base.specs.declared.outside.Tree.{Tree}
 use Rattle.f2b_base.specs.declared.outside.TreeAnswer.TheVariants.{Tree as ATree}
 use Rattle.f2b_base.specs.declared.outside.TreeFile.{TreeFile}

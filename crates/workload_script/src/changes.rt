@@ -1,7 +1,7 @@
 //! The log, turn by turn.
 ghost use Rattle.std.specs.Prelude.{◌≡◌, ℕ, ◌≤◌, ◌<◌, ◌+◌, ◌^◌, Some, codes, IfOk, OnOk};
 ghost use Rattle.workload_script.specs.Lines.{log as log_of};
-ghost use Rattle.workload_script.specs.Turns.{busy_turns, lines_by, log_in, logs_in};
+ghost use Rattle.workload_script.specs.Turns.{busy_turns, lines_by, logs_in};
 ghost use Rattle.workload_script.specs.Words.{after_words};
 
 use crate::draws::{draw, generator};

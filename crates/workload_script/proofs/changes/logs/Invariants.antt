@@ -1,4 +1,4 @@
-use Rattle.std.proofs.Common.{◌≡◌, ◌≤◌, ℕ}
+use Rattle.std.proofs.Common.{◌≡◌}
 use Rattle.workload_script.specs.Lines.{log as log_of}
 use Rattle.workload_script.specs.Turns.{lines_by, logs_in}
 use Rattle.workload_script.specs.Words.{after_words}
