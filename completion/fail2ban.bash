@@ -33,8 +33,8 @@ _fail2ban_server() {
     COMPREPLY=()
     case $last in
     -c | --conf) _fail2ban_paths -d ;;
-    --turns | --journal-limit) ;;
-    *) _fail2ban_words '-c --conf --turns --journal-limit --help --version' ;;
+    --turns | --journal-limit | --workload) ;;
+    *) _fail2ban_words '-c --conf --turns --journal-limit --workload --help --version' ;;
     esac
 }
 

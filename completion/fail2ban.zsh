@@ -26,6 +26,7 @@ _fail2ban_server() {
     '(-c --conf)'{-c,--conf}'[read the configuration in this directory]:directory:_files -/' \
     '--turns[stop after so many turns]:turns:' \
     '--journal-limit[how long each file of the journal may get]:bytes:' \
+    '--workload[measure the server over a log that two numbers make]:seed: :size: ' \
     '(-h --help)'{-h,--help}'[print the words]' \
     '(-V --version)'{-V,--version}'[print the version]'
 }

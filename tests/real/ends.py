@@ -4,8 +4,11 @@ import os
 import resource
 import signal
 import subprocess
+import sys
 
 from room import PATIENCE, as_nobody, failures, has_checks, same, write
+
+TOP = os.path.dirname(os.path.dirname(os.path.dirname(os.path.abspath(__file__))))
 
 USAGE = ["ERROR usage"]
 
@@ -37,6 +40,14 @@ def words_are_wrong(room):
         ["--conf", conf, "--turns", "18446744073709551616"],
         ["--turns", "1", "--conf", conf],
         ["--conf", conf, "--turns", "1", "more"],
+        ["--workload"],
+        ["--workload", "7"],
+        ["--workload", "07", "1"],
+        ["--workload", "18446744073709551616", "1"],
+        ["--workload", "7", "0"],
+        ["--workload", "7", "20001"],
+        ["--workload", "7", "1", "more"],
+        ["--conf", conf, "--workload", "7", "1"],
         ["--conf", b"\xff"],
         [b"--version\xff"],
     ]:
@@ -47,6 +58,16 @@ def turns_are_made(room):
     """a server that made its turns ends with status 0"""
     room.ends(0, ["INFO Server ready"], "--conf", room.conf, "--turns", "2")
     room.ends(0, ["INFO Server ready"], "-c", room.conf, "--turns", "1")
+
+
+def a_measurement_is_made(room):
+    """--workload says the line that a plain model of it does, each time, and touches no file; where that cannot be said it is status 9"""
+    for seed, size in [("0", "1"), ("7", "20000"), ("7", "20000"), ("18446744073709551615", "500")]:
+        model = [sys.executable, os.path.join(TOP, "tests/workload.py"), seed, size]
+        wanted = subprocess.run(model, stdout=subprocess.PIPE, check=True).stdout.decode()
+        same(room.run("--workload", seed, size, cwd="/"), (0, wanted, ""), f"--workload {seed} {size}")
+    with open("/dev/full", "wb") as full:
+        same(room.run("--workload", "0", "1", stdout=full)[0], 9, "status where nothing can be written")
 
 
 def configuration_is_not_read(room):
@@ -151,6 +172,7 @@ CHECKS = [
     help_is_asked_for,
     words_are_wrong,
     turns_are_made,
+    a_measurement_is_made,
     configuration_is_not_read,
     configuration_is_refused,
     who_sits_at_a_terminal_is_helped,

@@ -7,7 +7,7 @@
 //!
 //! ```text
 //! let mut world = RealWorld::new(rt, errors);
-//! let number = server(alloc, words.as_slice(), &mut world).number();
+//! let number = serve(alloc, words.as_slice(), &mut world).number();
 //! world.end_gate();
 //! world.end_commands();
 //! ```
@@ -34,7 +34,7 @@ use advice::advice;
 use fault::Fault;
 use output::write_whole;
 use real::RealWorld;
-use server_top::server;
+use server_words::serve;
 use std::alloc::{AllocError, Global};
 use std::fs;
 use std::fs::File;
@@ -64,7 +64,7 @@ fn main(rt: HostRuntime) -> ExitCode {
                 Err(Fault::Absent | Fault::Failed) => return ExitCode::from(SINK_FAULT),
             };
             let mut world = RealWorld::new(rt, errors);
-            let status = server(alloc, words.as_slice(), &mut world);
+            let status = serve(alloc, words.as_slice(), &mut world);
             world.end_gate();
             world.end_commands();
             if let Some(sentence) = advice(&status) {

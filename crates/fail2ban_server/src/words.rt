@@ -10,6 +10,7 @@ use std::{env, io};
 /// The text of `-h` and `--help`.
 pub const HELP: &str = "\
 Usage: fail2ban-server --conf DIR [--turns N] [--journal-limit BYTES]
+       fail2ban-server --workload SEED SIZE
        fail2ban-server --help | --version
 
 Follows the logs of the enabled jails, and runs the commands of their actions
@@ -23,13 +24,16 @@ At the socket it replies to fail2ban-client, by which it is also stopped.
   --journal-limit BYTES
                  let each of the two files of the journal get so long, and not
                  64 MiB
+  --workload SEED SIZE
+                 measure the server over a log of 1 to 20000 lines that both
+                 numbers make, in memory alone, and say what it counted
   -h, --help     print this help
   -V, --version  print the version
 
 What the server says goes to standard output, line by line.
 
 Exit status:
-   0  was stopped by a client, or made its N turns
+   0  was stopped by a client, made its N turns, or measured
    2  the words are none of those above
    3  the configuration cannot be read
    4  the configuration is refused
