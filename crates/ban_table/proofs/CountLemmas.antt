@@ -1,14 +1,9 @@
 -- How many bans each address has: one more, one that ends, and one that is dropped.
-use Rattle.std.proofs.Common.{◌≡◌, ℕ, ◌+◌, ◌-◌, ◌<◌, Bool, true, false, not, cond, ◌||◌, List, [], ◌∷◌, ◌++◌, length, length-append, Option, None, Result, Ok, Err, refl, sym, ◌∙◌, ap, subst, arith}
+use Rattle.std.proofs.Common.{◌≡◌, ℕ, ◌+◌, ◌-◌, ◌<◌, Bool, true, false, not, cond, ◌||◌, List, [], ◌∷◌, ◌++◌, length, length-append, Option, Some, None, Result, Ok, Err, refl, sym, ◌∙◌, ap, subst, arith}
 use mir.Val.{bool_byte}
-use Rattle.std.specs.BTreeMap as tree
-use Rattle.std.specs.BTreeMap.{BTreeMap, insert_entry, is_at}
-use Rattle.std.specs.List.{All, filter, find}
-use Rattle.std.specs.Map.{remove_entry, values_of}
-use Rattle.std.proofs.lemmas.Map.Views.{All-map-remove_entry, All-values-insert_entry}
-use Rattle.std.specs.Option.{is_some, option_map, unwrap_or}
+use Rattle.std.specs.List.{filter, find}
+use Rattle.std.specs.Option.{is_some, option_map, unwrap_or, IfSome}
 use Rattle.std.specs.Result.{OnOk, OnErr}
-use Rattle.std.specs.Ordering.{is_eq}
 use Rattle.f2b_base.specs.declared.addr.Addr.{Addr}
 use Rattle.f2b_base.specs.declared.ban.Ban.{Ban}
 use Rattle.f2b_base.specs.declared.ban.Past.{Past}
@@ -19,40 +14,41 @@ use Rattle.f2b_model.proofs.FullLemmas.{filter_le}
 use Rattle.f2b_model.proofs.ListLemmas.{by_test, filter-append}
 use Rattle.f2b_model.proofs.SoundLemmas.{same_addr_true}
 use Rattle.ban_table.specs.declared.counts.Counts.{Counts}
+use Rattle.ban_table.specs.declared.numbers.Numbers.{Numbers}
+use Rattle.ban_table.specs.Numbers.{number_of, AreSome, HaveAsBefore, IsNumbered}
 use Rattle.ban_table.specs.Counts.{counted, IsOneMore, IsOneFewer, IsAsMany, past_count, IsCountOf}
-use Rattle.ban_table.specs.Places.{pair_cmp, key_of}
 use Rattle.ban_table.specs.Tables.{by_serial}
 use Rattle.ban_table.proofs.BanLemmas.{any_placed, other_addr}
-use Rattle.ban_table.proofs.IndexLemmas.{key_same}
 
--- without a key no number is 0, where none was before
-pub some_left : (k : ℕ × ℕ) (es new : List ((ℕ × ℕ) × ℕ)) → new ≡ remove_entry (is_at (pair_cmp k)) es → All (λ n. 0 < n) (values_of es) → All (λ n. 0 < n) (values_of new)
-some_left k es new is some =
-    subst (λ (r : List ((ℕ × ℕ) × ℕ)). All (λ n. 0 < n) (values_of r)) (sym is) (All-map-remove_entry (is_at (pair_cmp k)) (λ (e : (ℕ × ℕ) × ℕ). e.1) (λ n. 0 < n) es some)
+-- no address has a number that is 0 where none had, and one has none, or one that is not 0
+pub some_set : (addr : Addr) (number : Option ℕ) (old new : Numbers) → IsNumbered addr number old new → IfSome number (λ n. 0 < n) → AreSome old → AreSome new
+some_set addr number old new set some before other =
+    let here = set other in
+    by_test (same_addr addr other) _
+    (λ e. let h : number_of other new ≡ number = rw e at here in rw h some)
+    (λ e. let h : number_of other new ≡ number_of other old = rw e at here in rw h (before other))
 
--- nor with one under which a number stands that is not 0, whether memory was there or not
-pub some_put : {T E : Type 0} (r : Result T E) (k : ℕ × ℕ) (count : ℕ) (es new : List ((ℕ × ℕ) × ℕ)) → OnOk r (new ≡ insert_entry pair_cmp es k count) → OnErr r (new ≡ es)
-    → 0 < count → All (λ n. 0 < n) (values_of es) → All (λ n. 0 < n) (values_of new)
-some_put (Ok x) k count es new ok err above some =
-    subst (λ (r : List ((ℕ × ℕ) × ℕ)). All (λ n. 0 < n) (values_of r)) (sym ok) (All-values-insert_entry pair_cmp k count (λ n. 0 < n) es some above)
-some_put (Err e) k count es new ok err above some = subst (λ (r : List ((ℕ × ℕ) × ℕ)). All (λ n. 0 < n) (values_of r)) (sym err) some
+-- whether memory was there for it or not
+pub some_put : {T E : Type 0} (r : Result T E) (addr : Addr) (count : ℕ) (old new : Numbers) → OnOk r (IsNumbered addr (Some count) old new) → OnErr r (HaveAsBefore old new)
+    → 0 < count → AreSome old → AreSome new
+some_put (Ok x) addr count old new ok err above before = some_set addr (Some count) old new ok above before
+some_put (Err e) addr count old new ok err above before = λ other. rw (err other) (before other)
 
--- the number under an address
-abbrev pub number : BTreeMap (ℕ × ℕ) ℕ → Addr → ℕ
-number m addr = unwrap_or (tree.get pair_cmp m (key_of addr)) 0
+-- the number of an address, or 0
+abbrev pub number : Numbers → Addr → ℕ
+number numbers addr = unwrap_or (number_of addr numbers) 0
 
 -- the numbers once that of one address was put in or taken out
-pub number_put : (old new : BTreeMap (ℕ × ℕ) ℕ) (addr : Addr) (count : Option ℕ)
-    → ((q : ℕ × ℕ) → tree.get pair_cmp new q ≡ cond (is_eq (pair_cmp (key_of addr) q)) count (tree.get pair_cmp old q))
+pub number_put : (old new : Numbers) (addr : Addr) (count : Option ℕ) → IsNumbered addr count old new
     → (other : Addr) → number new other ≡ cond (same_addr addr other) (unwrap_or count 0) (number old other)
 number_put old new addr count put other =
-    let here = put (key_of other) ∙ ap (λ t. cond t count (tree.get pair_cmp old (key_of other))) (key_same addr other) in
+    let here = put other in
     by_test (same_addr addr other) _
-    (λ e. let h : tree.get pair_cmp new (key_of other) ≡ count = rw e at here in rw e (ap (λ o. unwrap_or o 0) h))
-    (λ e. let h : tree.get pair_cmp new (key_of other) ≡ tree.get pair_cmp old (key_of other) = rw e at here in rw e (ap (λ o. unwrap_or o 0) h))
+    (λ e. let h : number_of other new ≡ count = rw e at here in rw e (ap (λ o. unwrap_or o 0) h))
+    (λ e. let h : number_of other new ≡ number_of other old = rw e at here in rw e (ap (λ o. unwrap_or o 0) h))
 
 -- a number that grew by one
-pub one_more : (old new : BTreeMap (ℕ × ℕ) ℕ) (addr : Addr) → ((other : Addr) → number new other ≡ cond (same_addr addr other) (number old addr + 1) (number old other))
+pub one_more : (old new : Numbers) (addr : Addr) → ((other : Addr) → number new other ≡ cond (same_addr addr other) (number old addr + 1) (number old other))
     → (other : Addr) → number new other ≡ number old other + cond (same_addr addr other) 1 0
 one_more old new addr put other =
     let here = put other in
@@ -61,8 +57,21 @@ one_more old new addr put other =
     let h : number new other ≡ number old addr + 1 = rw e at here in rw e (omega arith))
     (λ e. let h : number new other ≡ number old other = rw e at here in rw e (omega arith))
 
+-- and where there was memory for it
+pub put_more : {T E : Type 0} (r : Result T E) (old new : Counts) (addr : Addr) (count : ℕ) → count ≡ counted old addr
+    → OnOk r (IsNumbered addr (Some (count + 1)) old.by_addr new.by_addr) → OnOk r (IsOneMore addr old new)
+put_more (Ok x) old new addr count is put =
+    one_more old.by_addr new.by_addr addr
+    (λ other. number_put old.by_addr new.by_addr addr (Some (count + 1)) put other ∙ ap (λ n. cond (same_addr addr other) (n + 1) (counted old other)) is)
+put_more (Err e) old new addr count is put = tt
+
+-- and where there was none
+pub put_none : {T E : Type 0} (r : Result T E) (old new : Counts) → OnErr r (HaveAsBefore old.by_addr new.by_addr) → OnErr r (IsAsMany old new)
+put_none (Ok x) old new same = tt
+put_none (Err e) old new same = λ other. ap (λ o. unwrap_or o 0) (same other)
+
 -- a number that fell by one, where it was not 0
-pub one_fewer : (old new : BTreeMap (ℕ × ℕ) ℕ) (addr : Addr) → ((other : Addr) → number new other ≡ cond (same_addr addr other) (number old addr - 1) (number old other))
+pub one_fewer : (old new : Numbers) (addr : Addr) → ((other : Addr) → number new other ≡ cond (same_addr addr other) (number old addr - 1) (number old other))
     → (other : Addr) → number new other ≡ number old other - cond (same_addr addr other) 1 0
 one_fewer old new addr put other =
     let here = put other in
@@ -77,7 +86,7 @@ not_failed (Ok x) P Q done failed never = done
 not_failed (Err x) P Q done failed never = absurd (never failed)
 
 -- a number above 0 stands under its address
-pub counted_there : (counts : Counts) (addr : Addr) → 0 < counted counts addr → tree.get pair_cmp counts.by_addr (key_of addr) ≡ None → ⊥
+pub counted_there : (counts : Counts) (addr : Addr) → 0 < counted counts addr → number_of addr counts.by_addr ≡ None → ⊥
 counted_there counts addr some none = let e : counted counts addr ≡ 0 = ap (λ o. unwrap_or o 0) none in omega arith
 
 -- an entry in front counts one for its address

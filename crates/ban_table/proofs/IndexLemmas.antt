@@ -1,7 +1,6 @@
 -- The index of the active bans: one more, and one that goes.
 use denote.Bor.{Bor}
 use Rattle.std.proofs.Common.{◌≡◌, ◌↔◌, ℕ, ◌<◌, ◌≤◌, Bool, true, false, not, cond, ◌&&◌, ◌||◌, ◌==◌, nat_lt, List, [], ◌∷◌, length, Option, Some, None, Result, Ok, Err, ◌⊎◌, inl, inr, refl, sym, ◌∙◌, ap, ap₂, arith}
-use Rattle.std.specs.BTreeMap as tree
 use Rattle.std.specs.BTreeSet as sorted
 use Rattle.std.specs.List.{filter, find, list_any}
 use Rattle.std.specs.Option.{option_map, option_copied, IsSome, IfSome}
@@ -20,6 +19,7 @@ use Rattle.f2b_model.specs.Moves.{ban_of, is_banned}
 use Rattle.f2b_model.specs.Sound.{IsOnceEach, IsRisingSerials}
 use Rattle.f2b_model.proofs.ListLemmas.{by_test}
 use Rattle.ban_table.specs.declared.index.Index.{Index}
+use Rattle.ban_table.specs.Numbers.{number_of, IsNumbered}
 use Rattle.ban_table.specs.Places.{pair_cmp, key_of, is_until, ends_with, IsIndexOf, IsNoSooner, IsLeastEnd}
 use Rattle.ban_table.specs.Tables.{by_serial}
 use Rattle.ban_table.proofs.BanLemmas.{each_is, all_are, is_some_of, found_in, any_placed, find_none, find_begun, find_others, all_others, other_addr}
@@ -48,48 +48,45 @@ same_ends old new end serial same = ap (λ ks. list_any (λ k. is_eq (pair_cmp (
 
 -- after a serial was put in
 pub serials_begun : (old new : Index) (ban : Ban) (bans : List Ban) → IsIndexOf old bans → is_banned ban.addr bans ≡ false
-    → ((q : ℕ × ℕ) → tree.get pair_cmp new.serials q ≡ cond (is_eq (pair_cmp (key_of ban.addr) q)) (Some ban.serial) (tree.get pair_cmp old.serials q))
-    → (addr : Addr) → tree.get pair_cmp new.serials (key_of addr) ≡ option_map (λ (b : Ban). b.serial) (find (ban_of addr) (placed by_serial ban bans))
+    → IsNumbered ban.addr (Some ban.serial) old.serials new.serials
+    → (addr : Addr) → number_of addr new.serials ≡ option_map (λ (b : Ban). b.serial) (find (ban_of addr) (placed by_serial ban bans))
 serials_begun old new ban bans index free put addr =
-    let here = put (key_of addr) ∙ ap (λ t. cond t (Some ban.serial) (tree.get pair_cmp old.serials (key_of addr))) (key_same ban.addr addr) in
+    let here = put addr in
     let found = ap (λ o. option_map (λ (b : Ban). b.serial) o) (find_begun addr ban bans free) in
     by_test (same_addr ban.addr addr) _
-    (λ e. let h : tree.get pair_cmp new.serials (key_of addr) ≡ Some ban.serial = rw e at here in
+    (λ e. let h : number_of addr new.serials ≡ Some ban.serial = rw e at here in
     let f : option_map (λ (b : Ban). b.serial) (find (ban_of addr) (placed by_serial ban bans)) ≡ Some ban.serial = rw e at found in h ∙ sym f)
-    (λ e. let h : tree.get pair_cmp new.serials (key_of addr) ≡ tree.get pair_cmp old.serials (key_of addr) = rw e at here in
+    (λ e. let h : number_of addr new.serials ≡ number_of addr old.serials = rw e at here in
     let f : option_map (λ (b : Ban). b.serial) (find (ban_of addr) (placed by_serial ban bans)) ≡ option_map (λ (b : Ban). b.serial) (find (ban_of addr) bans) = rw e at found in
     h ∙ index.serials addr ∙ sym f)
 
 -- after a serial was taken out
 pub serials_others : (old new : Index) (gone : Addr) (bans : List Ban) → IsIndexOf old bans
-    → ((q : ℕ × ℕ) → tree.get pair_cmp new.serials q ≡ cond (is_eq (pair_cmp (key_of gone) q)) None (tree.get pair_cmp old.serials q))
-    → (addr : Addr) → tree.get pair_cmp new.serials (key_of addr) ≡ option_map (λ (b : Ban). b.serial) (find (ban_of addr) (filter (λ b. not (ban_of gone b)) bans))
+    → IsNumbered gone None old.serials new.serials
+    → (addr : Addr) → number_of addr new.serials ≡ option_map (λ (b : Ban). b.serial) (find (ban_of addr) (filter (λ b. not (ban_of gone b)) bans))
 serials_others old new gone bans index out addr =
-    let here = out (key_of addr) ∙ ap (λ t. cond t None (tree.get pair_cmp old.serials (key_of addr))) (key_same gone addr) in
+    let here = out addr in
     let found = ap (λ o. option_map (λ (b : Ban). b.serial) o) (find_others addr gone bans) in
     by_test (same_addr gone addr) _
-    (λ e. let h : tree.get pair_cmp new.serials (key_of addr) ≡ None = rw e at here in
+    (λ e. let h : number_of addr new.serials ≡ None = rw e at here in
     let f : option_map (λ (b : Ban). b.serial) (find (ban_of addr) (filter (λ b. not (ban_of gone b)) bans)) ≡ None = rw e at found in h ∙ sym f)
-    (λ e. let h : tree.get pair_cmp new.serials (key_of addr) ≡ tree.get pair_cmp old.serials (key_of addr) = rw e at here in
+    (λ e. let h : number_of addr new.serials ≡ number_of addr old.serials = rw e at here in
     let f : option_map (λ (b : Ban). b.serial) (find (ban_of addr) (filter (λ b. not (ban_of gone b)) bans)) ≡ option_map (λ (b : Ban). b.serial) (find (ban_of addr) bans) = rw e at found in
     h ∙ index.serials addr ∙ sym f)
 
 -- a serial that was put in and taken out again
 pub serials_back : (old mid new : Index) (ban : Ban) (bans : List Ban) → IsIndexOf old bans → is_banned ban.addr bans ≡ false
-    → ((q : ℕ × ℕ) → tree.get pair_cmp mid.serials q ≡ cond (is_eq (pair_cmp (key_of ban.addr) q)) (Some ban.serial) (tree.get pair_cmp old.serials q))
-    → ((q : ℕ × ℕ) → tree.get pair_cmp new.serials q ≡ cond (is_eq (pair_cmp (key_of ban.addr) q)) None (tree.get pair_cmp mid.serials q))
-    → (addr : Addr) → tree.get pair_cmp new.serials (key_of addr) ≡ option_map (λ (b : Ban). b.serial) (find (ban_of addr) bans)
+    → IsNumbered ban.addr (Some ban.serial) old.serials mid.serials
+    → IsNumbered ban.addr None mid.serials new.serials
+    → (addr : Addr) → number_of addr new.serials ≡ option_map (λ (b : Ban). b.serial) (find (ban_of addr) bans)
 serials_back old mid new ban bans index free put out addr =
-    let first = put (key_of addr) in
-    let second = out (key_of addr) in
-    let same = key_same ban.addr addr in
+    let first = put addr in
+    let second = out addr in
     by_test (same_addr ban.addr addr) _
-    (λ e. let k : is_eq (pair_cmp (key_of ban.addr) (key_of addr)) ≡ true = same ∙ e in
-    let h : tree.get pair_cmp new.serials (key_of addr) ≡ None = rw k at second in
+    (λ e. let h : number_of addr new.serials ≡ None = rw e at second in
     h ∙ sym (ap (λ o. option_map (λ (b : Ban). b.serial) o) (find_none (ban_of addr) bans (other_addr addr ban.addr bans e free))))
-    (λ e. let k : is_eq (pair_cmp (key_of ban.addr) (key_of addr)) ≡ false = same ∙ e in
-    let h : tree.get pair_cmp new.serials (key_of addr) ≡ tree.get pair_cmp mid.serials (key_of addr) = rw k at second in
-    let g : tree.get pair_cmp mid.serials (key_of addr) ≡ tree.get pair_cmp old.serials (key_of addr) = rw k at first in
+    (λ e. let h : number_of addr new.serials ≡ number_of addr mid.serials = rw e at second in
+    let g : number_of addr mid.serials ≡ number_of addr old.serials = rw e at first in
     h ∙ g ∙ index.serials addr)
 
 -- the ends with one more

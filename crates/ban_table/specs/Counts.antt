@@ -1,6 +1,5 @@
 -- How many bans each address has.
 use Rattle.std.specs.Prelude.{◌≡◌, ◌+◌, ◌-◌, ℕ, cond, List, length, filter}
-use Rattle.std.specs.BTreeMap as tree
 use Rattle.std.specs.Option.{unwrap_or}
 use Rattle.f2b_base.specs.declared.addr.Addr.{Addr}
 use Rattle.f2b_base.specs.declared.ban.Ban.{Ban}
@@ -8,11 +7,11 @@ use Rattle.f2b_base.specs.declared.ban.Past.{Past}
 use Rattle.f2b_base.specs.Addresses.{same_addr}
 use Rattle.f2b_model.specs.Moves.{is_banned, past_of}
 use Rattle.ban_table.specs.declared.counts.Counts.{Counts}
-use Rattle.ban_table.specs.Places.{pair_cmp, key_of}
+use Rattle.ban_table.specs.Numbers.{number_of}
 
 -- how many bans the counts tell of an address
 abbrev pub counted : Counts → Addr → ℕ
-counted counts addr = unwrap_or (tree.get pair_cmp counts.by_addr (key_of addr)) 0
+counted counts addr = unwrap_or (number_of addr counts.by_addr) 0
 
 -- the address has one more, and each other one as many
 abbrev pub IsOneMore : Addr → Counts → Counts → Type 0

@@ -1,4 +1,5 @@
 pub mod Tables
+pub mod Numbers
 pub mod Places
 pub mod Counts
 pub mod Entries

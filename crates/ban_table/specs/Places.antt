@@ -1,6 +1,5 @@
 -- Where the active bans are found: by address, and by end.
 use Rattle.std.specs.Prelude.{◌≡◌, ℕ, ◌+◌, ◌<◌, ◌≤◌, Bool, true, false, ◌&&◌, ◌==◌, List, length, find, Option, Some, None, ◌⊎◌}
-use Rattle.std.specs.BTreeMap as tree
 use Rattle.std.specs.BTreeSet as sorted
 use Rattle.std.specs.List.{list_any}
 use Rattle.std.specs.Map.{values_of}
@@ -16,6 +15,7 @@ use Rattle.f2b_model.specs.Lists.{AllOf}
 use Rattle.f2b_model.specs.Moves.{ban_of}
 use Rattle.f2b_model.specs.Sound.{IsOnceEach, IsRisingSerials}
 use Rattle.ban_table.specs.declared.index.Index.{Index}
+use Rattle.ban_table.specs.Numbers.{number_of}
 
 -- the order of pairs of numbers
 abbrev pub pair_cmp : ℕ × ℕ → ℕ × ℕ → Ordering
@@ -37,7 +37,7 @@ ends_with end serial b = is_until end b.until && (b.serial == serial)
 
 -- the index tells of each address the serial of its ban, and which ends the bans have with which serials
 pub record IsIndexOf (index : Index) (bans : List Ban) : Type 0 where
-  pub serials : (addr : Addr) → tree.get pair_cmp index.serials (key_of addr) ≡ option_map (λ (b : Ban). b.serial) (find (ban_of addr) bans)
+  pub serials : (addr : Addr) → number_of addr index.serials ≡ option_map (λ (b : Ban). b.serial) (find (ban_of addr) bans)
   pub ends : (end serial : ℕ) → sorted.contains pair_cmp index.ends (end, serial) ≡ list_any (ends_with end serial) bans
 
 -- a ban does not end before that end, or with it and with a lower serial

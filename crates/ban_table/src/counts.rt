@@ -1,19 +1,18 @@
 //! How many bans each address has. A ban counts from its start until its past entry is dropped, so its end changes no count.
-ghost use Rattle.std.specs.Prelude.{◌≡◌, ◌<◌, ◌-◌, ◌^◌, [], All, IfOk, OnOk, OnErr};
-ghost use Rattle.std.specs.BTreeMap.{values};
+ghost use Rattle.std.specs.Prelude.{◌≡◌, ◌<◌, ◌-◌, ◌^◌, [], IfOk, OnOk, OnErr};
 ghost use Rattle.f2b_base.specs.declared.addr.Addr.{Addr};
+ghost use Rattle.ban_table.specs.Numbers.{AreSome};
 
-use crate::addresses::key_of;
+use crate::numbers::Numbers;
 use f2b_base::{Addr, NoMemory, Past};
 use std::alloc::Global;
-use std::collections::BTreeMap;
 
 /// How many bans each address has.
 #[derive(Drop)]
 pub struct Counts {
-    by_addr: BTreeMap<(u8, u128), u64>,
+    by_addr: Numbers,
     /// An address that has none is not kept.
-    ghost some: { All (λ count. 0 < count) (values by_addr) },
+    ghost some: { AreSome by_addr },
 }
 
 impl Counts {
@@ -24,7 +23,7 @@ impl Counts {
         ensures { IsCountOf result [] [] }
     {
         Counts {
-            by_addr: BTreeMap::new(alloc),
+            by_addr: Numbers::new(alloc),
         }
     }
 
@@ -43,7 +42,7 @@ impl Counts {
     pub fn of(&self, addr: Addr) -> u64
         ensures { result ≡ counted self.now addr }
     {
-        self.by_addr.get(&key_of(addr)).copied().unwrap_or(0)
+        self.by_addr.of(addr).unwrap_or(0)
     }
 
     /// One ban more of an address.
@@ -53,8 +52,7 @@ impl Counts {
         ensures err { OnErr result (IsAsMany self.old self.new) }
     {
         let count = self.of(addr);
-        self.by_addr.insert(key_of(addr), count + 1)?;
-        Ok(())
+        self.by_addr.put(addr, count + 1)
     }
 
     /// One ban fewer of an address. Takes no memory.
@@ -63,10 +61,10 @@ impl Counts {
     {
         let count = self.of(addr);
         if count > 1 {
-            // The key is there already, so this does not fail.
-            let _ = self.by_addr.insert(key_of(addr), count - 1);
+            // The address has a number already, so this does not fail.
+            let _ = self.by_addr.put(addr, count - 1);
         } else {
-            let _ = self.by_addr.remove(&key_of(addr));
+            self.by_addr.remove(addr);
         }
     }
 }

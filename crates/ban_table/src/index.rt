@@ -8,16 +8,16 @@ ghost use Rattle.f2b_model.specs.Sound.{IsOnceEach, IsRisingSerials};
 ghost use Rattle.ban_table.specs.Tables.{by_serial};
 ghost use Rattle.ban_table.specs.Places.{IsIndexOf, IsLeastEnd};
 
-use crate::addresses::key_of;
+use crate::numbers::Numbers;
 use f2b_base::{Addr, Ban, NoMemory, Until};
 use std::alloc::Global;
-use std::collections::{BTreeMap, BTreeSet};
+use std::collections::BTreeSet;
 
 /// Where the active bans are found.
 #[derive(Drop)]
 pub struct Index {
     /// The serial of each address's ban.
-    serials: BTreeMap<(u8, u128), u64>,
+    serials: Numbers,
     /// The end and the serial of each ban that ends by time.
     ends: BTreeSet<(u64, u64)>,
 }
@@ -28,7 +28,7 @@ impl Index {
         ensures { IsIndexOf result [] }
     {
         Index {
-            serials: BTreeMap::new(alloc),
+            serials: Numbers::new(alloc),
             ends: BTreeSet::new(alloc),
         }
     }
@@ -37,7 +37,7 @@ impl Index {
     pub fn serial_of(&self, addr: Addr) -> Option<u64>
         ensures { (bans : List Ban) → IsIndexOf self.now bans → result ≡ option_map (λ (b : Ban). b.serial) (find (ban_of addr) bans) }
     {
-        self.serials.get(&key_of(addr)).copied()
+        self.serials.of(addr)
     }
 
     /// The least end of a ban that ends by time, and its serial, which is the least of those that end then.
@@ -52,10 +52,10 @@ impl Index {
         ensures ok { OnOk result ((bans : List Ban) → IsIndexOf self.old bans → is_banned ban.now.addr bans ≡ false → IsIndexOf self.new (placed by_serial ban.now bans)) }
         ensures err { OnErr result ((bans : List Ban) → IsIndexOf self.old bans → is_banned ban.now.addr bans ≡ false → IsIndexOf self.new bans) }
     {
-        self.serials.insert(key_of(ban.addr), ban.serial)?;
+        self.serials.put(ban.addr, ban.serial)?;
         if let Until::At(end) = ban.until {
             if self.ends.insert((end, ban.serial)).is_err() {
-                let _ = self.serials.remove(&key_of(ban.addr));
+                self.serials.remove(ban.addr);
                 return Err(NoMemory);
             }
         }
@@ -67,7 +67,7 @@ impl Index {
         ensures { (bans : List Ban) → IsIndexOf self.old bans → IsRisingSerials bans → IsOnceEach bans → find (ban_of ban.now.addr) bans ≡ Some ban.now
             → IsIndexOf self.new (filter (λ b. not (ban_of ban.now.addr b)) bans) }
     {
-        let _ = self.serials.remove(&key_of(ban.addr));
+        self.serials.remove(ban.addr);
         if let Until::At(end) = ban.until {
             let _ = self.ends.remove(&(end, ban.serial));
         }

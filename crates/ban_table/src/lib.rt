@@ -15,10 +15,10 @@
 //! ```
 #![tactic(auto)]
 
-mod addresses;
 mod counts;
 mod index;
 mod lists;
+mod numbers;
 mod past;
 mod purge;
 mod table;
