@@ -2,7 +2,7 @@
 use Rattle.std.proofs.Common.{◌≡◌, ℕ, ◌+◌, ◌-◌, ◌<◌, Bool, true, false, not, cond, ◌||◌, List, [], ◌∷◌, ◌++◌, length, length-append, Option, Some, None, Result, Ok, Err, refl, sym, ◌∙◌, ap, subst, arith}
 use mir.Val.{bool_byte}
 use Rattle.std.specs.List.{filter, find}
-use Rattle.std.specs.Option.{is_some, option_map, unwrap_or, IfSome}
+use Rattle.std.specs.Option.{is_some, option_map, unwrap_or, ForSome}
 use Rattle.std.specs.Result.{OnOk, OnErr}
 use Rattle.f2b_base.specs.declared.addr.Addr.{Addr}
 use Rattle.f2b_base.specs.declared.ban.Ban.{Ban}
@@ -20,19 +20,22 @@ use Rattle.ban_table.specs.Counts.{counted, IsOneMore, IsOneFewer, IsAsMany, pas
 use Rattle.ban_table.specs.Tables.{by_serial}
 use Rattle.ban_table.proofs.BanLemmas.{any_placed, other_addr}
 
--- no address has a number that is 0 where none had, and one has none, or one that is not 0
-pub some_set : (addr : Addr) (number : Option ℕ) (old new : Numbers) → IsNumbered addr number old new → IfSome number (λ n. 0 < n) → AreSome old → AreSome new
-some_set addr number old new set some before other =
+-- no number is 0 where none was before, and one is put in that is not, or none
+some_set : (addr : Addr) (number : Option ℕ) (old new : Numbers) → IsNumbered addr number old new → ForSome number (λ n. 0 < n) → AreSome old → AreSome new
+some_set addr number old new set some before other count is =
     let here = set other in
     by_test (same_addr addr other) _
-    (λ e. let h : number_of other new ≡ number = rw e at here in rw h some)
-    (λ e. let h : number_of other new ≡ number_of other old = rw e at here in rw h (before other))
+    (λ e. let h : number_of other new ≡ number = rw e at here in some count (sym h ∙ is))
+    (λ e. let h : number_of other new ≡ number_of other old = rw e at here in before other count (sym h ∙ is))
+
+pub some_left : (addr : Addr) (old new : Numbers) → IsNumbered addr None old new → AreSome old → AreSome new
+some_left addr old new set before = some_set addr None old new set (λ n e. absurd (let nothing : Option ℕ = None in let k : nothing ≡ Some n = e in cc)) before
 
 -- whether memory was there for it or not
 pub some_put : {T E : Type 0} (r : Result T E) (addr : Addr) (count : ℕ) (old new : Numbers) → OnOk r (IsNumbered addr (Some count) old new) → OnErr r (HaveAsBefore old new)
     → 0 < count → AreSome old → AreSome new
-some_put (Ok x) addr count old new ok err above before = some_set addr (Some count) old new ok above before
-some_put (Err e) addr count old new ok err above before = λ other. rw (err other) (before other)
+some_put (Ok x) addr count old new ok err above before = some_set addr (Some count) old new ok (λ n e. (let same : count ≡ n = cc in omega arith)) before
+some_put (Err e) addr count old new ok err above before = λ other n is. before other n (sym (err other) ∙ is)
 
 -- the number of an address, or 0
 abbrev pub number : Numbers → Addr → ℕ
@@ -58,15 +61,14 @@ one_more old new addr put other =
     (λ e. let h : number new other ≡ number old other = rw e at here in rw e (omega arith))
 
 -- and where there was memory for it
-pub put_more : {T E : Type 0} (r : Result T E) (old new : Counts) (addr : Addr) (count : ℕ) → count ≡ counted old addr
-    → OnOk r (IsNumbered addr (Some (count + 1)) old.by_addr new.by_addr) → OnOk r (IsOneMore addr old new)
+pub put_more : {T E : Type 0} (r : Result T E) (old new : Numbers) (addr : Addr) (count : ℕ) → count ≡ number old addr → OnOk r (IsNumbered addr (Some (count + 1)) old new)
+    → OnOk r ((other : Addr) → number new other ≡ number old other + cond (same_addr addr other) 1 0)
 put_more (Ok x) old new addr count is put =
-    one_more old.by_addr new.by_addr addr
-    (λ other. number_put old.by_addr new.by_addr addr (Some (count + 1)) put other ∙ ap (λ n. cond (same_addr addr other) (n + 1) (counted old other)) is)
+    one_more old new addr (λ other. number_put old new addr (Some (count + 1)) put other ∙ ap (λ n. cond (same_addr addr other) (n + 1) (number old other)) is)
 put_more (Err e) old new addr count is put = tt
 
 -- and where there was none
-pub put_none : {T E : Type 0} (r : Result T E) (old new : Counts) → OnErr r (HaveAsBefore old.by_addr new.by_addr) → OnErr r (IsAsMany old new)
+pub put_none : {T E : Type 0} (r : Result T E) (old new : Numbers) → OnErr r (HaveAsBefore old new) → OnErr r ((other : Addr) → number new other ≡ number old other)
 put_none (Ok x) old new same = tt
 put_none (Err e) old new same = λ other. ap (λ o. unwrap_or o 0) (same other)
 

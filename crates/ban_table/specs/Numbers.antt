@@ -1,6 +1,7 @@
 -- A number for each address that has one.
-use Rattle.std.specs.Prelude.{◌≡◌, ℕ, ◌<◌, cond, Option, IfSome}
+use Rattle.std.specs.Prelude.{◌≡◌, ℕ, ◌<◌, cond, Option}
 use Rattle.std.specs.BTreeMap as tree
+use Rattle.std.specs.Option.{ForSome}
 use Rattle.std.specs.Ordering.{nat_cmp}
 use Rattle.f2b_base.specs.declared.addr.Addr.{Addr}
 use Rattle.f2b_base.specs.declared.addr.Addr.TheVariants.{V4, V6}
@@ -22,4 +23,4 @@ HaveAsBefore old new = (addr : Addr) → number_of addr new ≡ number_of addr o
 
 -- no number is 0
 abbrev pub AreSome : Numbers → Type 0
-AreSome numbers = (addr : Addr) → IfSome (number_of addr numbers) (λ number. 0 < number)
+AreSome numbers = (addr : Addr) → ForSome (number_of addr numbers) (λ number. 0 < number)

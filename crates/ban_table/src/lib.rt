@@ -17,6 +17,7 @@
 
 mod counts;
 mod index;
+mod kept;
 mod lists;
 mod numbers;
 mod past;

@@ -1,7 +1,8 @@
 //! `BanTable` and its calls.
 ghost use Rattle.std.specs.Prelude.{◌≡◌, ◌≢◌, ◌<◌, ◌≤◌, [], false, length, filter, find, is_some, option_copied, Some, OnOk, OnErr, IfOk, IfSome};
-ghost use Rattle.std.specs.BTreeMap.{values};
+ghost use Rattle.std.specs.BTreeMap.{insert_entry, values};
 ghost use Rattle.std.specs.List.{list_any};
+ghost use Rattle.std.specs.Ordering.{nat_cmp};
 ghost use Rattle.f2b_base.specs.declared.ban.Ban.{Ban};
 ghost use Rattle.f2b_base.specs.Limits.{last_moment};
 ghost use Rattle.f2b_model.specs.Lists.{AllOf};
@@ -13,6 +14,7 @@ ghost use Rattle.ban_table.specs.Walks.{is_from};
 
 use crate::counts::Counts;
 use crate::index::Index;
+use crate::kept::{Kept, lent, taken};
 use crate::lists::BanLists;
 use crate::past::PastBans;
 use crate::purge::purge;
@@ -25,7 +27,7 @@ use std::marker::Model;
 #[derive(Drop)]
 pub struct BanTable {
     /// The active bans by serial.
-    bans: BTreeMap<u64, Ban>,
+    bans: BTreeMap<u64, Kept>,
     index: Index,
     /// In the order in which they ended, with room for one entry of each active ban.
     past: PastBans,
@@ -47,14 +49,23 @@ impl Model for BanTable {
 }
 
 /// A copy of the active bans.
-fn active_of(alloc: Global, bans: &BTreeMap<u64, Ban>) -> Result<Seq<Ban>, NoMemory>
+fn active_of(alloc: Global, bans: &BTreeMap<u64, Kept>) -> Result<Seq<Ban>, NoMemory>
     ensures { IfOk result (λ active. active ≡ values bans.now) }
 {
     let mut active = Seq::new(alloc);
-    for ban in bans.values() {
-        active.push(*ban)?;
+    for kept in bans.values() {
+        active.push(*kept.ban())?;
     }
     Ok(active)
+}
+
+/// Puts a copy of a ban under its serial.
+fn put(bans: &mut BTreeMap<u64, Kept>, alloc: Global, ban: &Ban) -> Result<(), NoMemory>
+    ensures ok { OnOk result (bans.new.entries ≡ insert_entry nat_cmp bans.old.entries ban.now.serial ban.now) }
+    ensures err { OnErr result (bans.new.entries ≡ bans.old.entries) }
+{
+    bans.insert(ban.serial, Kept::new(alloc, *ban)?)?;
+    Ok(())
 }
 
 impl BanTable {
@@ -109,7 +120,8 @@ impl BanTable {
             self.counts.fewer(ban.addr);
             return Err(NoMemory);
         }
-        if self.bans.insert(ban.serial, ban).is_err() {
+        let alloc = self.past.allocator();
+        if put(&mut self.bans, alloc, &ban).is_err() {
             self.index.remove(&ban);
             self.counts.fewer(ban.addr);
             return Err(NoMemory);
@@ -125,7 +137,7 @@ impl BanTable {
         ensures lists { self.new ≡ ended addr at self.old }
     {
         let serial = self.index.serial_of(addr)?;
-        let ban = self.bans.remove(&serial)?;
+        let ban = taken(self.bans.remove(&serial))?;
         self.index.remove(&ban);
         self.past.push(Past { addr, end: at });
         Some(ban)
@@ -136,7 +148,7 @@ impl BanTable {
         ensures { option_copied result ≡ find (ban_of addr) self.now.active }
     {
         let serial = self.index.serial_of(addr)?;
-        self.bans.get(&serial)
+        lent(self.bans.get(&serial))
     }
 
     /// The active ban of the least serial that is at least this one, or `None` where there is none. Takes no memory, and no walk over
@@ -144,8 +156,8 @@ impl BanTable {
     pub fn from(&self, serial: u64) -> Option<&Ban>
         ensures { option_copied result ≡ find (is_from serial) self.now.active }
     {
-        let (_, ban) = self.bans.range(serial..).next()?;
-        Some(ban)
+        let (_, kept) = self.bans.range(serial..).next()?;
+        Some(kept.ban())
     }
 
     /// The ban to end next at a moment, in seconds since 1970, or `None` where no end is at most that.
@@ -159,7 +171,7 @@ impl BanTable {
         if now < end {
             return None;
         }
-        self.bans.get(&serial)
+        lent(self.bans.get(&serial))
     }
 
     /// A copy of the active bans, by serial.
@@ -178,13 +190,14 @@ impl BanTable {
     }
 
     /// The active bans of these addresses, under their serials.
-    fn found_of(&self, addrs: &[Addr]) -> Result<BTreeMap<u64, Ban>, NoMemory>
+    fn found_of(&self, addrs: &[Addr]) -> Result<BTreeMap<u64, Kept>, NoMemory>
         ensures { IfOk result (λ found. values found ≡ filter (is_meant (Some addrs.now)) self.now.active) }
     {
-        let mut found = BTreeMap::new(self.past.allocator());
+        let alloc = self.past.allocator();
+        let mut found = BTreeMap::new(alloc);
         for addr in addrs {
             if let Some(ban) = self.active(*addr) {
-                found.insert(ban.serial, *ban)?;
+                put(&mut found, alloc, ban)?;
             }
         }
         Ok(found)

@@ -2,7 +2,7 @@
 use Rattle.std.proofs.Common.{◌≡◌, Some, None, ◌-◌, cond, ◌∙◌, ap, arith}
 use Rattle.f2b_base.specs.Addresses.{same_addr}
 use Rattle.ban_table.specs.Counts.{counted}
-use Rattle.ban_table.proofs.CountLemmas.{counted_there, not_failed, number_put, one_fewer, some_set, some_put}
+use Rattle.ban_table.proofs.CountLemmas.{counted_there, not_failed, number_put, one_fewer, some_left, some_put}
 use Rattle.ban_table.proofs.counts.Counts.fewer.Goals as goal
 
 pub invariant_of-self : goal.invariant_of-self
@@ -13,7 +13,7 @@ invariant_of-self c = record {
 
 pub invariant_of-self-else-count-gt1 : goal.invariant_of-self-else-count-gt1
 invariant_of-self-else-count-gt1 c = record {
-  some = some_set c.args.addr None c.args.self.now.by_addr c.remove.new.self c.remove.ensures tt c.args.self.now.some;
+  some = some_left c.args.addr c.args.self.now.by_addr c.remove.new.self c.remove.ensures c.args.self.now.some;
 }
 
 pub returns-then-count-gt1 : goal.returns-then-count-gt1

@@ -9,7 +9,7 @@ invariant_of-self c = record {
 }
 
 pub returns-clause-ok : goal.returns-clause-ok
-returns-clause-ok c = put_more c.put.result c.args.self.now c.put.new.self c.args.addr c.of-count.result c.of-count.ensures c.put.ensures.ok
+returns-clause-ok c = put_more c.put.result c.args.self.now.by_addr c.put.new.self c.args.addr c.of-count.result c.of-count.ensures c.put.ensures.ok
 
 pub returns-clause-err : goal.returns-clause-err
-returns-clause-err c = put_none c.put.result c.args.self.now c.put.new.self c.put.ensures.err
+returns-clause-err c = put_none c.put.result c.args.self.now.by_addr c.put.new.self c.put.ensures.err

@@ -17,22 +17,22 @@ returns-then-now-end-clause-some c =
     rw (← c.self.view_is) (sym (none_yet c.args.now c.in_ok-end.end c.in_ok-end.serial _ c.if-now-end.true (c.in_ok-end.ensures _ c.self.invariant.0.found).1))
 
 -- the ban of the least end
-next : (c : goal.After-get) → IsDueBan c.args.now c.in_ok-end.end c.in_ok-end.serial (values_of c.self.inside.bans.entries)
+next : (c : goal.After-lent) → IsDueBan c.args.now c.in_ok-end.end c.in_ok-end.serial (values_of c.self.inside.bans.entries)
 next c =
     let least = c.in_ok-end.ensures (values_of c.self.inside.bans.entries) c.self.invariant.0.found in
     due_ban c.args.now c.in_ok-end.end c.in_ok-end.serial (values_of c.self.inside.bans.entries) c.if-now-end.false least.0 least.1
 
 -- is the one that is lent
-lent : (c : goal.After-get) → option_copied c.get.result ≡ Some (next c).ban
+lent : (c : goal.After-lent) → option_copied c.lent.result ≡ Some (next c).ban
 lent c =
     let table = c.self.invariant.0 in
     let n = next c in
-    c.get.ensures.value ∙ ap (λ s. lookup (is_at (nat_cmp s)) c.self.inside.bans.entries) (sym n.serial_is)
+    c.lent.ensures ∙ c.get.ensures.value ∙ ap (λ s. lookup (is_at (nat_cmp s)) c.self.inside.bans.entries) (sym n.serial_is)
     ∙ lookup_active c.self.inside.bans.entries n.ban table.keyed table.rising n.within
 
 pub returns-clause-some : goal.returns-clause-some
-returns-clause-some c = rw (← c.self.view_is) (lent_some c.get.result (next c).ban (lent c) ∙ sym (next c).some)
+returns-clause-some c = rw (← c.self.view_is) (lent_some c.lent.result (next c).ban (lent c) ∙ sym (next c).some)
 
 pub returns-clause-first : goal.returns-clause-first
 returns-clause-first c =
-    rw (← c.self.view_is) (lent_is (λ (b : Ban). IsNextDue c.args.now (values_of c.self.inside.bans.entries) b) c.get.result (next c).ban (lent c) (next c).next)
+    rw (← c.self.view_is) (lent_is (λ (b : Ban). IsNextDue c.args.now (values_of c.self.inside.bans.entries) b) c.lent.result (next c).ban (lent c) (next c).next)

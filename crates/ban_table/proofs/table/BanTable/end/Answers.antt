@@ -14,12 +14,12 @@ returns-in_err-serial-clause-lists c =
 pub returns-in_err-ban-clause-ban : goal.returns-in_err-ban-clause-ban
 returns-in_err-ban-clause-ban c =
     let table = c.self.invariant.0 in
-    absurd (not_lost c.self.inside.bans.entries c.args.addr c.in_ok-serial.serial table.keyed table.rising (c.in_ok-serial.ensures _ table.found) c.in_err-ban.ensures.value)
+    absurd (not_lost c.self.inside.bans.entries c.args.addr c.in_ok-serial.serial table.keyed table.rising (c.in_ok-serial.ensures _ table.found) (c.in_err-ban.ensures ∙ c.remove.ensures.value))
 
 pub returns-in_err-ban-clause-lists : goal.returns-in_err-ban-clause-lists
 returns-in_err-ban-clause-lists c =
     let table = c.self.invariant.0 in
-    absurd (not_lost c.self.inside.bans.entries c.args.addr c.in_ok-serial.serial table.keyed table.rising (c.in_ok-serial.ensures _ table.found) c.in_err-ban.ensures.value)
+    absurd (not_lost c.self.inside.bans.entries c.args.addr c.in_ok-serial.serial table.keyed table.rising (c.in_ok-serial.ensures _ table.found) (c.in_err-ban.ensures ∙ c.remove.ensures.value))
 
 -- what the whole body does
 all : (c : goal.After-push)
@@ -28,7 +28,7 @@ all c =
     let w = c.self.inside in
     let table = c.self.invariant.0 in
     ended_so w.bans.entries c.remove.new.self.entries w.index c.remove-2.new.self (length w.past.items) w.past.room c.args.addr c.in_ok-serial.serial c.in_ok-ban.ban table
-    (c.in_ok-serial.ensures _ table.found) c.in_ok-ban.ensures.value c.in_ok-ban.ensures.entries c.in_ok-ban.ensures.len c.remove-2.ensures
+    (c.in_ok-serial.ensures _ table.found) (c.in_ok-ban.ensures ∙ c.remove.ensures.value) c.remove.ensures.entries (rw (← c.in_ok-ban.ensures) at c.remove.ensures.len) c.remove-2.ensures
 
 pub invariant_of-self-2 : goal.invariant_of-self-2
 invariant_of-self-2 c =

@@ -36,26 +36,26 @@ invariant_of-self-then-is_err c =
 pub invariant_of-self-then-is_err-2 : goal.invariant_of-self-then-is_err-2
 invariant_of-self-then-is_err-2 c =
     let w = c.self.inside in
-    let kept = err_holds c.insert.result _ (sym c.is_err-2.ensures.value ∙ c.if-is_err-2.true) c.insert.ensures.err in
+    let kept = err_holds c.put.result _ (sym c.is_err-2.ensures.value ∙ c.if-is_err-2.true) c.put.ensures.err in
     let added = ok_holds c.add.result _ (sym c.is_err.ensures.value ∙ c.if-is_err.false) c.add.ensures.ok in
     let same = as_many_back w.counts c.more.new.self c.fewer-then-is_err-2.new.self c.args.ban.addr c.in_ok-more.ensures.ok c.fewer-then-is_err-2.ensures in (
       rw (ap length c.make_room.ensures.items)
-          (unbegun_so w.bans.entries c.insert.new.self.entries w.index c.add.new.self c.remove.new.self (length w.past.items) w.past.room c.make_room.new.self.room c.args.ban
+          (unbegun_so w.bans.entries c.put.new.bans.entries w.index c.add.new.self c.remove.new.self (length w.past.items) w.past.room c.make_room.new.self.room c.args.ban
           c.self.invariant.0 (rw (← c.self.view_is) at c.requires.free) (rw (← c.self.view_is) at c.requires.serial) kept
           (omega (arith, c.in_ok-make_room.ensures.ok, ap length c.make_room.ensures.items)) added c.remove.ensures),
-      count_is c.fewer-then-is_err-2.new.self (values_of w.bans.entries) (values_of c.insert.new.self.entries) w.past.items c.make_room.new.self.items
+      count_is c.fewer-then-is_err-2.new.self (values_of w.bans.entries) (values_of c.put.new.bans.entries) w.past.items c.make_room.new.self.items
           (count_stays w.counts c.fewer-then-is_err-2.new.self (values_of w.bans.entries) w.past.items same c.self.invariant.1) (ap (λ es. values_of es) kept) c.make_room.ensures.items,
     )
 
 -- what the whole body does
 all : (c : goal.Else-is_err-2)
-    → (values_of c.insert.new.self.entries ≡ placed by_serial c.args.ban (values_of c.self.inside.bans.entries))
-    × IsTable c.insert.new.self.entries c.add.new.self (length c.self.inside.past.items) c.make_room.new.self.room
+    → (values_of c.put.new.bans.entries ≡ placed by_serial c.args.ban (values_of c.self.inside.bans.entries))
+    × IsTable c.put.new.bans.entries c.add.new.self (length c.self.inside.past.items) c.make_room.new.self.room
 all c =
     let w = c.self.inside in
-    begun_so w.bans.entries c.insert.new.self.entries w.index c.add.new.self (length w.past.items) w.past.room c.make_room.new.self.room c.args.ban
+    begun_so w.bans.entries c.put.new.bans.entries w.index c.add.new.self (length w.past.items) w.past.room c.make_room.new.self.room c.args.ban
     c.self.invariant.0 (rw (← c.self.view_is) at c.requires.free) (rw (← c.self.view_is) at c.requires.serial)
-    (ok_holds c.insert.result _ (sym c.is_err-2.ensures.value ∙ c.if-is_err-2.false) c.insert.ensures.entries)
+    (ok_holds c.put.result _ (sym c.is_err-2.ensures.value ∙ c.if-is_err-2.false) c.put.ensures.ok)
     (omega (arith, c.in_ok-make_room.ensures.ok, ap length c.make_room.ensures.items))
     (ok_holds c.add.result _ (sym c.is_err.ensures.value ∙ c.if-is_err.false) c.add.ensures.ok)
 
@@ -64,7 +64,7 @@ invariant_of-self-else-is_err-2 c =
     let w = c.self.inside in
     let bans = values_of w.bans.entries in (
       rw (ap length c.make_room.ensures.items) (all c).1,
-      count_is c.more.new.self (placed by_serial c.args.ban bans) (values_of c.insert.new.self.entries) w.past.items c.make_room.new.self.items
+      count_is c.more.new.self (placed by_serial c.args.ban bans) (values_of c.put.new.bans.entries) w.past.items c.make_room.new.self.items
           (count_begun w.counts c.more.new.self c.args.ban bans w.past.items (rw (← c.self.view_is) at c.requires.free) c.in_ok-more.ensures.ok c.self.invariant.1)
           (all c).0 c.make_room.ensures.items,
     )
