@@ -19,4 +19,5 @@ mod effects;
 mod state;
 
 pub use again::view_after;
+pub use jail_rooms::Sweep;
 pub use state::Core;

@@ -1,5 +1,5 @@
 //! `Core` and its calls.
-ghost use Rattle.std.specs.Prelude.{◌≡◌, ◌≢◌, ◌↔◌, ◌≤◌, ◌&&◌, not, option_and_then, option_copied, option_map, IsTrue, IfOk};
+ghost use Rattle.std.specs.Prelude.{◌≡◌, ◌≢◌, ◌↔◌, ◌≤◌, ◌-◌, ◌&&◌, false, not, option_and_then, option_copied, option_map, IsTrue, IfOk};
 ghost use Rattle.std.specs.Option.{option_map_or};
 ghost use Rattle.f2b_base.specs.declared.job.UpLane.{UpLane};
 ghost use Rattle.f2b_model.specs.Checks.{check_of};
@@ -14,6 +14,7 @@ ghost use Rattle.f2b_model.specs.Whole.{is_whole_spent, step_now, told_now};
 ghost use Rattle.f2b_model.specs.declared.jail_now.JailNow.{JailNow};
 ghost use Rattle.f2b_model.specs.Configured.{configured_now};
 ghost use Rattle.f2b_model.specs.Bounds.{IsTakenInput};
+ghost use Rattle.jail_rooms.specs.Memory.{is_resting, swept};
 ghost use Rattle.jail_rooms.specs.Shown.{ban_from, defs_of, jail_failed_lately, totals_of};
 ghost use Rattle.lane_moves.specs.CheckText.{check_text_of};
 
@@ -22,7 +23,7 @@ use action_queue::Lanes;
 use f2b_base::{Ban, Defs, Input, JailDef, NoMemory, Plain, Seq, Text, UpLane, View};
 use f2b_model::Told;
 use jail_moves::Totals;
-use jail_rooms::Jails;
+use jail_rooms::{Jails, Sweep};
 use lane_moves::LaneBook;
 use std::alloc::Global;
 use std::marker::Model;
@@ -202,13 +203,16 @@ impl Core {
     }
 
     /// Forgets, in all jails together, the failures of up to `most` addresses of which none matters any more by the last failure that was
-    /// counted in their jail, and gives of how many: called once a turn, it gives the memory of a burst back once a later failure counts.
-    /// Where it left nothing to forget it rests for 16 seconds, so that steady failures do not make each turn look at each address. The
-    /// state stays as it is. Takes no memory. It is the sweep of the jails, whose clauses say what goes, what is left and when it rests;
-    /// the value that a caller sees of a core has no place for that.
-    pub fn sweep(&mut self, most: u64) -> u64
+    /// counted in their jail: called once a turn, it gives the memory of a burst back once a later failure counts. Where it left nothing
+    /// to forget it rests for 16 seconds, so that steady failures do not make each turn look at each address. The state stays as it is.
+    /// Takes no memory. The value that a caller sees of a core has no place for what is kept for nothing, so the sweep that is handed up
+    /// says what went and what is left: it is one of the core's own jails.
+    pub fn sweep(&mut self, most: u64) -> Sweep
         ensures state { self.new ≡ self.old }
-        ensures most { result ≤ most }
+        ensures most { result.forgotten ≤ most }
+        ensures before { result.before.state ≡ self.old.jails }
+        ensures after { result.after ≡ swept most result.before }
+        ensures left { is_resting result.before ≡ false → result.after.stale ≡ result.before.stale - most }
     {
         self.jails.sweep(most)
     }

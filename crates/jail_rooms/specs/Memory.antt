@@ -25,3 +25,12 @@ abbrev pub swept : ℕ → JailsKept → JailsKept
 swept most j =
     cond (is_resting j) j
     (record j { stale = j.stale - most; rests_until = cond (nat_lt j.stale most) (j.state.at + sweep_rest) j.rests_until })
+
+-- A sweep that was made.
+pub record SweepMade : Type 0 where
+  -- of how many addresses it forgot the failures
+  pub forgotten : ℕ
+  -- the jails before it
+  pub before : JailsKept
+  -- the jails behind it
+  pub after : JailsKept

@@ -38,6 +38,7 @@ use f2b_model::{Happening, JailBans};
 use jail_moves::Totals;
 use std::alloc::Global;
 use std::marker::Model;
+use std::snapshot::Snapshot;
 
 /// The jails of the server.
 #[derive(Drop)]
@@ -72,6 +73,36 @@ impl Model for Jails {
     } };
 
     ghost invariant = { λ j. (j.at ≤ last_moment) × AllOf (IsWellKept j.at j.next_ban) j.jails.items };
+}
+
+/// A sweep that was made. Nothing but `Jails::sweep` makes one, so whoever hands one up has swept. It keeps a number, and of the jails
+/// before it and behind it what clauses see.
+#[derive(Drop)]
+pub struct Sweep {
+    forgotten: u64,
+    before: Snapshot<Jails>,
+    after: Snapshot<Jails>,
+}
+
+impl Model for Sweep {
+    ghost use Rattle.std.specs.Prelude.{◌≡◌, ◌+◌};
+    ghost use Rattle.jail_rooms.specs.Memory.{SweepMade};
+
+    ghost Value = { SweepMade };
+
+    ghost view = { λ s. record { forgotten = s.forgotten; before = s.before.value; after = s.after.value } };
+
+    ghost invariant = { λ s. s.after.value.stale + s.forgotten ≡ s.before.value.stale };
+}
+
+impl Sweep {
+    /// Of how many addresses it forgot the failures. Takes no memory.
+    pub fn forgotten(&self) -> u64
+        ensures number { result ≡ self.now.forgotten }
+        ensures left { self.now.after.stale + result ≡ self.now.before.stale }
+    {
+        self.forgotten
+    }
 }
 
 impl Jails {
@@ -208,11 +239,8 @@ impl Jails {
         active_bans(self.alloc, self.jails.as_slice())
     }
 
-    /// Forgets, in all jails together, the failures of addresses of which none matters any more by the last failure that was counted in
-    /// their jail: of all such addresses, or of `most` of them. Gives of how many. A caller that calls it once a turn gets the memory of a
-    /// burst back once a later failure counts. Where it left nothing to forget it rests for 16 seconds, in which it forgets nothing, so that
-    /// steady failures do not make each turn look at each address. The state stays as it is. Takes no memory.
-    pub fn sweep(&mut self, most: u64) -> u64
+    /// Forgets what a sweep does, and gives of how many addresses.
+    fn forget(&mut self, most: u64) -> u64
         ensures jails { self.new ≡ swept most self.old }
         ensures state { self.new.state ≡ self.old.state }
         ensures forgotten { self.new.stale + result ≡ self.old.stale }
@@ -224,6 +252,27 @@ impl Jails {
         let forgotten = sweep_jails(self.jails.as_mut_slice(), most);
         self.next_sweep = rest_after(forgotten, most, self.at, self.next_sweep);
         forgotten
+    }
+
+    /// Forgets, in all jails together, the failures of addresses of which none matters any more by the last failure that was counted in
+    /// their jail: of all such addresses, or of `most` of them. A caller that calls it once a turn gets the memory of a burst back once a
+    /// later failure counts. Where it left nothing to forget it rests for 16 seconds, in which it forgets nothing, so that steady failures
+    /// do not make each turn look at each address. The state stays as it is. Takes no memory.
+    pub fn sweep(&mut self, most: u64) -> Sweep
+        ensures jails { self.new ≡ swept most self.old }
+        ensures state { self.new.state ≡ self.old.state }
+        ensures most { result.forgotten ≤ most }
+        ensures before { result.before ≡ self.old }
+        ensures after { result.after ≡ self.new }
+    {
+        let before = Snapshot::of(&*self);
+        let forgotten = self.forget(most);
+        let after = Snapshot::of(&*self);
+        Sweep {
+            forgotten,
+            before,
+            after,
+        }
     }
 
     /// The jails at a reading, once the bans that are due have ended; tells of them.

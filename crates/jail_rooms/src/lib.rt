@@ -25,4 +25,4 @@ mod shown;
 mod stored;
 mod sweep;
 
-pub use jails::Jails;
+pub use jails::{Jails, Sweep};

@@ -4,6 +4,7 @@ ghost use Rattle.ban_journal.specs.Places.{IsPlaced};
 ghost use Rattle.f2b_model.specs.Storable.{IsStorable, IsStorableInput};
 ghost use Rattle.f2b_model.specs.Views.{spread};
 ghost use Rattle.f2b_model.specs.Whole.{step_now, told_now};
+ghost use Rattle.jail_rooms.specs.Memory.{swept};
 ghost use Rattle.reconcile.specs.Answers.{entry_for, journal_of, IsWritten};
 ghost use Rattle.reconcile.specs.Engines.{IsOnDisk, OpensThrough};
 ghost use Rattle.reconcile.specs.Opens.{Opens, WhereTold};
@@ -14,7 +15,7 @@ use ban_journal::Journal;
 use f2b_base::Input;
 use f2b_model::Told;
 use f2b_world::Disk;
-use jail_core::Core;
+use jail_core::{Core, Sweep};
 use std::alloc::Global;
 use std::marker::Model;
 
@@ -67,10 +68,13 @@ impl Engine {
         &self.core
     }
 
-    /// Forgets of at most so many addresses what no longer matters, as `Core::sweep` does, and gives of how many. The state stays as it is.
-    pub fn sweep(&mut self, most: u64) -> u64
+    /// Forgets of at most so many addresses what no longer matters, as `Core::sweep` does. The state stays as it is, and the sweep is one of
+    /// its jails.
+    pub fn sweep(&mut self, most: u64) -> Sweep
         ensures state { self.new ≡ self.old }
-        ensures most { result ≤ most }
+        ensures most { result.forgotten ≤ most }
+        ensures before { result.before.state ≡ self.old.core.jails }
+        ensures after { result.after ≡ swept most result.before }
     {
         self.core.sweep(most)
     }

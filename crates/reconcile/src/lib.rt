@@ -21,4 +21,5 @@ mod load;
 pub use ban_journal::LoadError;
 pub use engine::Engine;
 pub use engine_error::EngineError;
+pub use jail_core::Sweep;
 pub use law::engine_law;

@@ -125,7 +125,7 @@ fn sweep_each(
     forgotten: &[u64],
 ) -> Result<(), NoMemory> {
     for count in forgotten {
-        same(rt, &"forgotten", &core.sweep(1), count);
+        same(rt, &"forgotten", &core.sweep(1).forgotten(), count);
         same_of(rt, &"a sweep", core.view(), view)?;
     }
     Ok(())

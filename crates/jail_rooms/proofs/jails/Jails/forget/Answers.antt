@@ -9,7 +9,7 @@ use Rattle.jail_rooms.specs.Stale.{stale_count}
 use Rattle.jail_rooms.specs.declared.jail.Jail.{Jail}
 use Rattle.jail_rooms.proofs.SweepLemmas.{swept_is}
 use Rattle.jail_rooms.proofs.TakeLemmas.{as_a_whole}
-use Rattle.jail_rooms.proofs.jails.Jails.sweep.Goals as goal
+use Rattle.jail_rooms.proofs.jails.Jails.forget.Goals as goal
 
 -- the jails were lent as a slice
 slice : (c : goal.After-self-2-1) → c.as_mut_slice.result.now ≡ c.self.inside.jails.items
