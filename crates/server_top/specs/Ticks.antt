@@ -1,5 +1,5 @@
 -- What a reading of the clock changes of what a run keeps.
-use Rattle.std.specs.Prelude.{◌≡◌, max, min, Option, Some, None, if◌then◌else◌}
+use Rattle.std.specs.Prelude.{ℕ, ◌≡◌, max, min, Option, Some, None, if◌then◌else◌}
 use Rattle.f2b_base.specs.Limits.{latest_reading}
 use Rattle.f2b_base.specs.declared.input.What.{What}
 use Rattle.f2b_base.specs.declared.input.What.TheVariants.{Tick}
@@ -15,6 +15,10 @@ use Rattle.run_steps.specs.declared.running.Running.{Running}
 -- the beginning of a turn
 abbrev pub at_clock : Server → Point
 at_clock s = AtTurn AtClock s
+
+-- of how many addresses a turn forgets the failures of which none matters any more, at most
+abbrev pub forgotten_a_turn : ℕ
+forgotten_a_turn = 10000
 
 -- now never goes back, and a reading above the latest counts as it
 pub record ReadsAt (before : Clocked) (answer : Reading) (after : Clocked) : Type 0 where

@@ -1,12 +1,14 @@
 //! The clock of a turn.
 ghost use Rattle.std.specs.Prelude.{◌≡◌, [], IfErr, IfOk, Some};
+ghost use Rattle.jail_rooms.specs.Memory.{swept};
 ghost use Rattle.run_law.specs.Stages.{Brings, BringFails, HasCause, IsSteady, Moves, MoveFails};
 ghost use Rattle.run_law.specs.Turn.{to_logs};
 ghost use Rattle.run_steps.specs.Keeping.{IsPlacedIn, KeepsRunning, news_of};
-ghost use Rattle.server_top.specs.Ticks.{ReadsAt, ReadsClock, at_clock, tick_of};
+ghost use Rattle.server_top.specs.Ticks.{ReadsAt, ReadsClock, at_clock, forgotten_a_turn, tick_of};
 
 use f2b_base::{LATEST_READING, Reading, What};
 use f2b_world::{Disk, World};
+use reconcile::Sweep;
 use run_law::Status;
 use run_steps::{Clocked, Running, bring};
 use std::alloc::Global;
@@ -15,9 +17,11 @@ use std::alloc::Global;
 const FORGOTTEN_A_TURN: u64 = 10_000;
 
 // Takes over a reading of the clock. Now never goes back, and a reading above the latest counts as it. What no longer matters of
-// failures gives its memory back.
-fn at_reading(clocked: Clocked, reading: Reading) -> Clocked
-    ensures { ReadsAt clocked reading result }
+// failures gives its memory back, and the sweep is handed up: nothing else can make one.
+fn at_reading(clocked: Clocked, reading: Reading) -> (Clocked, Sweep)
+    ensures reads { ReadsAt clocked reading result.0 }
+    ensures before { result.1.before.state ≡ clocked.engine.core.jails }
+    ensures after { result.1.after ≡ swept forgotten_a_turn result.1.before }
 {
     let Clocked {
         engine,
@@ -25,12 +29,13 @@ fn at_reading(clocked: Clocked, reading: Reading) -> Clocked
         word: _,
     } = clocked;
     let mut engine = engine;
-    let _ = engine.sweep(FORGOTTEN_A_TURN);
-    Clocked {
+    let sweep = engine.sweep(FORGOTTEN_A_TURN);
+    let clocked = Clocked {
         engine,
         now: now.max(reading.secs.min(LATEST_READING)),
         word: reading.word,
-    }
+    };
+    (clocked, sweep)
 }
 
 // Reads the clock. The logs, the commands that run, the clients and the turns that are left stay as they are.
@@ -49,8 +54,9 @@ fn read<'f, W: World>(world: &mut W, running: Running<'f>) -> Running<'f>
         clients,
         left,
     } = running;
+    let (clocked, _sweep) = at_reading(clocked, reading);
     Running {
-        clocked: at_reading(clocked, reading),
+        clocked,
         logs,
         children,
         clients,
